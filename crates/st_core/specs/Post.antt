@@ -1,0 +1,34 @@
+-- An event comes from outside.
+use Rattle.std.specs.Prelude.{ℕ, ◌+◌, ◌^◌, Result, Ok, Err, [], ◌∷◌, ◌++◌, nat_lt, if◌then◌else◌}
+use Rattle.st_events.specs.declared.kind.Kind.{Kind}
+use Rattle.st_events.specs.declared.kind.Kind.TheVariants as kind
+use Rattle.st_events.specs.declared.event.Event.{Event}
+use Rattle.st_events.specs.declared.refused.Refused.{Refused}
+use Rattle.st_events.specs.declared.refusal.Refusal.TheVariants.{Exhausted}
+use Rattle.st_core.specs.declared.entry.Entry.{Entry}
+use Rattle.st_core.specs.declared.entry.Entry.TheVariants.{Cast, Info}
+use Rattle.st_core.specs.MachineState.{MachineState}
+
+-- the kind of an event that is posted so
+abbrev pub kind_of : Entry → Kind
+kind_of Cast = kind.Cast
+kind_of Info = kind.Info
+
+module _ {S D C : Type 0} where
+  -- the event that a post makes: it gets the next number
+  abbrev pub posted_event : MachineState S D C → Entry → C → Event C
+  posted_event machine entry content = record { number = machine.next; kind = kind_of entry; content = content }
+
+  -- the event waits behind all others, and its number is taken
+  abbrev pub with_posted : MachineState S D C → Entry → C → MachineState S D C
+  with_posted machine entry content = record machine {
+    pending = machine.pending ++ posted_event machine entry content ∷ [];
+    next = machine.next + 1;
+  }
+
+  -- a post: it answers the event's number, or that no number is left and what it took
+  abbrev pub post_of : MachineState S D C → Entry → C → Result ℕ (Refused C) × MachineState S D C
+  post_of machine entry content =
+      if nat_lt machine.next (2 ^ 63)
+      then (Ok machine.next, with_posted machine entry content)
+      else (Err (record { refusal = Exhausted; value = content }), machine)

@@ -1,0 +1,70 @@
+-- A list of commands, from the machine before it to the machine after it.
+use Rattle.std.specs.Prelude.{◌≡◌, ℕ, ◌⊎◌, Bool, true, false, List, [], ◌∷◌, Result, Ok, Err}
+use Rattle.st_events.specs.declared.refused.Refused.{Refused}
+use Rattle.st_events.specs.declared.refusal.Refusal.{Refusal}
+use Rattle.st_events.specs.declared.refusal.Refusal.TheVariants.{NoMemory}
+use Rattle.st_core.specs.declared.turned.Turned.{Turned}
+use Rattle.st_core.specs.declared.turned.Turned.TheVariants.{Reported, Idle}
+use Rattle.st_core.specs.declared.command.Command.{Command}
+use Rattle.st_core.specs.declared.command.Command.TheVariants as command
+use Rattle.st_core.specs.declared.answer.Answer.{Answer}
+use Rattle.st_core.specs.declared.answer.Answer.TheVariants as answer
+use Rattle.st_core.specs.MachineState.{MachineState}
+use Rattle.st_core.specs.Callbacks.{Callbacks}
+use Rattle.st_core.specs.Transition.{turn_of}
+use Rattle.st_core.specs.Post.{post_of}
+
+-- a turn takes memory where there is an event to handle
+abbrev pub turn_takes_memory : {S : Type 0} → Result (Turned S) Refusal → Bool
+turn_takes_memory (Ok (Reported report)) = true
+turn_takes_memory (Ok Idle) = false
+turn_takes_memory (Err refusal) = false
+
+-- a post takes memory where it is not refused
+abbrev pub post_takes_memory : {C : Type 0} → Result ℕ (Refused C) → Bool
+post_takes_memory (Ok number) = true
+post_takes_memory (Err refused) = false
+
+-- what a post answers that found no memory: the content comes back
+abbrev pub post_without_memory : {C : Type 0} → C → Result ℕ (Refused C)
+post_without_memory content = Err (record { refusal = NoMemory; value = content })
+
+-- what a turn answers that found no memory
+abbrev pub turn_without_memory : {S : Type 0} → Result (Turned S) Refusal
+turn_without_memory = Err NoMemory
+
+module _ {S C : Type 0} where
+  -- whether a command with this answer takes memory
+  abbrev pub takes_memory : Answer S C → Bool
+  takes_memory (answer.Post posted) = post_takes_memory posted
+  takes_memory (answer.Turn turned) = turn_takes_memory turned
+
+  -- what a command answers that found no memory
+  abbrev pub without_memory : Command C → Answer S C
+  without_memory (command.Post entry content) = answer.Post (post_without_memory content)
+  without_memory (command.Turn now) = answer.Turn turn_without_memory
+
+-- the answer and the machine after are those of the definition; or the definition's answer takes
+-- memory, there was none, the answer says so, and the machine is as it was
+abbrev pub Meets : {A T : Type 0} → (A → Bool) → A → A → T → T → A × T → Type 0
+Meets takes_memory without_memory answer old new definition =
+    ((answer ≡ definition.0) × (new ≡ definition.1))
+    ⊎ ((takes_memory definition.0 ≡ true) × (answer ≡ without_memory) × (new ≡ old))
+
+module _ {S D C : Type 0} where
+  -- one command: what it answers, and what it leaves
+  abbrev pub step_of : Callbacks S D C → MachineState S D C → Command C → Answer S C × MachineState S D C
+  step_of callbacks machine (command.Post entry content) =
+      (answer.Post (post_of machine entry content).0, (post_of machine entry content).1)
+  step_of callbacks machine (command.Turn now) =
+      (answer.Turn (turn_of callbacks machine now).0, (turn_of callbacks machine now).1)
+
+  -- these are the answers to these commands, one after another, and this is the machine in the end
+  abbrev pub Runs : Callbacks S D C → MachineState S D C → List (Command C) → List (Answer S C) → MachineState S D C → Type 0
+  Runs callbacks machine [] [] after = after ≡ machine
+  Runs callbacks machine (command ∷ commands) (answer ∷ answers) after =
+      (next : MachineState S D C)
+      × Meets takes_memory (without_memory command) answer machine next (step_of callbacks machine command)
+      × Runs callbacks next commands answers after
+  Runs callbacks machine [] (answer ∷ answers) after = ⊥
+  Runs callbacks machine (command ∷ commands) [] after = ⊥

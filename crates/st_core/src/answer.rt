@@ -1,0 +1,11 @@
+//! What a command is answered.
+
+use crate::Turned;
+use st_events::{Refusal, Refused};
+
+/// The answer to one command of a run: what the call itself answers.
+#[derive(Debug, Drop)]
+pub enum Answer<S, C> {
+    Post(Result<u64, Refused<C>>),
+    Turn(Result<Turned<S>, Refusal>),
+}

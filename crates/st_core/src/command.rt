@@ -1,0 +1,10 @@
+//! What a machine can be told.
+
+use crate::Entry;
+
+/// One command of a run: a call of the machine with what it takes. A moment is in milliseconds.
+#[derive(Debug, Drop)]
+pub enum Command<C> {
+    Post(Entry, C),
+    Turn(u64),
+}

@@ -1,0 +1,94 @@
+//! One machine.
+ghost use Rattle.std.specs.Prelude.{◌≡◌, ◌<◌, ◌^◌};
+ghost use Rattle.st_core.specs.Choice.{is_ready_of, waiting_of};
+
+use st_events::{Event, MachineId, Module};
+use st_queue::EventQueue;
+use std::alloc::Global;
+use std::marker::Model;
+
+/// The first moment that is refused, in milliseconds, and the first number that no event gets.
+pub(crate) const LIMIT: u64 = 1 << 63;
+
+/// One machine: a callback module with its state, its data and the events that wait.
+///
+/// Contracts see the module and the machine state, a plain value with a list of events.
+///
+/// Manual: the introduction, on the state, the data and the event queue.
+#[derive(Drop)]
+pub struct Core<M: Module> {
+    pub(crate) alloc: Global,
+    pub(crate) module: M,
+    pub(crate) id: MachineId,
+    pub(crate) state: M::State,
+    pub(crate) data: M::Data,
+    pub(crate) queue: EventQueue<Event<M::Content>>,
+    pub(crate) latest: u64,
+    pub(crate) next: u64,
+}
+
+impl<M: Module> Model for Core<M> {
+    ghost use Rattle.std.specs.Prelude.{◌≡◌, ◌≤◌, ◌<◌, ◌^◌};
+    ghost use Rattle.st_core.specs.MachineState.{Machine};
+
+    ghost Value = { Machine M M.State M.Data M.Content };
+
+    ghost view = { λ core. record {
+      module_ = core.module;
+      machine = record {
+        id = core.id;
+        state = core.state;
+        «data» = core.data;
+        pending = core.queue.items;
+        latest = core.latest;
+        next = core.next;
+      };
+    } };
+
+    ghost invariant = { λ core. (core.next ≤ 2 ^ 63) × (core.latest < 2 ^ 63) × (core.queue.cursor ≡ 0) };
+}
+
+impl<M: Module> Core<M> {
+    /// Says whether there is an event that a turn would handle.
+    pub fn is_ready(&self) -> bool
+        ensures { result ≡ is_ready_of self.now.machine }
+    {
+        self.queue.peek().is_some()
+    }
+
+    /// The machine's id.
+    pub fn id(&self) -> MachineId
+        ensures { result ≡ self.now.machine.id }
+    {
+        self.id
+    }
+
+    /// The state.
+    pub fn state(&self) -> M::State
+        ensures { result ≡ self.now.machine.state }
+    {
+        self.state
+    }
+
+    /// The data.
+    pub fn data(&self) -> &M::Data
+        ensures { result.now ≡ self.now.machine.data }
+    {
+        &self.data
+    }
+
+    /// The latest moment that the machine has seen, in milliseconds.
+    pub fn latest(&self) -> u64
+        ensures latest { result ≡ self.now.machine.latest }
+        ensures within { result < 2 ^ 63 }
+    {
+        self.latest
+    }
+
+    /// How many accepted events are not finished.
+    pub fn waiting(&self) -> usize
+        ensures { result ≡ waiting_of self.now.machine }
+    {
+        self.queue.len()
+    }
+}

@@ -1,0 +1,10 @@
+//! How an event comes from outside.
+
+/// The way in which an event is posted.
+///
+/// Manual: `cast/2`, and messages from elsewhere, which are `info`.
+#[derive(Clone, Copy, Debug, PartialEq, Eq)]
+pub enum Entry {
+    Cast,
+    Info,
+}

@@ -1,0 +1,28 @@
+//! One machine as a sequential object: each call is one step of the manual.
+//! It knows nothing of locks, threads, names, other machines.
+#![tactic(auto)]
+
+mod answer;
+mod call;
+mod command;
+mod done;
+mod engine;
+mod entry;
+mod post;
+mod report;
+mod run;
+mod start;
+#[cfg(test)]
+mod tests;
+mod turn;
+mod turned;
+
+pub use answer::Answer;
+pub use call::Call;
+pub use command::Command;
+pub use done::Done;
+pub use engine::Core;
+pub use entry::Entry;
+pub use report::Report;
+pub use start::Start;
+pub use turned::Turned;

@@ -1,0 +1,25 @@
+//! What a start or a turn did.
+
+use crate::{Call, Done};
+use st_events::{PlainList, Tag, Time, Timer};
+
+/// What a start or a turn did.
+#[derive(Debug, Drop)]
+pub struct Report<S> {
+    /// The number of the event that was handled; a start has none.
+    pub event: Option<u64>,
+    /// How it ended.
+    pub done: Done,
+    /// The callbacks that were made, in order.
+    pub calls: PlainList<Call<S>>,
+    /// The state before it; of a start the one that `init` answered.
+    pub before: S,
+    /// The state after it.
+    pub after: S,
+    /// The requests whose reply was taken, in order.
+    pub replied: PlainList<Tag>,
+    /// The numbers of the events that were inserted, in order.
+    pub inserted: PlainList<u64>,
+    /// The timers that were set or stopped, each by its last request, in the order of these.
+    pub set: PlainList<(Timer, Time)>,
+}

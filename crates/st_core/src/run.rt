@@ -1,0 +1,46 @@
+//! A list of commands, one after another.
+ghost use Rattle.std.specs.Prelude.{◌≡◌, IfOk, IfErr};
+ghost use Rattle.st_core.specs.Callbacks.{callbacks_of};
+ghost use Rattle.st_core.specs.Run.{step_of, takes_memory, without_memory, Meets, Runs};
+
+use crate::{Answer, Command, Core};
+use st_events::Module;
+
+impl<M: Module> Core<M> {
+    /// Does one command.
+    fn step(&mut self, command: Command<M::Content>) -> Answer<M::State, M::Content>
+        ensures step { Meets takes_memory (without_memory command) result self.old.machine self.new.machine (step_of (callbacks_of M.Module self.old.module_) self.old.machine command) }
+        ensures unchanged_module { self.new.module_ ≡ self.old.module_ }
+    {
+        match command {
+            Command::Post(entry, content) => Answer::Post(self.post(entry, content)),
+            Command::Turn(now) => Answer::Turn(self.turn(now)),
+        }
+    }
+
+    /// Does commands in order, and answers their answers. A command that is refused stands among them
+    /// with its refusal.
+    ///
+    /// Where there is no memory for the answers, nothing is done and the commands come back.
+    ///
+    /// Ours: docs/DECISIONS.md, Runs.
+    pub fn run(
+        &mut self,
+        commands: Vec<Command<M::Content>>,
+    ) -> Result<Vec<Answer<M::State, M::Content>>, Vec<Command<M::Content>>>
+        ensures run { IfOk result (λ answers. Runs (callbacks_of M.Module self.old.module_) self.old.machine commands.items answers.items self.new.machine) }
+        ensures unchanged_module { self.new.module_ ≡ self.old.module_ }
+
+        ensures unchanged { IfErr result (λ back. (back ≡ commands) × (self.new ≡ self.old)) }
+    {
+        let mut answers = match Vec::with_capacity(self.alloc, commands.len()) {
+            Ok(answers) => answers,
+            Err(_) => return Err(commands),
+        };
+        for command in commands {
+            let answer = self.step(command);
+            answers.push_reserved(answer);
+        }
+        Ok(answers)
+    }
+}

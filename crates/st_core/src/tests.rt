@@ -1,0 +1,18 @@
+//! Machines of two modules, told commands with memory and while an allocation is refused.
+
+mod answers;
+mod lamp;
+mod runs;
+mod starts;
+mod table;
+mod tested;
+
+/// Says so where no allocation of this test was refused: then one of those that follow is.
+fn tell_refusals(rt: HostRuntime) {
+    for _ in 0..10_000 {
+        if Box::new(rt.alloc(), 'x').is_err() {
+            let _ = println!(rt; "nothing was refused");
+            return;
+        }
+    }
+}

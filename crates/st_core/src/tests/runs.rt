@@ -1,0 +1,246 @@
+//! Runs of one machine: the same commands by single calls, and by one run.
+use super::answers::{
+    finished, found_no_memory, idle, not_posted, not_turned, posted, same_answer,
+};
+use super::lamp::{Bulb, Lamp, Light, Press};
+use super::table::Table;
+use super::tell_refusals;
+use super::tested::{Begin, Seen, Tested, Told, without_memory};
+use crate::{Answer, Entry};
+use st_events::{Kind, Module, Refusal};
+use std::alloc::Global;
+use std::fmt::Debug;
+use std::process::Abort;
+
+/// Looks at the answers to commands, and at what they leave.
+fn answers_are<M: Module + Copy + Eq + Debug>(
+    rt: &impl Abort,
+    alloc: Global,
+    begin: &Begin<M, M::Arg>,
+    told: &[Told<M::Content>],
+    wanted: &[Answer<M::State, M::Content>],
+    end: &Seen<M::State, M::Data>,
+)
+where
+    M::State: Debug,
+    M::Data: Copy + Eq + Debug,
+    M::Content: Copy + Eq + Debug,
+{
+    let mut single = Tested::new(rt, alloc, begin);
+    assert_eq!(rt; told.len(), wanted.len());
+    for (one, wanted) in told.iter().zip(wanted.iter()) {
+        same_answer(rt, &single.tell(rt, *one), wanted);
+    }
+    assert_eq!(rt; single.seen(), *end);
+    for _ in 0..2 {
+        let mut at_once = Tested::new(rt, alloc, begin);
+        let answers = at_once.run(rt, alloc, told);
+        if answers.iter().any(found_no_memory) {
+            // As by single calls without the command that found no memory.
+            let mut without = Tested::new(rt, alloc, begin);
+            for (one, answer) in told.iter().zip(answers.iter()) {
+                if found_no_memory(answer) {
+                    same_answer(rt, answer, &without_memory(*one));
+                } else {
+                    same_answer(rt, answer, &without.tell(rt, *one));
+                }
+            }
+            assert_eq!(rt; at_once.seen(), without.seen());
+        } else {
+            assert_eq!(rt; answers.len(), wanted.len());
+            for (answer, wanted) in answers.iter().zip(wanted.iter()) {
+                same_answer(rt, answer, wanted);
+            }
+            assert_eq!(rt; at_once.seen(), *end);
+            return;
+        }
+    }
+    panic!(rt; "one allocation alone is refused");
+}
+
+fn cast(content: u64) -> Told<u64> {
+    Told::Post(Entry::Cast, content)
+}
+
+fn info(content: u64) -> Told<u64> {
+    Told::Post(Entry::Info, content)
+}
+
+/// A table's machine at the moment 0.
+const BEGIN: Begin<Table, u32> = Begin {
+    module: Table { number: 50 },
+    arg: 0,
+    now: 0,
+    first: None,
+};
+
+/// What can be read of a table's machine with nothing pending.
+fn at_rest(state: u32, held: u64, latest: u64) -> Seen<u32, u64> {
+    Seen {
+        is_ready: false,
+        state,
+        held,
+        latest,
+        waiting: 0,
+    }
+}
+
+#[test]
+fn casts_come_in_order(rt: HostRuntime) {
+    let told = [
+        cast(3),
+        cast(5),
+        Told::Turn(20),
+        Told::Turn(10),
+        Told::Turn(30),
+    ];
+    let wanted = [
+        posted(1),
+        posted(2),
+        finished(&rt, rt.alloc(), 1, Kind::Cast, 0, 1),
+        finished(&rt, rt.alloc(), 2, Kind::Cast, 1, 1),
+        idle(),
+    ];
+    answers_are(&rt, rt.alloc(), &BEGIN, &told, &wanted, &at_rest(1, 7, 30));
+    tell_refusals(rt);
+}
+
+#[test]
+fn an_info_comes_as_info(rt: HostRuntime) {
+    let told = [info(5), cast(4), Told::Turn(0), Told::Turn(0)];
+    let wanted = [
+        posted(1),
+        posted(2),
+        finished(&rt, rt.alloc(), 1, Kind::Info, 0, 0),
+        finished(&rt, rt.alloc(), 2, Kind::Cast, 0, 0),
+    ];
+    answers_are(&rt, rt.alloc(), &BEGIN, &told, &wanted, &at_rest(0, 9, 0));
+    tell_refusals(rt);
+}
+
+#[test]
+fn the_last_number_is_given_once(rt: HostRuntime) {
+    let told = [cast(5), cast(6), Told::Turn(0), Told::Turn(0)];
+    let wanted = [
+        posted(9_223_372_036_854_775_807),
+        not_posted(Refusal::Exhausted, 6),
+        finished(&rt, rt.alloc(), 9_223_372_036_854_775_807, Kind::Cast, 0, 0),
+        idle(),
+    ];
+    let begin = Begin {
+        first: Some(9_223_372_036_854_775_807),
+        ..BEGIN
+    };
+    answers_are(&rt, rt.alloc(), &begin, &told, &wanted, &at_rest(0, 7, 0));
+    tell_refusals(rt);
+}
+
+#[test]
+fn moments_end(rt: HostRuntime) {
+    let told = [
+        Told::Turn(9_223_372_036_854_775_808),
+        cast(3),
+        Told::Turn(9_223_372_036_854_775_808),
+        Told::Turn(9_223_372_036_854_775_807),
+    ];
+    let wanted = [
+        not_turned(Refusal::Moment),
+        posted(1),
+        not_turned(Refusal::Moment),
+        finished(&rt, rt.alloc(), 1, Kind::Cast, 0, 1),
+    ];
+    let end = at_rest(1, 7, 9_223_372_036_854_775_807);
+    answers_are(&rt, rt.alloc(), &BEGIN, &told, &wanted, &end);
+    tell_refusals(rt);
+}
+
+#[test]
+fn a_lamp_is_switched_until_its_bulb_is_spent(rt: HostRuntime) {
+    let switch = Told::Post(Entry::Cast, Press::Switch);
+    let told = [
+        switch,
+        switch,
+        switch,
+        Told::Post(Entry::Info, Press::Renew(Bulb { left: 6 })),
+        Told::Turn(1),
+        Told::Turn(2),
+        Told::Turn(3),
+        Told::Turn(4),
+        switch,
+    ];
+    let wanted = [
+        posted(1),
+        posted(2),
+        posted(3),
+        posted(4),
+        finished(&rt, rt.alloc(), 1, Kind::Cast, Light::Off, Light::On),
+        finished(&rt, rt.alloc(), 2, Kind::Cast, Light::On, Light::Off),
+        finished(&rt, rt.alloc(), 3, Kind::Cast, Light::Off, Light::Off),
+        finished(&rt, rt.alloc(), 4, Kind::Info, Light::Off, Light::Off),
+        posted(5),
+    ];
+    let begin = Begin {
+        module: Lamp,
+        arg: Bulb { left: 2 },
+        now: 0,
+        first: None,
+    };
+    let end = Seen {
+        is_ready: true,
+        state: Light::Off,
+        held: Bulb { left: 6 },
+        latest: 4,
+        waiting: 1,
+    };
+    answers_are(&rt, rt.alloc(), &begin, &told, &wanted, &end);
+    tell_refusals(rt);
+}
+
+/// Each call that takes memory, and among them those that take none: an idle turn, and a post for
+/// which no number is left.
+#[test]
+fn refused_memory_changes_nothing(rt: HostRuntime) {
+    let begin = Begin {
+        arg: 2,
+        now: 12,
+        ..BEGIN
+    };
+    let tested = Tested::new(&rt, rt.alloc(), &begin);
+    assert_eq!(rt; tested.seen(), at_rest(0, 7, 12));
+    let begin = Begin {
+        first: Some(9_223_372_036_854_775_803),
+        ..begin
+    };
+    let told = [
+        Told::Turn(12),
+        cast(6),
+        info(3),
+        cast(4),
+        cast(5),
+        cast(0),
+        cast(8),
+        Told::Turn(20),
+        Told::Turn(20),
+        Told::Turn(21),
+        Told::Turn(21),
+        Told::Turn(22),
+        Told::Turn(23),
+    ];
+    let wanted = [
+        idle(),
+        posted(9_223_372_036_854_775_803),
+        posted(9_223_372_036_854_775_804),
+        posted(9_223_372_036_854_775_805),
+        posted(9_223_372_036_854_775_806),
+        posted(9_223_372_036_854_775_807),
+        not_posted(Refusal::Exhausted, 8),
+        finished(&rt, rt.alloc(), 9_223_372_036_854_775_803, Kind::Cast, 0, 0),
+        finished(&rt, rt.alloc(), 9_223_372_036_854_775_804, Kind::Info, 0, 1),
+        finished(&rt, rt.alloc(), 9_223_372_036_854_775_805, Kind::Cast, 1, 1),
+        finished(&rt, rt.alloc(), 9_223_372_036_854_775_806, Kind::Cast, 1, 1),
+        finished(&rt, rt.alloc(), 9_223_372_036_854_775_807, Kind::Cast, 1, 1),
+        idle(),
+    ];
+    answers_are(&rt, rt.alloc(), &begin, &told, &wanted, &at_rest(1, 9, 23));
+    tell_refusals(rt);
+}

@@ -1,0 +1,56 @@
+//! What comes of a start, and copies by a module.
+use super::lamp::{Bulb, Lamp, Press};
+use super::table::Table;
+use super::tell_refusals;
+use super::tested::{Begin, start};
+use crate::Start;
+use st_events::{Module, Refusal};
+
+#[test]
+fn a_start_is_ignored_stopped_or_refused(rt: HostRuntime) {
+    let module = Table { number: 50 };
+    for first in [None, Some(7)] {
+        let begin = Begin {
+            module,
+            arg: 1,
+            now: 0,
+            first,
+        };
+        assert!(rt; matches!(start(&rt, rt.alloc(), &begin), Ok(Start::Ignored)));
+        let begin = Begin {
+            arg: 4,
+            now: 9_223_372_036_854_775_807,
+            ..begin
+        };
+        assert!(rt; matches!(start(&rt, rt.alloc(), &begin), Ok(Start::Stopped(4))));
+        for arg in [0, 4] {
+            let begin = Begin {
+                arg,
+                now: 9_223_372_036_854_775_808,
+                ..begin
+            };
+            match start(&rt, rt.alloc(), &begin) {
+                Err(refused) => {
+                    assert_eq!(rt; refused.refusal, Refusal::Moment);
+                    assert_eq!(rt; refused.value, module);
+                }
+                Ok(_) => panic!(rt; "a start at a moment out of range"),
+            }
+        }
+    }
+    tell_refusals(rt);
+}
+
+#[test]
+fn copies_are_equal(rt: HostRuntime) {
+    let table = Table { number: 50 };
+    assert_eq!(rt; table.copy_content(rt.alloc(), &3), Ok(3));
+    assert_eq!(rt; table.copy_data(rt.alloc(), &7), Ok(7));
+    let bulb = Bulb { left: 2 };
+    assert_eq!(rt;
+        Lamp.copy_content(rt.alloc(), &Press::Renew(bulb)),
+        Ok(Press::Renew(bulb))
+    );
+    assert_eq!(rt; Lamp.copy_data(rt.alloc(), &bulb), Ok(bulb));
+    tell_refusals(rt);
+}

@@ -1,0 +1,9 @@
+pub mod PieceLemmas
+pub mod StreamLemmas
+pub mod WordLemmas
+pub mod DoorLemmas
+pub mod PrintingLemmas
+pub mod ScriptStateLemmas
+pub mod SettlingLemmas
+pub mod ScriptLemmas
+pub mod WorkedScripts

@@ -1,0 +1,51 @@
+-- How the lines that are done and those that are left make up a script.
+use Rattle.std.proofs.Common.{◌≡◌, ℕ, ◌<◌, ◌+◌, Bool, ◌||◌, List, ◌∷◌, ◌++◌, length, get_or, drop, map, Option, Bor, refl, sym, ap, ◌∙◌, append_assoc, add-one, drop-cons}
+use Rattle.std.proofs.Math.Bool.{or_assoc}
+use Rattle.std.specs.Io.KnownBytes.{Appends}
+use Rattle.st_door.specs.Grammar.{line_of}
+use Rattle.st_door.specs.Lines.{without_return}
+use Rattle.st_door.specs.Script.{ScriptState, step_of, printed_of, is_fault, output_from, faulty_from}
+use Rattle.st_door.specs.Streams.{AppendsFront}
+use Rattle.st_door.proofs.StreamLemmas.{appends_more}
+
+-- the lines that are left, from a place on
+abbrev pub lines_left : List (Bor (List ℕ)) → ℕ → List (List ℕ)
+lines_left pieces place = map without_return (map (λ piece. piece.now) (drop place pieces))
+
+-- the line at a place is the first one that is left
+pub lines_left-cons : (pieces : List (Bor (List ℕ))) (place : ℕ) (d : Bor (List ℕ)) → place < length pieces
+    → lines_left pieces place ≡ without_return (get_or pieces place d).now ∷ lines_left pieces (place + 1)
+lines_left-cons pieces place d in_range = rw (drop-cons pieces place d, add-one) refl
+
+-- the output grows by what one line prints
+pub output_step : (written text : List ℕ) (number : ℕ) (script next : ScriptState) (bytes : List ℕ) (here more : List (List ℕ)) (all : List ℕ)
+    → here ≡ bytes ∷ more
+    → text ≡ printed_of number (step_of script (line_of bytes)).0
+    → next ≡ (step_of script (line_of bytes)).1
+    → written ++ output_from number script here ≡ all
+    → (written ++ text) ++ output_from (number + 1) next more ≡ all
+output_step written text number script next bytes here more all is_here is_text is_next whole =
+    rw (is_text, is_next, append_assoc) (rw is_here at whole)
+
+-- one line more is looked at for a fault
+pub faulty_step : (before now : Bool) (script next : ScriptState) (bytes : List ℕ) (here more : List (List ℕ)) (all : Bool)
+    → here ≡ bytes ∷ more
+    → now ≡ (before || is_fault (step_of script (line_of bytes)).0)
+    → next ≡ (step_of script (line_of bytes)).1
+    → (before || faulty_from script here) ≡ all
+    → (now || faulty_from next more) ≡ all
+faulty_step before now script next bytes here more all is_here is_now is_next whole =
+    rw (is_now, is_next, or_assoc) (rw is_here at whole)
+
+-- a write that stops within a line has written a front of the output
+pub front_more : (old mid new : Option (List ℕ)) (written text rest all : List ℕ)
+    → Appends old mid written
+    → AppendsFront mid new text
+    → (written ++ text) ++ rest ≡ all
+    → AppendsFront old new all
+front_more old mid new written text rest all appended front whole = (
+  written ++ front.0,
+  front.1 ++ rest,
+  sym whole ∙ (ap (λ t. (written ++ t) ++ rest) front.2 ∙ (ap (λ t. t ++ rest) (sym (append_assoc written front.0 front.1)) ∙ append_assoc (written ++ front.0) front.1 rest)),
+  appends_more old mid new written front.0 appended front.3,
+)

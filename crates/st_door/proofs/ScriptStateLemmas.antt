@@ -1,0 +1,270 @@
+-- What a script keeps of its doors, and what a line makes of them.
+use Rattle.std.proofs.Common.{◌≡◌, ℕ, zero, suc, ◌+◌, ◌<◌, ◌≤◌, ◌^◌, ◌≢◌, nat_eq, Bool, true, false, nat_lt, List, [], ◌∷◌, ◌++◌, length, get_or, set, Some, None, Ok, refl, ap, sym, ◌∙◌, arith, inl, inr, bytes_eq, length-append, lt-ltb}
+use Rattle.std.specs.List.{list_any, find}
+use Rattle.std.proofs.lemmas.Bool.{cases_Bool, cases_lt}
+use Rattle.std.proofs.lemmas.Bool.Decides.{eqb_tells}
+use Rattle.std.proofs.lemmas.List.{set-get_or, length-set, map-append, get_or-set_other, get_or_append_left}
+use Rattle.std.proofs.Math.Seq.{get_or-append_seam}
+use Rattle.std.proofs.lemmas.Slice.Eq.{bytes_eq-Decides}
+use Rattle.st_events.specs.declared.refusal.Refusal.{Refusal}
+use Rattle.st_events.specs.declared.refusal.Refusal.TheVariants.{AlreadyStarted}
+use Rattle.st_core.specs.declared.entry.Entry.TheVariants.{Cast}
+use Rattle.st_core.specs.Post.{post_of}
+use Rattle.st_core.specs.Start.{first_state, start_of}
+use Rattle.st_core.specs.Choice.{is_ready_of}
+use Rattle.st_core.specs.declared.report.Report.{Report}
+use Rattle.st_core.specs.declared.start.Start.TheVariants.{Running}
+use Rattle.st_events.specs.declared.machine_id.MachineId.{MachineId}
+use Rattle.st_door.specs.Door.{init_of}
+use Rattle.st_door.specs.Entries.{DoorCore}
+use Rattle.st_door.specs.declared.door_state.DoorState.{DoorState}
+use Rattle.st_door.specs.declared.door_content.DoorContent.TheVariants.{Button}
+use Rattle.st_door.specs.declared.door_state.DoorState.TheVariants.{Locked}
+use Rattle.st_door.specs.declared.line.Line.TheVariants as line
+use Rattle.st_door.specs.declared.reply.Reply.{Reply}
+use Rattle.st_door.specs.declared.reply.Reply.TheVariants.{Printed, Refuses}
+use Rattle.st_door.specs.Doors.{NamedDoor, DoorMachine, IsFirst, IsKept, RestsOutside, SameLabels, door_limit, door_named, door_of, has_name, is_ready_door, names_of, slots_of, least_from, free_slot_of, press_of, pressed_door, refusal_of, upward}
+use Rattle.st_door.specs.Printing.{status_of}
+use Rattle.st_door.specs.Script.{ScriptState, door_start_of, next_id_of, the_door, named_status_of, rested_of, step_of, with_start}
+use Rattle.st_door.proofs.DoorLemmas.{IsFirst-within, IsFirst-changed, IsFirst-found, IsFirst-map, IsFirst-of_map}
+use Rattle.st_door.proofs.SettlingLemmas.{no_door, labels-set, labels-more}
+
+-- ---- the least free place
+any-upward : (more first slot : ℕ) → first ≤ slot → slot < first + more → list_any (λ taken. nat_eq taken slot) (upward first more) ≡ true
+any-upward zero first slot low high = absurd (omega arith)
+any-upward (suc more) first slot low high = elim (eqb_tells first slot) [
+  | inl same ↦ rw same.0 refl
+  | inr other ↦
+      let ne : first ≢ slot = other.1 in
+      rw other.0 (any-upward more (first + 1) slot (omega arith) (omega arith))
+]
+
+least-upward : (more slot n : ℕ) → slot + more ≡ n → least_from more slot (upward 0 n) ≡ n
+least-upward zero slot n same = omega arith
+least-upward (suc more) slot n same =
+    rw (any-upward n 0 slot (omega arith) (omega arith)) (least-upward more (slot + 1) n (omega arith))
+
+-- where each door has its place in the list, the least free place is behind them
+pub free-slot : (doors : List NamedDoor) → slots_of doors ≡ upward 0 (length doors) → free_slot_of doors ≡ length doors
+free-slot doors numbered = rw numbered (least-upward (length doors) 0 (length doors) (omega arith))
+
+upward-more : (more first last : ℕ) → last ≡ first + more → upward first more ++ last ∷ [] ≡ upward first (suc more)
+upward-more zero first last same = let here : last ≡ first = omega arith in ap (λ (n : ℕ). n ∷ []) here
+upward-more (suc more) first last same = ap (λ (t : List ℕ). first ∷ t) (upward-more more (first + 1) last (omega arith))
+
+-- ---- what is kept of the doors
+length-names : (doors : List NamedDoor) → length (names_of doors) ≡ length doors
+length-names [] = refl
+length-names (door ∷ doors) = ap suc (length-names doors)
+
+pub length-labels : (old new : List NamedDoor) → SameLabels old new → length new ≡ length old
+length-labels old new same =
+    sym (length-names new) ∙ (ap length same.names ∙ length-names old)
+
+pub kept-empty : IsKept [] 0 0
+kept-empty = record { ordered = omega arith; within = omega arith; few = omega arith; numbered = refl; resting = λ k d less outside. absurd (omega arith) }
+
+-- a door that rests goes to the end
+pub kept-pushed : (doors : List NamedDoor) (from until : ℕ) (door : NamedDoor) → IsKept doors from until
+    → length doors < door_limit → door.machine.id.slot ≡ length doors → is_ready_door door ≡ false → IsKept (doors ++ door ∷ []) from until
+kept-pushed doors from until door kept room slot rests = record {
+  ordered = kept.ordered;
+  within = rw length-append (omega (arith, kept.within));
+  few = rw length-append (omega arith);
+  numbered = slots-pushed ∙ ap (upward 0) longer;
+  resting = λ k d less outside. elim (cases_lt k (length doors)) [
+    | inl before ↦ rw get_or_append_left (kept.resting k d before outside)
+    | inr after ↦
+        let here : k ≡ length doors = omega (arith, less, length-append doors (door ∷ [])) in
+        rw (here, get_or-append_seam) rests
+  ];
+}
+  where
+    longer : suc (length doors) ≡ length (doors ++ door ∷ [])
+    longer = rw length-append (omega arith)
+
+    slots-pushed : slots_of (doors ++ door ∷ []) ≡ upward 0 (suc (length doors))
+    slots-pushed = map-append (λ (d : NamedDoor). d.machine.id.slot) doors (door ∷ [])
+        ∙ (ap (λ (t : List ℕ). t ++ door.machine.id.slot ∷ []) kept.numbered ∙ upward-more (length doors) 0 door.machine.id.slot (omega (arith, slot)))
+
+-- a door gets another machine of the same id, and may be ready
+pub kept-set : (doors : List NamedDoor) (from until place low high : ℕ) (machine : DoorMachine) → IsKept doors from until → place < length doors
+    → machine.id ≡ (get_or doors place no_door).machine.id
+    → low ≤ place → place < high → high ≤ length doors → (from < until → (low ≤ from) × (until ≤ high))
+    → IsKept (set doors place (door_named (get_or doors place no_door).name machine)) low high
+kept-set doors from until place low high machine kept within same below above bounded wider = record {
+  ordered = omega arith;
+  within = rw length-set bounded;
+  few = rw length-set kept.few;
+  numbered = (labels-set doors place no_door machine within same).slots ∙ (kept.numbered ∙ ap (upward 0) (sym (length-set doors place _)));
+  resting = λ k d less outside.
+      let other : k ≢ place = elim outside [ inl before ↦ omega arith | inr after ↦ omega arith ] in
+      let there : k < length doors = omega (arith, less, length-set {A = NamedDoor}) in
+      rw get_or-set_other (kept.resting k d there (elim (cases_lt from until) [
+        | inl some ↦ let w : (low ≤ from) × (until ≤ high) = wider some in elim outside [ inl before ↦ inl (omega arith) | inr after ↦ inr (omega arith) ]
+        | inr none ↦ elim (cases_lt k from) [ inl before ↦ inl before | inr after ↦ inr (omega arith) ]
+      ]));
+}
+
+-- the doors had turns
+pub kept-labels : (old new : List NamedDoor) (from until first : ℕ) → IsKept old from until → SameLabels old new → first ≤ until → RestsOutside first until new → IsKept new first until
+kept-labels old new from until first kept same less rests =
+    let long : length new ≡ length old = length-labels old new same in
+    record {
+      ordered = less;
+      within = rw long kept.within;
+      few = rw long kept.few;
+      numbered = same.slots ∙ (kept.numbered ∙ ap (upward 0) (sym long));
+      resting = rests;
+    }
+
+-- ---- the place of a name
+-- the place is found by the names alone
+pub IsFirst-labels : (name : List ℕ) (old new : List NamedDoor) (place : ℕ) → SameLabels old new → IsFirst (has_name name) old place → IsFirst (has_name name) new place
+IsFirst-labels name old new place same first =
+    let name_of : NamedDoor → List ℕ = λ (door : NamedDoor). door.name in
+    IsFirst-of_map (λ (door : NamedDoor). door.name) (bytes_eq name) new place
+    (rw same.names (IsFirst-map (λ (door : NamedDoor). door.name) (bytes_eq name) old place first))
+
+pub IsFirst-last : {X : Type 0} (test : X → Bool) (xs : List X) (x : X) → find test xs ≡ None → test x ≡ true → IsFirst test (xs ++ x ∷ []) (length xs)
+IsFirst-last test [] x none passes = passes
+IsFirst-last test (y ∷ ys) x none passes = elim (cases_Bool (test y)) [
+  | inl found ↦ let some = rw found at none in cc
+  | inr fails ↦ let rest = rw fails at none in (fails, IsFirst-last test ys x rest passes)
+]
+
+-- the status of a name is that of the door at its place
+pub named-status : (name : List ℕ) (script : ScriptState) (place : ℕ) (d : NamedDoor) → IsFirst (has_name name) script.doors place
+    → named_status_of script name ≡ status_of (get_or script.doors place d)
+named-status name script place d first = rw (IsFirst-found (has_name name) script.doors place d first) refl
+
+-- ---- buttons
+-- a refused post leaves the door as it was
+pressed-refused : (digit : ℕ) (door : NamedDoor) (refusal : Refusal) → refusal_of (press_of digit door).0 ≡ Some refusal → pressed_door digit door ≡ door
+pressed-refused digit door refusal refused = elim (cases_Bool (nat_lt door.machine.next (2 ^ 63))) [
+  | inl room ↦ let none = rw room at refused in cc
+  | inr full ↦ rw full refl
+]
+
+pub button-refused : (script : ScriptState) (name : List ℕ) (digit place : ℕ) (refusal : Refusal) → IsFirst (has_name name) script.doors place
+    → Some refusal ≡ refusal_of (press_of digit (get_or script.doors place no_door)).0
+    → step_of script (line.Button name digit) ≡ (Refuses refusal, script)
+button-refused script name digit place refusal first refused =
+    rw (IsFirst-found (has_name name) script.doors place no_door first, ← refused) refl
+
+pub button-refused_doors : (doors : List NamedDoor) (digit place : ℕ) (refusal : Refusal)
+    → Some refusal ≡ refusal_of (press_of digit (get_or doors place no_door)).0
+    → set doors place (pressed_door digit (get_or doors place no_door)) ≡ doors
+button-refused_doors doors digit place refusal refused =
+    ap (set doors place) (pressed-refused digit (get_or doors place no_door) refusal (sym refused)) ∙ set-get_or doors place no_door
+
+-- the script with a button pressed at a place
+abbrev pub pressed_script : ScriptState → ℕ → ℕ → ScriptState
+pressed_script script digit place = record script { doors = set script.doors place (pressed_door digit (get_or script.doors place no_door)) }
+
+pub button-done : (script : ScriptState) (name : List ℕ) (digit place : ℕ) → IsFirst (has_name name) script.doors place
+    → None ≡ refusal_of (press_of digit (get_or script.doors place no_door)).0
+    → step_of script (line.Button name digit)
+    ≡ (Printed (named_status_of (rested_of (pressed_script script digit place)) name), rested_of (pressed_script script digit place))
+button-done script name digit place first accepted =
+    let machine = (press_of digit (get_or script.doors place no_door)).1 in
+    rw (
+      IsFirst-found (has_name name) script.doors place no_door first,
+      ← accepted,
+      IsFirst-changed (has_name name) (λ (door : NamedDoor). door_named door.name machine) script.doors place no_door first,
+    ) refl
+
+-- a post keeps the machine's id
+pub id-post : (machine : DoorMachine) (digit : ℕ) → (post_of machine Cast (Button digit)).1.id ≡ machine.id
+id-post machine digit = elim (cases_Bool (nat_lt machine.next (2 ^ 63))) [
+  | inl room ↦ rw room refl
+  | inr full ↦ rw full refl
+]
+
+-- ---- shows
+pub show-done : (script : ScriptState) (name : List ℕ) (place : ℕ) → IsFirst (has_name name) script.doors place
+    → step_of script (line.Show name) ≡ (Printed (named_status_of (rested_of script) name), rested_of script)
+show-done script name place first = rw (IsFirst-found (has_name name) script.doors place no_door first) refl
+
+-- ---- starts
+pub new-taken : (script : ScriptState) (name code : List ℕ) (place : ℕ) → IsFirst (has_name name) script.doors place
+    → step_of script (line.New name code) ≡ (Refuses (AlreadyStarted (get_or script.doors place no_door).machine.id), script)
+new-taken script name code place first = rw (IsFirst-found (has_name name) script.doors place no_door first) refl
+
+pub new-done : (script acted : ScriptState) (name code : List ℕ) → door_of name script.doors ≡ None → length script.doors < door_limit
+    → with_start script name (door_start_of script code) ≡ Ok acted
+    → step_of script (line.New name code) ≡ (Printed (named_status_of (rested_of acted) name), rested_of acted)
+new-done script acted name code free room started = rw (free, lt-ltb _ _ room, started) refl
+
+-- a door that has started stands behind the others, under its name, and rests
+pub new-place : (script acted : ScriptState) (name code : List ℕ) → door_of name script.doors ≡ None
+    → with_start script name (door_start_of script code) ≡ Ok acted → IsFirst (has_name name) acted.doors (length script.doors)
+new-place script acted name code free started = elim (cases_Bool (nat_lt script.moment (2 ^ 63))) [
+  | inl early ↦
+      let went = rw early at started in
+      let door : NamedDoor = door_named name (first_state (next_id_of script) Locked (record { code = code; buttons = [] }) script.moment 1) in
+      let acts : record script { doors = script.doors ++ door ∷ []; started = script.started + 1 } ≡ acted = cc in
+      rw (← acts) (IsFirst-last (has_name name) script.doors door free ((bytes_eq-Decides name name).1 refl))
+  | inr late ↦ let went = rw late at started in cc
+]
+
+-- a door that starts: its id is the next one, and it is at rest
+pub started-state : (script : ScriptState) (code : List ℕ) (core : DoorCore) (report : Report DoorState)
+    → Ok (Running core report) ≡ door_start_of script code
+    → (core.machine.id ≡ next_id_of script) × (is_ready_of core.machine ≡ false)
+started-state script code core report started = elim (cases_Bool (nat_lt script.moment (2 ^ 63))) [
+  | inl early ↦
+      let went = rw early at started in
+      let same : core.machine ≡ first_state (next_id_of script) Locked (record { code = code; buttons = [] }) script.moment 1 = cc in
+      (ap (λ (machine : DoorMachine). machine.id) same, ap (λ (machine : DoorMachine). is_ready_of machine) same)
+  | inr late ↦ let went = rw late at started in cc
+]
+
+-- the id that a start is given is the next one
+pub given-id : (script : ScriptState) (code : List ℕ) (id : MachineId) → slots_of script.doors ≡ upward 0 (length script.doors) → script.started ≡ length script.doors
+    → id ≡ record { slot = length script.doors; serial = length script.doors + 1 }
+    → start_of the_door id (init_of code) script.moment 1 ≡ door_start_of script code
+given-id script code id numbered counted same =
+    let next : id ≡ next_id_of script = rw (same, free-slot script.doors numbered, counted) refl in
+    ap (λ (id : MachineId). start_of the_door id (init_of code) script.moment 1) next
+
+-- the script with a door that runs
+pub started-script : (script : ScriptState) (name code : List ℕ) (core : DoorCore) (report : Report DoorState) (after : List NamedDoor)
+    → Ok (Running core report) ≡ door_start_of script code → script.started ≡ length script.doors
+    → after ≡ script.doors ++ door_named name core.machine ∷ []
+    → with_start script name (door_start_of script code) ≡ Ok (record { doors = after; moment = script.moment; started = length after })
+started-script script name code core report after started counted pushed =
+    let longer : script.started + 1 ≡ length after = rw (pushed, length-append, counted) (omega arith) in
+    rw (← started, ← longer, pushed) refl
+
+-- a door that starts gets the place in the table that it has in the list
+pub started-slot : (script : ScriptState) (code : List ℕ) (core : DoorCore) (report : Report DoorState) → slots_of script.doors ≡ upward 0 (length script.doors)
+    → Ok (Running core report) ≡ door_start_of script code → core.machine.id.slot ≡ length script.doors
+started-slot script code core report numbered started =
+    ap (λ (id : MachineId). id.slot) (started-state script code core report started).0 ∙ free-slot script.doors numbered
+
+-- ---- the reply once the doors rest
+pub settled-reply : (script settled : ScriptState) (name : List ℕ) (place : ℕ) (said : Reply × ScriptState) (reply : Reply)
+    → settled ≡ rested_of script → said ≡ (Printed (named_status_of (rested_of script) name), rested_of script)
+    → IsFirst (has_name name) settled.doors place → reply ≡ Printed (status_of (get_or settled.doors place no_door))
+    → reply ≡ said.0
+settled-reply script settled name place said reply rested done first says =
+    says
+    ∙ (ap (λ (text : List ℕ). Printed text) (sym (named-status name settled place no_door first))
+    ∙ (ap (λ (s : ScriptState). Printed (named_status_of s name)) rested ∙ sym (ap (λ (s : Reply × ScriptState). s.0) done)))
+
+pub settled-script : (script settled : ScriptState) (name : List ℕ) (said : Reply × ScriptState)
+    → settled ≡ rested_of script → said ≡ (Printed (named_status_of (rested_of script) name), rested_of script) → settled ≡ said.1
+settled-script script settled name said rested done = rested ∙ sym (ap (λ (s : Reply × ScriptState). s.1) done)
+
+-- the doors with a button pressed at a place have the same labels
+pub labels-pressed : (doors : List NamedDoor) (digit place : ℕ) → place < length doors → SameLabels doors (set doors place (pressed_door digit (get_or doors place no_door)))
+labels-pressed doors digit place within = labels-set doors place no_door _ within (id-post (get_or doors place no_door).machine digit)
+
+-- the name has its place still, once a button was pressed and the doors rest
+pub first-pressed : (script pressed settled : ScriptState) (name : List ℕ) (digit place : ℕ) → IsFirst (has_name name) script.doors place
+    → pressed ≡ pressed_script script digit place → SameLabels pressed.doors settled.doors → IsFirst (has_name name) settled.doors place
+first-pressed script pressed settled name digit place first is_pressed rests =
+    let within : place < length script.doors = IsFirst-within (has_name name) script.doors place first in
+    let labels : SameLabels script.doors pressed.doors = rw is_pressed (labels-pressed script.doors digit place within) in
+    IsFirst-labels name script.doors settled.doors place (labels-more script.doors pressed.doors settled.doors labels rests) first

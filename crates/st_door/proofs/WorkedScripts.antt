@@ -1,0 +1,74 @@
+-- The definition of a script computed on examples: whole outputs and statuses.
+use Rattle.std.proofs.Common.{◌≡◌, ℕ, List, [], ◌∷◌, ◌++◌, refl}
+use Rattle.std.specs.Prelude.{codes}
+use Rattle.std.specs.Fmt.{digits}
+use Rattle.st_door.specs.Doors.{run_until_idle}
+use Rattle.st_door.specs.Lines.{line_feed}
+use Rattle.st_door.specs.Script.{output_of, status_of_script}
+
+-- lines, each with its line feed
+abbrev text_of_lines : List (List ℕ) → List ℕ
+text_of_lines [] = []
+text_of_lines (line ∷ lines) = line ++ line_feed ∷ text_of_lines lines
+
+empty_input : output_of [] ≡ []
+unfolding run_until_idle digits
+empty_input = refl
+
+abbrev opening : List ℕ
+opening = text_of_lines (codes "new front 12" ∷ codes "button front 1" ∷ codes "button front 2" ∷ [])
+
+a_code_opens : output_of opening
+    ≡ text_of_lines (
+    codes "front locked buttons 0 waiting 0"
+    ∷ codes "front locked buttons 1 waiting 0"
+    ∷ codes "front open buttons 0 waiting 0" ∷ [])
+unfolding run_until_idle digits
+a_code_opens = refl
+
+opening_status : status_of_script opening ≡ 0
+unfolding run_until_idle
+opening_status = refl
+
+-- the buttons are as many as the code has digits, the last ones
+abbrev last_buttons : List ℕ
+last_buttons = text_of_lines (codes "new a 12" ∷ codes "button a 3" ∷ codes "button a 1" ∷ codes "button a 2" ∷ [])
+
+the_last_buttons_count : output_of last_buttons
+    ≡ text_of_lines (
+    codes "a locked buttons 0 waiting 0"
+    ∷ codes "a locked buttons 1 waiting 0"
+    ∷ codes "a locked buttons 2 waiting 0"
+    ∷ codes "a open buttons 0 waiting 0" ∷ [])
+unfolding run_until_idle digits
+the_last_buttons_count = refl
+
+-- lines that are refused or malformed, and a last line without a line feed
+abbrev faults : List ℕ
+faults = text_of_lines (codes "button back 1" ∷ codes "new front 12" ∷ codes "new front 34" ∷ []) ++ codes "press front 1"
+
+faults_are_reported : output_of faults
+    ≡ text_of_lines (
+    codes "line 1 refused 8"
+    ∷ codes "front locked buttons 0 waiting 0"
+    ∷ codes "line 3 refused 7"
+    ∷ codes "line 4 malformed" ∷ [])
+unfolding run_until_idle digits
+faults_are_reported = refl
+
+faults_status : status_of_script faults ≡ 1
+unfolding run_until_idle
+faults_status = refl
+
+-- names stand in order of registration; blank lines and comments print nothing; carriage returns go
+abbrev two_doors : List ℕ
+two_doors = codes "new b 1" ++ 13 ∷ 10 ∷ codes "  # doors" ++ 10 ∷ 10 ∷ codes "new a 2" ++ 10 ∷ codes " names  " ++ 10 ∷ codes "show b" ++ 13 ∷ []
+
+names_in_order : output_of two_doors
+    ≡ text_of_lines (
+    codes "b locked buttons 0 waiting 0"
+    ∷ codes "a locked buttons 0 waiting 0"
+    ∷ codes "names b a"
+    ∷ codes "b locked buttons 0 waiting 0" ∷ [])
+unfolding run_until_idle digits
+names_in_order = refl

@@ -1,0 +1,72 @@
+-- The door module: what `init` and `handle` answer, an equation for each row of its table.
+use Rattle.std.specs.Prelude.{ℕ, List, [], ◌∷◌, ◌++◌, drop, length, nat_lt, bytes_eq, if◌then◌else◌}
+use Rattle.st_events.specs.declared.action.Action.TheVariants.{Reply}
+use Rattle.st_events.specs.declared.init.Init.{Init}
+use Rattle.st_events.specs.declared.init.Init.TheVariants as init
+use Rattle.st_events.specs.declared.kind.Kind.{Kind}
+use Rattle.st_events.specs.declared.kind.Kind.TheVariants.{Call, Cast, Info, Timeout, Internal}
+use Rattle.st_events.specs.declared.outcome.Outcome.{Outcome}
+use Rattle.st_events.specs.declared.outcome.Outcome.TheVariants.{NextState, KeepStateAndData}
+use Rattle.st_events.specs.declared.tag.Tag.{Tag}
+use Rattle.st_events.specs.declared.timer.Timer.{Timer}
+use Rattle.st_events.specs.declared.timer.Timer.TheVariants as timer
+use Rattle.st_door.specs.declared.door_content.DoorContent.{DoorContent}
+use Rattle.st_door.specs.declared.door_content.DoorContent.TheVariants.{Button, CodeLength, Length, Nothing}
+use Rattle.st_door.specs.declared.door_data.DoorData.{DoorData}
+use Rattle.st_door.specs.declared.door_state.DoorState.{DoorState}
+use Rattle.st_door.specs.declared.door_state.DoorState.TheVariants.{Locked, Open}
+
+abbrev pub DoorOutcome : Type 0
+DoorOutcome = Outcome DoorState DoorData DoorContent
+
+-- a door with this code begins locked, with no button pressed
+abbrev pub init_of : List ℕ → Init DoorState DoorData DoorContent
+init_of code = init.Ok Locked (record { code = code; buttons = [] }) []
+
+-- the buttons after one more: where there are as many as the code has digits, the first one goes
+abbrev pub with_button : List ℕ → List ℕ → ℕ → List ℕ
+with_button code buttons digit =
+    if nat_lt (length buttons) (length code) then buttons ++ digit ∷ [] else drop 1 buttons ++ digit ∷ []
+
+abbrev pub without_buttons : DoorData → DoorData
+without_buttons held = record { code = held.code; buttons = [] }
+
+-- a locked door opens where its buttons are the code, and else keeps them
+abbrev pub unlocked_by : DoorData → List ℕ → DoorOutcome
+unlocked_by held buttons =
+    if bytes_eq buttons held.code
+    then NextState Open (without_buttons held) []
+    else NextState Locked (record { code = held.code; buttons = buttons }) []
+
+-- a button of a locked door
+abbrev pub pressed : DoorData → ℕ → DoorOutcome
+pressed held digit = unlocked_by held (with_button held.code held.buttons digit)
+
+-- a cast: a button counts while the door is locked, and has no effect while it is open
+abbrev pub cast_of : DoorContent → DoorState → DoorData → DoorOutcome
+cast_of (Button digit) Locked held = pressed held digit
+cast_of (Button digit) Open held = KeepStateAndData []
+cast_of CodeLength state held = KeepStateAndData []
+cast_of (Length digits) state held = KeepStateAndData []
+cast_of Nothing state held = KeepStateAndData []
+
+-- a time-out: that of the event makes a locked door forget its buttons, that of the state locks an open one
+abbrev pub timeout_of : Timer → DoorState → DoorData → DoorOutcome
+timeout_of timer.Event Locked held = NextState Locked (without_buttons held) []
+timeout_of timer.State Open held = NextState Locked (without_buttons held) []
+timeout_of _ _ held = KeepStateAndData []
+
+-- a call: the length of the code is told
+abbrev pub call_of : Tag → DoorContent → DoorData → DoorOutcome
+call_of tag CodeLength held = KeepStateAndData (Reply tag (Length (length held.code)) ∷ [])
+call_of tag (Button digit) held = KeepStateAndData []
+call_of tag (Length digits) held = KeepStateAndData []
+call_of tag Nothing held = KeepStateAndData []
+
+-- what a door answers to an event
+abbrev pub handle_of : Kind → DoorContent → DoorState → DoorData → DoorOutcome
+handle_of (Call tag) content state held = call_of tag content held
+handle_of Cast content state held = cast_of content state held
+handle_of Info content state held = KeepStateAndData []
+handle_of (Timeout timer) content state held = timeout_of timer state held
+handle_of Internal content state held = KeepStateAndData []

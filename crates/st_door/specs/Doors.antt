@@ -1,0 +1,130 @@
+-- The doors of a script, in order of registration.
+use Rattle.std.specs.Prelude.{◌≡◌, ℕ, zero, suc, ◌+◌, ◌<◌, ◌≤◌, ◌⊎◌, Bool, true, false, List, [], ◌∷◌, Option, Some, None, Result, Ok, Err, map, find, length, bytes_eq, slice_index_or, ◌==◌, if◌then◌else◌}
+use Rattle.std.specs.List.{list_any}
+use Rattle.st_core.specs.MachineState.{MachineState}
+use Rattle.st_core.specs.Callbacks.{Callbacks}
+use Rattle.st_core.specs.Choice.{is_ready_of}
+use Rattle.st_core.specs.Post.{post_of}
+use Rattle.st_core.specs.Transition.{turn_of}
+use Rattle.st_core.specs.declared.entry.Entry.TheVariants.{Cast}
+use Rattle.st_door.specs.declared.door_content.DoorContent.TheVariants.{Button}
+use Rattle.st_events.specs.declared.refusal.Refusal.{Refusal}
+use Rattle.st_events.specs.declared.refused.Refused.{Refused}
+use Rattle.st_door.specs.declared.door_content.DoorContent.{DoorContent}
+use Rattle.st_door.specs.declared.door_data.DoorData.{DoorData}
+use Rattle.st_door.specs.declared.door_state.DoorState.{DoorState}
+use Rattle.st_door.specs.Door.{handle_of}
+
+abbrev pub DoorMachine : Type 0
+DoorMachine = MachineState DoorState DoorData DoorContent
+
+-- a door's machine under its name
+pub record NamedDoor : Type 0 where
+  pub name : List ℕ
+  pub machine : DoorMachine
+
+abbrev pub door_named : List ℕ → DoorMachine → NamedDoor
+door_named name machine = record { name = name; machine = machine }
+
+-- the callbacks of a door
+abbrev pub door_callbacks : Callbacks DoorState DoorData DoorContent
+door_callbacks = record { handle_is = handle_of }
+
+-- the first element that passes is changed
+abbrev pub change_first : {X : Type 0} → (X → Bool) → (X → X) → List X → List X
+change_first test change [] = []
+change_first test change (x ∷ xs) = if test x then change x ∷ xs else x ∷ change_first test change xs
+
+-- this is the place of the first element that passes
+abbrev pub IsFirst : {X : Type 0} → (X → Bool) → List X → ℕ → Type 0
+IsFirst test [] place = ⊥
+IsFirst test (x ∷ xs) zero = test x ≡ true
+IsFirst test (x ∷ xs) (suc place) = (test x ≡ false) × IsFirst test xs place
+
+-- whether the door has this name
+abbrev pub has_name : List ℕ → NamedDoor → Bool
+has_name name door = bytes_eq name door.name
+
+-- the door of a name
+abbrev pub door_of : List ℕ → List NamedDoor → Option NamedDoor
+door_of name doors = find (has_name name) doors
+
+-- the door of a name has this machine instead
+abbrev pub with_machine : List ℕ → DoorMachine → List NamedDoor → List NamedDoor
+with_machine name machine doors = change_first (has_name name) (λ door. door_named door.name machine) doors
+
+-- the names of doors
+abbrev pub names_of : List NamedDoor → List (List ℕ)
+names_of doors = map (λ door. door.name) doors
+
+-- whether a turn of the door would handle an event
+abbrev pub is_ready_door : NamedDoor → Bool
+is_ready_door door = is_ready_of door.machine
+
+-- the door after one turn
+abbrev pub turned_door : ℕ → NamedDoor → NamedDoor
+turned_door moment door = door_named door.name (turn_of door_callbacks door.machine moment).1
+
+-- why a post is refused, if it is
+abbrev pub refusal_of : Result ℕ (Refused DoorContent) → Option Refusal
+refusal_of (Ok number) = None
+refusal_of (Err refused) = Some refused.refusal
+
+-- a button is pressed at the door: what the post answers, and the machine after it
+abbrev pub press_of : ℕ → NamedDoor → Result ℕ (Refused DoorContent) × DoorMachine
+press_of digit door = post_of door.machine Cast (Button digit)
+
+-- the door after it
+abbrev pub pressed_door : ℕ → NamedDoor → NamedDoor
+pressed_door digit door = door_named door.name (press_of digit door).1
+
+-- as long as a door is ready, the first ready one gets a turn, at most so many times
+unfoldable pub run_until_idle : ℕ → ℕ → List NamedDoor → List NamedDoor
+run_until_idle zero moment doors = doors
+run_until_idle (suc turns) moment doors =
+    elim (list_any is_ready_door doors) [
+      | true ↦ run_until_idle turns moment (change_first is_ready_door (turned_door moment) doors)
+      | false ↦ doors
+    ]
+
+-- doors that rest, but for those from one place up to another
+abbrev pub RestsOutside : ℕ → ℕ → List NamedDoor → Type 0
+RestsOutside from until doors =
+    (place : ℕ) (d : NamedDoor) → place < length doors → (place < from) ⊎ (until ≤ place)
+    → is_ready_door (slice_index_or doors place d) ≡ false
+
+-- the places in the table that the doors take
+abbrev pub slots_of : List NamedDoor → List ℕ
+slots_of doors = map (λ door. door.machine.id.slot) doors
+
+-- the least number from here on that is not among these, of which there are at most so many
+abbrev pub least_from : ℕ → ℕ → List ℕ → ℕ
+least_from zero slot slots = slot
+least_from (suc more) slot slots = if list_any (λ taken. taken == slot) slots then least_from more (slot + 1) slots else slot
+
+-- the least place that no door takes
+abbrev pub free_slot_of : List NamedDoor → ℕ
+free_slot_of doors = least_from (length doors) 0 (slots_of doors)
+
+-- so many numbers, from one on
+abbrev pub upward : ℕ → ℕ → List ℕ
+upward first zero = []
+upward first (suc more) = first ∷ upward (first + 1) more
+
+-- the doors have the names and the places in the table that they had
+pub record SameLabels (old new : List NamedDoor) : Type 0 where
+  pub names : names_of new ≡ names_of old
+  pub slots : slots_of new ≡ slots_of old
+
+-- how many doors there may be
+abbrev pub door_limit : ℕ
+door_limit = 65536
+
+-- what a script keeps of its doors: they are not too many, each has the place in the table that it
+-- has in the list, and all rest but those from one place up to another
+pub record IsKept (doors : List NamedDoor) (from until : ℕ) : Type 0 where
+  pub ordered : from ≤ until
+  pub within : until ≤ length doors
+  pub few : length doors ≤ door_limit
+  pub numbered : slots_of doors ≡ upward 0 (length doors)
+  pub resting : RestsOutside from until doors

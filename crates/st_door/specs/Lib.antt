@@ -1,0 +1,10 @@
+pub mod Door
+pub mod Doors
+pub mod Entries
+pub mod Grammar
+pub mod Lines
+pub mod Printing
+pub mod Script
+pub mod ScriptFault
+pub mod Streams
+pub mod WordForms

@@ -1,0 +1,33 @@
+-- What is printed.
+use Rattle.std.specs.Prelude.{ℕ, List, [], ◌∷◌, ◌++◌, codes, decimal, flat_map, length}
+use Rattle.st_core.specs.Choice.{waiting_of}
+use Rattle.st_door.specs.declared.door_state.DoorState.{DoorState}
+use Rattle.st_door.specs.declared.door_state.DoorState.TheVariants.{Locked, Open}
+use Rattle.st_door.specs.Doors.{NamedDoor}
+use Rattle.st_door.specs.Lines.{line_feed, space}
+
+-- the name of a state
+abbrev pub state_name_of : DoorState → List ℕ
+state_name_of Locked = codes "locked"
+state_name_of Open = codes "open"
+
+-- the status of a door by its parts
+abbrev pub status_text : List ℕ → DoorState → ℕ → ℕ → List ℕ
+status_text name state buttons waiting =
+    name ++ (codes " " ++ (state_name_of state ++ (codes " buttons " ++ (decimal buttons ++ (codes " waiting " ++ (decimal waiting ++ line_feed ∷ []))))))
+
+-- the status of a door
+abbrev pub status_of : NamedDoor → List ℕ
+status_of door = status_text door.name door.machine.state (length door.machine.data.buttons) (waiting_of door.machine)
+
+-- the names of the doors, in order of registration
+abbrev pub names_text : List NamedDoor → List ℕ
+names_text doors = (codes "names" ++ flat_map (λ door. space ∷ door.name) doors) ++ line_feed ∷ []
+
+-- that the line of a number was refused
+abbrev pub refused_text : ℕ → ℕ → List ℕ
+refused_text number refusal = codes "line " ++ (decimal number ++ (codes " refused " ++ (decimal refusal ++ line_feed ∷ [])))
+
+-- that the line of a number is malformed
+abbrev pub malformed_text : ℕ → List ℕ
+malformed_text number = codes "line " ++ (decimal number ++ (codes " malformed" ++ line_feed ∷ []))

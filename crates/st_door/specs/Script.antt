@@ -1,0 +1,168 @@
+-- A script: its output and its status as functions of its bytes.
+use Rattle.std.specs.Prelude.{◌≡◌, ℕ, ◌+◌, Bool, true, false, ◌||◌, nat_lt, List, [], ◌∷◌, ◌++◌, length, Option, Some, None, Result, Ok, Err, if◌then◌else◌}
+use Rattle.std.specs.Io.KnownBytes.{Appends, Consumes}
+use Rattle.std.specs.Option.{option_map_or}
+use Rattle.st_events.specs.Refusal.{number_of}
+use Rattle.st_events.specs.declared.machine_id.MachineId.{MachineId}
+use Rattle.st_events.specs.declared.refusal.Refusal.{Refusal}
+use Rattle.st_events.specs.declared.refusal.Refusal.TheVariants.{AlreadyStarted, NoSuchName, Full}
+use Rattle.st_events.specs.declared.refused.Refused.{Refused}
+use Rattle.st_core.specs.declared.start.Start.{Start}
+use Rattle.st_core.specs.declared.start.Start.TheVariants.{Running, Ignored, Stopped}
+use Rattle.st_core.specs.Start.{start_of}
+use Rattle.st_door.specs.declared.door.Door.{Door}
+use Rattle.st_door.specs.declared.door_content.DoorContent.{DoorContent}
+use Rattle.st_door.specs.declared.door_data.DoorData.{DoorData}
+use Rattle.st_door.specs.declared.door_state.DoorState.{DoorState}
+use Rattle.st_door.specs.declared.line.Line.{Line}
+use Rattle.st_door.specs.declared.line.Line.TheVariants as line
+use Rattle.st_door.specs.declared.reply.Reply.{Reply}
+use Rattle.st_door.specs.declared.reply.Reply.TheVariants.{Silent, Printed, Refuses, Malformed}
+use Rattle.st_door.specs.Door.{init_of}
+use Rattle.st_door.specs.Doors.{NamedDoor, DoorMachine, door_limit, door_of, with_machine, free_slot_of, run_until_idle, press_of, refusal_of}
+use Rattle.st_door.specs.Grammar.{line_of}
+use Rattle.st_door.specs.Lines.{lines}
+use Rattle.st_door.specs.Printing.{status_of, names_text, refused_text, malformed_text}
+
+-- the doors in order of registration, the script's moment, and how many starts have succeeded
+pub record ScriptState : Type 0 where
+  pub doors : List NamedDoor
+  pub moment : ℕ
+  pub started : ℕ
+
+abbrev pub first_script_state : ScriptState
+first_script_state = record { doors = []; moment = 0; started = 0 }
+
+-- how many turns are made for one line
+abbrev pub turn_limit : ℕ
+turn_limit = 1000000
+
+-- a new door's id: the least free place, and how many starts have succeeded with this one
+abbrev pub next_id_of : ScriptState → MachineId
+next_id_of script = record { slot = free_slot_of script.doors; serial = script.started + 1 }
+
+-- the door module, of which there is one
+abbrev pub the_door : Door
+the_door = record {}
+
+abbrev pub DoorStart : Type 0
+DoorStart = Result (Start Door DoorState DoorData DoorContent (List ℕ)) (Refused Door)
+
+-- the start of a door with this code
+abbrev pub door_start_of : ScriptState → List ℕ → DoorStart
+door_start_of script code = start_of the_door (next_id_of script) (init_of code) script.moment 1
+
+-- what comes of a start: a door that runs goes to the end of the list; doors start always, so that
+-- the other answers of `init` leave the script as it is
+abbrev pub with_start : ScriptState → List ℕ → DoorStart → Result ScriptState Refusal
+with_start script name (Ok (Running core report)) = Ok (record script {
+  doors = script.doors ++ record { name = name; machine = core.machine } ∷ [];
+  started = script.started + 1;
+})
+with_start script name (Ok Ignored) = Ok script
+with_start script name (Ok (Stopped reason)) = Ok script
+with_start script name (Err refused) = Err refused.refusal
+
+-- `new`: a name that is taken is refused, then a list that is full, then as the start is
+abbrev pub new_door : ScriptState → List ℕ → List ℕ → Option NamedDoor → Result ScriptState Refusal
+new_door script name code (Some taken) = Err (AlreadyStarted taken.machine.id)
+new_door script name code None =
+    if nat_lt (length script.doors) door_limit
+    then with_start script name (door_start_of script code)
+    else Err Full
+
+-- what comes of a post to the door of a name, by its refusal and the machine after it
+abbrev pub with_post : ScriptState → List ℕ → Option Refusal → DoorMachine → Result ScriptState Refusal
+with_post script name None machine = Ok (record script { doors = with_machine name machine script.doors })
+with_post script name (Some refusal) machine = Err refusal
+
+-- `button`: a name that is not registered is refused, then as the post is
+abbrev pub pressed_button : ScriptState → List ℕ → ℕ → Option NamedDoor → Result ScriptState Refusal
+pressed_button script name digit None = Err NoSuchName
+pressed_button script name digit (Some door) = with_post script name (refusal_of (press_of digit door).0) (press_of digit door).1
+
+-- `show`: a name that is not registered is refused
+abbrev pub shown_door : ScriptState → Option NamedDoor → Result ScriptState Refusal
+shown_door script None = Err NoSuchName
+shown_door script (Some door) = Ok script
+
+-- the action of a line: the script after it, or why it is refused
+abbrev pub acted_of : ScriptState → Line → Result ScriptState Refusal
+acted_of script line.Blank = Ok script
+acted_of script line.Malformed = Ok script
+acted_of script (line.New name code) = new_door script name code (door_of name script.doors)
+acted_of script (line.Button name digit) = pressed_button script name digit (door_of name script.doors)
+acted_of script (line.Show name) = shown_door script (door_of name script.doors)
+acted_of script line.Names = Ok script
+
+-- the script once its doors rest
+abbrev pub rested_of : ScriptState → ScriptState
+rested_of script = record script { doors = run_until_idle turn_limit script.moment script.doors }
+
+-- the status of the door of a name
+abbrev pub named_status_of : ScriptState → List ℕ → List ℕ
+named_status_of script name = option_map_or status_of (door_of name script.doors) []
+
+-- what a line prints that was not refused, once the doors rest
+abbrev pub text_of : ScriptState → Line → List ℕ
+text_of script line.Blank = []
+text_of script line.Malformed = []
+text_of script (line.New name code) = named_status_of script name
+text_of script (line.Button name digit) = named_status_of script name
+text_of script (line.Show name) = named_status_of script name
+text_of script line.Names = names_text script.doors
+
+-- a line that is refused changes nothing; else the doors run until they rest, and then it prints
+abbrev pub settled_of : ScriptState → Line → Result ScriptState Refusal → Reply × ScriptState
+settled_of script said (Err refusal) = (Refuses refusal, script)
+settled_of script said (Ok acted) = (Printed (text_of (rested_of acted) said), rested_of acted)
+
+-- what a line brings about, and the script after it; a line that says nothing does nothing
+abbrev pub step_of : ScriptState → Line → Reply × ScriptState
+step_of script line.Blank = (Silent, script)
+step_of script line.Malformed = (Malformed, script)
+step_of script (line.New name code) = settled_of script (line.New name code) (acted_of script (line.New name code))
+step_of script (line.Button name digit) = settled_of script (line.Button name digit) (acted_of script (line.Button name digit))
+step_of script (line.Show name) = settled_of script (line.Show name) (acted_of script (line.Show name))
+step_of script line.Names = settled_of script line.Names (acted_of script line.Names)
+
+-- what the line of a number prints
+abbrev pub printed_of : ℕ → Reply → List ℕ
+printed_of number Silent = []
+printed_of number (Printed text) = text
+printed_of number (Refuses refusal) = refused_text number (number_of refusal)
+printed_of number Malformed = malformed_text number
+
+-- whether the line is refused or malformed
+abbrev pub is_fault : Reply → Bool
+is_fault Silent = false
+is_fault (Printed text) = false
+is_fault (Refuses refusal) = true
+is_fault Malformed = true
+
+-- what the lines print, the first of which has this number
+abbrev pub output_from : ℕ → ScriptState → List (List ℕ) → List ℕ
+output_from number script [] = []
+output_from number script (bytes ∷ more) =
+    printed_of number (step_of script (line_of bytes)).0
+    ++ output_from (number + 1) (step_of script (line_of bytes)).1 more
+
+-- whether some line is refused or malformed
+abbrev pub faulty_from : ScriptState → List (List ℕ) → Bool
+faulty_from script [] = false
+faulty_from script (bytes ∷ more) =
+    is_fault (step_of script (line_of bytes)).0
+    || faulty_from (step_of script (line_of bytes)).1 more
+
+-- the output of a script
+abbrev pub output_of : List ℕ → List ℕ
+output_of input = output_from 1 first_script_state (lines input)
+
+-- the status of a script: 1 where some line was refused or malformed, else 0
+abbrev pub status_of_script : List ℕ → ℕ
+status_of_script input = if faulty_from first_script_state (lines input) then 1 else 0
+
+-- some input was read, its output was written, and this is its status
+abbrev pub DoesSome : Option (List ℕ) → Option (List ℕ) → Option (List ℕ) → Option (List ℕ) → ℕ → Type 0
+DoesSome left after_left held after_held status =
+    (input : List ℕ) × Consumes left after_left input × Appends held after_held (output_of input) × (status ≡ status_of_script input)

@@ -1,0 +1,165 @@
+//! The example module: a door with a code lock.
+ghost use Rattle.std.specs.Prelude.{◌≡◌, IfOk};
+ghost use Rattle.std.proofs.Common.{rules};
+ghost use Rattle.st_door.specs.Door.{init_of, handle_of, cast_of, timeout_of, call_of, pressed, with_button};
+
+use crate::{Digits, DoorContent, DoorData, DoorState};
+use st_events::{Action, Actions, Init, Kind, Module, Outcome, Tag, Timer};
+use std::alloc::{AllocError, Global};
+
+/// What the door's `handle` answers.
+type DoorOutcome = Outcome<DoorState, DoorData, DoorContent>;
+
+/// A door that opens on a code. It is locked at first; buttons that make up the code open it.
+#[derive(Debug, Drop)]
+pub struct Door;
+
+/// The buttons after one more. They are as many as the code has digits, the last ones.
+fn with_button(alloc: Global, code: &[u8], buttons: &[u8], digit: u8) -> Result<Digits, AllocError>
+    ensures { IfOk result (λ after. after ≡ with_button code.now buttons.now digit) }
+{
+    let kept = if buttons.len() < code.len() {
+        buttons
+    } else {
+        match buttons {
+            [_, rest @ ..] => rest,
+            [] => buttons,
+        }
+    };
+    let mut after = Digits::copied(alloc, kept)?;
+    after.push(digit)?;
+    Ok(after)
+}
+
+/// The data with these buttons and the same code.
+fn with_buttons(alloc: Global, data: &DoorData, buttons: Digits) -> Result<DoorData, AllocError>
+    ensures { IfOk result (λ after. after ≡ record { code = «data».now.code; buttons = buttons }) }
+{
+    let code = Digits::copied(alloc, data.code.as_slice())?;
+    Ok(DoorData { code, buttons })
+}
+
+/// A button in `Locked`: it opens the door where it completes the code.
+fn pressed(alloc: Global, data: &DoorData, digit: u8) -> Result<DoorOutcome, AllocError>
+    ensures { IfOk result (λ outcome. outcome ≡ pressed «data».now digit) }
+{
+    let buttons = with_button(alloc, data.code.as_slice(), data.buttons.as_slice(), digit)?;
+    if buttons.as_slice() == data.code.as_slice() {
+        let data = with_buttons(alloc, data, Digits::new(alloc))?;
+        Ok(Outcome::NextState(DoorState::Open, data, Actions::new(alloc)))
+    } else {
+        let data = with_buttons(alloc, data, buttons)?;
+        Ok(Outcome::NextState(DoorState::Locked, data, Actions::new(alloc)))
+    }
+}
+
+/// A cast: a button counts while the door is locked.
+fn cast(
+    alloc: Global,
+    content: &DoorContent,
+    state: DoorState,
+    data: &DoorData,
+) -> Result<DoorOutcome, AllocError>
+    ensures { IfOk result (λ outcome. outcome ≡ cast_of content.now state «data».now) }
+{
+    match (content, state) {
+        (DoorContent::Button(digit), DoorState::Locked) => pressed(alloc, data, *digit),
+        _ => Ok(Outcome::KeepStateAndData(Actions::new(alloc))),
+    }
+}
+
+/// A time-out: the buttons are forgotten, and an open door is locked.
+fn time_out(
+    alloc: Global,
+    timer: Timer,
+    state: DoorState,
+    data: &DoorData,
+) -> Result<DoorOutcome, AllocError>
+    ensures { IfOk result (λ outcome. outcome ≡ timeout_of timer state «data».now) }
+{
+    match (timer, state) {
+        (Timer::Event, DoorState::Locked) | (Timer::State, DoorState::Open) => {
+            let data = with_buttons(alloc, data, Digits::new(alloc))?;
+            Ok(Outcome::NextState(DoorState::Locked, data, Actions::new(alloc)))
+        }
+        _ => Ok(Outcome::KeepStateAndData(Actions::new(alloc))),
+    }
+}
+
+/// A call: the length of the code is told.
+fn call(
+    alloc: Global,
+    tag: Tag,
+    content: &DoorContent,
+    data: &DoorData,
+) -> Result<DoorOutcome, AllocError>
+    ensures { IfOk result (λ outcome. outcome ≡ call_of tag content.now «data».now) }
+{
+    let mut actions = Actions::new(alloc);
+    if let DoorContent::CodeLength = content {
+        actions.push(Action::Reply(tag, DoorContent::Length(data.code.len())))?;
+    }
+    Ok(Outcome::KeepStateAndData(actions))
+}
+
+impl Module for Door {
+    type State = DoorState;
+
+    type Data = DoorData;
+
+    type Content = DoorContent;
+
+    type Arg = Digits;
+
+    ghost init_is = { λ door code. init_of code };
+
+    ghost handle_is = { λ door kind content state held. handle_of kind content state held };
+
+    fn init(
+        &self,
+        alloc: Global,
+        code: &Digits,
+    ) -> Result<Init<DoorState, DoorData, DoorContent>, AllocError> {
+        let data = DoorData {
+            code: Digits::copied(alloc, code.as_slice())?,
+            buttons: Digits::new(alloc),
+        };
+        Ok(Init::Ok(DoorState::Locked, data, Actions::new(alloc)))
+    }
+
+    fn handle(
+        &self,
+        alloc: Global,
+        kind: Kind,
+        content: &DoorContent,
+        state: DoorState,
+        data: &DoorData,
+    ) -> Result<DoorOutcome, AllocError> {
+        match kind {
+            Kind::Call(tag) => call(alloc, tag, content, data),
+            Kind::Cast => cast(alloc, content, state, data),
+            Kind::Info => Ok(Outcome::KeepStateAndData(Actions::new(alloc))),
+            Kind::Timeout(timer) => time_out(alloc, timer, state, data),
+            Kind::Internal => Ok(Outcome::KeepStateAndData(Actions::new(alloc))),
+        }
+    }
+
+    fn copy_content(
+        &self,
+        _alloc: Global,
+        content: &DoorContent,
+    ) -> Result<DoorContent, AllocError> {
+        Ok(*content)
+    }
+
+    fn copy_data(&self, alloc: Global, data: &DoorData) -> Result<DoorData, AllocError> {
+        let buttons = Digits::copied(alloc, data.buttons.as_slice())?;
+        with_buttons(alloc, data, buttons)
+    }
+
+    ghost states_exact = { Prim.search rules };
+
+    ghost outcome_fits = { Prim.search rules };
+
+    ghost init_fits = { Prim.search rules };
+}

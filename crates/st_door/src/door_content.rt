@@ -1,0 +1,13 @@
+//! The content of a door's events and replies.
+
+/// What a door's event or reply says.
+#[derive(Clone, Copy, Debug, PartialEq, Eq)]
+pub enum DoorContent {
+    /// The button of a digit was pressed.
+    Button(u8),
+    /// How many digits has the code?
+    CodeLength,
+    /// The code has so many digits.
+    Length(usize),
+    Nothing,
+}

@@ -1,0 +1,180 @@
+//! The doors of a script, by name, in order of registration.
+ghost use Rattle.std.specs.Prelude.{◌≡◌, ◌<◌, [], ◌∷◌, ◌++◌, None, IfOk, OnOk, OnErr, IfSome, IfNone, length, slice_set, slice_index_or, string_bytes};
+ghost use Rattle.st_core.specs.Post.{post_of};
+ghost use Rattle.st_core.specs.Transition.{turn_of};
+ghost use Rattle.st_core.specs.declared.entry.Entry.TheVariants.{Cast};
+ghost use Rattle.st_door.specs.declared.door_content.DoorContent.TheVariants.{Button};
+ghost use Rattle.st_door.specs.Doors.{NamedDoor, door_named, IsFirst, has_name, door_of, is_ready_door, turned_door, press_of, pressed_door, refusal_of, door_callbacks};
+ghost use Rattle.st_door.specs.Printing.{status_of, names_text};
+
+use crate::printing::status;
+use crate::{Door, DoorContent};
+use indexmap::IndexMap;
+use st_core::{Core, Entry};
+use st_events::{MachineId, Refusal};
+use std::alloc::{AllocError, Global};
+use std::marker::Model;
+
+/// The doors of a script. Contracts see the list of the doors with their names.
+#[derive(Drop)]
+pub(crate) struct Doors {
+    entries: IndexMap<String, Core<Door>>,
+}
+
+impl Model for Doors {
+    ghost use Rattle.std.specs.Prelude.{List};
+    ghost use Rattle.st_door.specs.Doors.{NamedDoor};
+    ghost use Rattle.st_door.specs.Entries.{doors_of_entries};
+
+    ghost Value = { List NamedDoor };
+
+    ghost view = { λ doors. doors_of_entries doors.entries.entries };
+}
+
+impl Doors {
+    /// No doors.
+    pub(crate) fn new(alloc: Global) -> Doors
+        ensures { result ≡ [] }
+    {
+        Doors {
+            entries: IndexMap::new(alloc),
+        }
+    }
+
+    /// How many doors there are.
+    pub(crate) fn len(&self) -> usize
+        ensures { result ≡ length self.now }
+    {
+        self.entries.len()
+    }
+
+    /// The place of the door of a name.
+    pub(crate) fn place_of(&self, name: &str) -> Option<usize>
+        ensures place { IfSome result (IsFirst (has_name name.now) self.now) }
+
+        ensures missing { IfNone result (door_of name.now self.now ≡ None) }
+    {
+        self.entries.get_index_of(name)
+    }
+
+    /// Registers a door under a name that is not taken.
+    pub(crate) fn push(&mut self, name: String, core: Core<Door>) -> Result<(), AllocError>
+        requires { door_of (string_bytes name) self.old ≡ None }
+        ensures pushed { OnOk result (self.new ≡ self.old ++ door_named (string_bytes name) core.machine ∷ []) }
+
+        ensures unchanged { OnErr result (self.new ≡ self.old) }
+    {
+        self.entries.insert(name, core)?;
+        Ok(())
+    }
+
+    /// The name and the door at a place.
+    fn entry_at(&self, place: usize) -> (&String, &Core<Door>)
+        requires { place < length self.now }
+        ensures name { (d : NamedDoor) → string_bytes result.0.now ≡ (slice_index_or self.now place d).name }
+        ensures machine { (d : NamedDoor) → result.1.now.machine ≡ (slice_index_or self.now place d).machine }
+    {
+        self.entries.get_index(place).unwrap()
+    }
+
+    /// The id of the door at a place.
+    pub(crate) fn id_at(&self, place: usize) -> MachineId
+        requires { place < length self.now }
+        ensures { (d : NamedDoor) → result ≡ (slice_index_or self.now place d).machine.id }
+    {
+        self.entry_at(place).1.id()
+    }
+
+    /// Says whether the door at a place is ready.
+    pub(crate) fn is_ready_at(&self, place: usize) -> bool
+        requires { place < length self.now }
+        ensures { (d : NamedDoor) → result ≡ is_ready_door (slice_index_or self.now place d) }
+    {
+        self.entry_at(place).1.is_ready()
+    }
+
+    /// Gives the door at a place a turn. Where memory is wanted and there is none, the doors stay.
+    pub(crate) fn turn_at(&mut self, place: usize, moment: u64) -> Result<(), AllocError>
+        requires { place < length self.old }
+        ensures turned { OnOk result ((d : NamedDoor) → self.new ≡ slice_set self.old place (turned_door moment (slice_index_or self.old place d))) }
+
+        ensures unchanged { OnErr result (self.new ≡ self.old) }
+    {
+        let (_, core) = self.entries.pair_mut(place);
+        turn(core, moment)
+    }
+
+    /// Presses a button at the door at a place, and answers why that is refused, if it is.
+    pub(crate) fn press_at(
+        &mut self,
+        place: usize,
+        digit: u8,
+    ) -> Result<Option<Refusal>, AllocError>
+        requires { place < length self.old }
+        ensures refusal { IfOk result (λ refusal. (d : NamedDoor) → refusal ≡ refusal_of (press_of digit (slice_index_or self.old place d)).0) }
+        ensures pressed { OnOk result ((d : NamedDoor) → self.new ≡ slice_set self.old place (pressed_door digit (slice_index_or self.old place d))) }
+
+        ensures unchanged { OnErr result (self.new ≡ self.old) }
+    {
+        let (_, core) = self.entries.pair_mut(place);
+        press(core, digit)
+    }
+
+    /// The line of the names, in order of registration.
+    pub(crate) fn names(&self, alloc: Global) -> Result<String, AllocError>
+        ensures { IfOk result (λ text. string_bytes text ≡ names_text self.now) }
+    {
+        let mut text = String::from_str(alloc, "names")?;
+        for place in 0..self.len() {
+            let (name, _) = self.entry_at(place);
+            text.push_str(" ")?;
+            text.push_str(name.as_str())?;
+        }
+        text.push_str("\n")?;
+        Ok(text)
+    }
+
+    /// The status of the door at a place.
+    pub(crate) fn status_at(&self, alloc: Global, place: usize) -> Result<String, AllocError>
+        requires { place < length self.now }
+        ensures { IfOk result (λ text. (d : NamedDoor) → string_bytes text ≡ status_of (slice_index_or self.now place d)) }
+    {
+        let (name, core) = self.entry_at(place);
+        status(
+            alloc,
+            name.as_str(),
+            core.state(),
+            core.data().buttons.len(),
+            core.waiting(),
+        )
+    }
+}
+
+/// Gives a door a turn. Where memory is wanted and there is none, the door stays.
+fn turn(core: &mut Core<Door>, moment: u64) -> Result<(), AllocError>
+    ensures turned { OnOk result (core.new.machine ≡ (turn_of door_callbacks core.old.machine moment).1) }
+
+    ensures unchanged { OnErr result (core.new ≡ core.old) }
+{
+    match core.turn(moment) {
+        Ok(_turned) => Ok(()),
+        Err(Refusal::NoMemory) => Err(AllocError),
+        Err(_) => Ok(()),
+    }
+}
+
+/// Presses a button at a door, and answers why that is refused, if it is.
+fn press(core: &mut Core<Door>, digit: u8) -> Result<Option<Refusal>, AllocError>
+    ensures refusal { IfOk result (λ refusal. refusal ≡ refusal_of (post_of core.old.machine Cast (Button digit)).0) }
+    ensures pressed { OnOk result (core.new.machine ≡ (post_of core.old.machine Cast (Button digit)).1) }
+
+    ensures unchanged { OnErr result (core.new ≡ core.old) }
+{
+    match core.post(Entry::Cast, DoorContent::Button(digit)) {
+        Ok(_number) => Ok(None),
+        Err(refused) => match refused.refusal {
+            Refusal::NoMemory => Err(AllocError),
+            refusal => Ok(Some(refusal)),
+        },
+    }
+}

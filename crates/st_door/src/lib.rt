@@ -1,0 +1,45 @@
+//! The example module and the script runner: bytes in, bytes out.
+//! It knows nothing of threads.
+#![tactic(auto)]
+
+mod counted;
+mod digits;
+mod door;
+mod door_content;
+mod door_data;
+mod door_state;
+mod doors;
+mod failed;
+mod failures;
+mod input;
+mod line;
+mod lines;
+mod mode;
+mod output;
+mod printing;
+mod reply;
+mod run;
+mod script;
+mod script_fault;
+mod settling;
+mod sink;
+mod source;
+#[cfg(test)]
+mod tests;
+mod text;
+mod word_forms;
+
+pub use counted::Counted;
+pub use digits::Digits;
+pub use door::Door;
+pub use door_content::DoorContent;
+pub use door_data::DoorData;
+pub use door_state::DoorState;
+pub use failed::Failed;
+pub use failures::Failures;
+pub use input::INPUT_LIMIT;
+pub use mode::Mode;
+pub use run::run_script;
+pub use script_fault::ScriptFault;
+pub use sink::Sink;
+pub use source::Source;

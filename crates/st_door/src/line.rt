@@ -1,0 +1,137 @@
+//! What one line of a script says.
+ghost use Rattle.std.specs.Prelude.{◌≡◌, IfOk, map, Some, None, if◌then◌else◌};
+ghost use Rattle.st_door.specs.WordForms.{is_name};
+ghost use Rattle.st_door.specs.Grammar.{line_of, command_of, is_comment};
+ghost use Rattle.st_door.specs.Grammar.{new_of, button_of, show_of, names_of};
+
+use crate::digits::Digits;
+use crate::lines::words;
+use crate::text::Text;
+use crate::word_forms::{digits_of, is_digits, is_name};
+use std::alloc::{AllocError, Global};
+use std::str;
+
+/// How many bytes a line may have.
+pub const LINE_LIMIT: usize = 256;
+
+/// How many digits a code may have.
+const CODE_LIMIT: usize = 16;
+
+/// What a line says.
+#[derive(Drop)]
+pub enum Line {
+    /// Nothing: a line without words, or a comment.
+    Blank,
+    /// Nothing that has a form.
+    Malformed,
+    /// Start a door.
+    New { name: Text, code: Digits },
+    /// Press a button.
+    Button { name: Text, digit: u8 },
+    /// Print a door's status.
+    Show { name: Text },
+    /// Print the names of the doors.
+    Names,
+}
+
+fn is_comment(verb: &[u8]) -> bool
+    ensures { result ≡ is_comment verb.now }
+{
+    matches!(verb, [b'#', ..])
+}
+
+fn name_of(alloc: Global, word: &[u8]) -> Result<Option<Text>, AllocError>
+    ensures { IfOk result (λ name. name ≡ (if is_name word.now then Some word.now else None)) }
+{
+    if !is_name(word) {
+        return Ok(None);
+    }
+    match str::from_utf8(word) {
+        Ok(text) => Ok(Some(Text::new(alloc, text)?)),
+        Err(_) => Ok(None),
+    }
+}
+
+fn new_line(alloc: Global, args: &[&[u8]]) -> Result<Line, AllocError>
+    ensures { IfOk result (λ line. line ≡ new_of (map (λ arg. arg.now) args.now)) }
+{
+    let [word, code] = args else {
+        return Ok(Line::Malformed);
+    };
+    if !is_digits(CODE_LIMIT, code) {
+        return Ok(Line::Malformed);
+    }
+    let Some(name) = name_of(alloc, word)? else {
+        return Ok(Line::Malformed);
+    };
+    let code = digits_of(alloc, code)?;
+    Ok(Line::New { name, code })
+}
+
+fn button_line(alloc: Global, args: &[&[u8]]) -> Result<Line, AllocError>
+    ensures { IfOk result (λ line. line ≡ button_of (map (λ arg. arg.now) args.now)) }
+{
+    let [word, [digit @ b'0'..=b'9']] = args else {
+        return Ok(Line::Malformed);
+    };
+    let Some(name) = name_of(alloc, word)? else {
+        return Ok(Line::Malformed);
+    };
+    Ok(Line::Button {
+        name,
+        digit: *digit - b'0',
+    })
+}
+
+fn show_line(alloc: Global, args: &[&[u8]]) -> Result<Line, AllocError>
+    ensures { IfOk result (λ line. line ≡ show_of (map (λ arg. arg.now) args.now)) }
+{
+    let [word] = args else {
+        return Ok(Line::Malformed);
+    };
+    let Some(name) = name_of(alloc, word)? else {
+        return Ok(Line::Malformed);
+    };
+    Ok(Line::Show { name })
+}
+
+fn names_line(args: &[&[u8]]) -> Line
+    ensures { result ≡ names_of (map (λ arg. arg.now) args.now) }
+{
+    match args {
+        [] => Line::Names,
+        _ => Line::Malformed,
+    }
+}
+
+fn command(alloc: Global, verb: &[u8], args: &[&[u8]]) -> Result<Line, AllocError>
+    ensures { IfOk result (λ line. line ≡ command_of verb.now (map (λ arg. arg.now) args.now)) }
+{
+    if is_comment(verb) {
+        Ok(Line::Blank)
+    } else if verb == b"new".as_slice() {
+        new_line(alloc, args)
+    } else if verb == b"button".as_slice() {
+        button_line(alloc, args)
+    } else if verb == b"show".as_slice() {
+        show_line(alloc, args)
+    } else if verb == b"names".as_slice() {
+        Ok(names_line(args))
+    } else {
+        Ok(Line::Malformed)
+    }
+}
+
+/// What the bytes of a line say, where its carriage return is dropped already.
+pub fn read_line(alloc: Global, bytes: &[u8]) -> Result<Line, AllocError>
+    ensures { IfOk result (λ line. line ≡ line_of bytes.now) }
+{
+    if LINE_LIMIT < bytes.len() {
+        return Ok(Line::Malformed);
+    }
+    let words = words(alloc, bytes)?;
+    match words.split_first() {
+        Some((verb, args)) => command(alloc, verb, args),
+        None => Ok(Line::Blank),
+    }
+}

@@ -1,0 +1,24 @@
+//! The output, written whole or up to a failure.
+ghost use Rattle.std.specs.Prelude.{◌≡◌, ◌+◌, MatchResult, OnOk, OnErr};
+ghost use Rattle.std.specs.Io.KnownBytes.{Appends};
+ghost use Rattle.st_door.specs.Streams.{AppendsFront};
+
+use crate::failed::Failed;
+use crate::sink::Sink;
+
+/// Writes all of the bytes.
+///
+/// It ends at the first write that fails, and then some front of them is written.
+pub fn write_output<W: Sink>(writer: &mut W, bytes: &[u8]) -> Result<(), Failed>
+    ensures written { OnOk result (Appends (W.held writer.old) (W.held writer.new) bytes.now) }
+    ensures front { OnErr result (AppendsFront (W.held writer.old) (W.held writer.new) bytes.now) }
+    ensures failures { MatchResult result (λ _. W.failures writer.new ≡ W.failures writer.old)
+        (λ _. W.failures writer.new ≡ W.failures writer.old + 1) }
+{
+    let mut rest = bytes;
+    while !rest.is_empty() {
+        let count = writer.write(rest)?;
+        rest = &rest[count..];
+    }
+    Ok(())
+}

@@ -1,0 +1,48 @@
+//! What is printed.
+ghost use Rattle.std.specs.Prelude.{◌≡◌, IfOk, string_bytes};
+ghost use Rattle.st_door.specs.Printing.{state_name_of, status_text};
+ghost use Rattle.st_door.specs.Script.{printed_of};
+
+use crate::DoorState;
+use crate::reply::Reply;
+use crate::text::Text;
+use std::alloc::{AllocError, Global};
+
+/// The name of a state.
+fn state_name(state: DoorState) -> &'static str
+    ensures { result.now ≡ state_name_of state }
+{
+    match state {
+        DoorState::Locked => "locked",
+        DoorState::Open => "open",
+    }
+}
+
+/// The status of a door by its parts.
+pub(crate) fn status(
+    alloc: Global,
+    name: &str,
+    state: DoorState,
+    buttons: usize,
+    waiting: usize,
+) -> Result<String, AllocError>
+    ensures { IfOk result (λ text. string_bytes text ≡ status_text name.now state buttons waiting) }
+{
+    let state = state_name(state);
+    format!(in alloc; "{name} {state} buttons {buttons} waiting {waiting}\n")
+}
+
+/// What the line of a number prints.
+pub(crate) fn printed(alloc: Global, number: u64, reply: Reply) -> Result<Text, AllocError>
+    ensures { IfOk result (λ text. text ≡ printed_of number reply) }
+{
+    match reply {
+        Reply::Silent => Ok(Text::from(String::new(alloc))),
+        Reply::Printed(text) => Ok(text),
+        Reply::Refuses(refusal) => {
+            let refusal = refusal.number();
+            Ok(Text::from(format!(in alloc; "line {number} refused {refusal}\n")?))
+        }
+        Reply::Malformed => Ok(Text::from(format!(in alloc; "line {number} malformed\n")?)),
+    }
+}

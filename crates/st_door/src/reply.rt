@@ -1,0 +1,17 @@
+//! What a line of a script brings about.
+
+use crate::text::Text;
+use st_events::Refusal;
+
+/// What a line of a script brings about.
+#[derive(Debug, Drop)]
+pub enum Reply {
+    /// Nothing is printed.
+    Silent,
+    /// This is printed, line feed included.
+    Printed(Text),
+    /// The line is refused, and changes nothing.
+    Refuses(Refusal),
+    /// The line has no form.
+    Malformed,
+}

@@ -1,0 +1,81 @@
+//! A script as a whole: bytes in, bytes out, and a status.
+ghost use Rattle.std.specs.Prelude.{◌≡◌, IfOk, IfErr, IfSome, OnOk, OnErr, MatchResult, Err};
+ghost use Rattle.std.specs.Io.KnownBytes.{Appends, IsAtEnd, Keeps};
+ghost use Rattle.st_door.specs.Script.{DoesSome, is_fault, output_of, status_of_script};
+ghost use Rattle.st_door.specs.ScriptFault.{IsOfInput, read_failures_after, write_failures_after};
+ghost use Rattle.st_door.specs.Streams.{AppendsFront, ConsumesMoreThan};
+
+use crate::input::{INPUT_LIMIT, read_input};
+use crate::line::read_line;
+use crate::lines::{split_lines, without_return};
+use crate::output::write_output;
+use crate::printing::printed;
+use crate::reply::Reply;
+use crate::script::Script;
+use crate::{Mode, ScriptFault, Sink, Source};
+use std::alloc::Global;
+
+/// Whether a reply makes the script's status 1.
+fn is_fault(reply: &Reply) -> bool
+    ensures { result ≡ is_fault reply.now }
+{
+    matches!(reply, Reply::Refuses(_) | Reply::Malformed)
+}
+
+/// Does the lines of an input and writes what they print, line by line.
+fn run_input<W: Sink>(alloc: Global, input: &[u8], writer: &mut W) -> Result<u8, ScriptFault>
+    ensures status { IfOk result (λ status. status ≡ status_of_script input.now) }
+    ensures output { OnOk result (Appends (W.held writer.old) (W.held writer.new) (output_of input.now)) }
+
+    ensures faults { IfErr result (λ fault. IsOfInput fault → ⊥) }
+    ensures failures { MatchResult result (λ _. W.failures writer.new ≡ W.failures writer.old)
+        (λ fault. W.failures writer.new ≡ write_failures_after fault (W.failures writer.old)) }
+    ensures front { OnErr result (AppendsFront (W.held writer.old) (W.held writer.new) (output_of input.now)) }
+{
+    let lines = split_lines(alloc, input)?;
+    let mut script = Script::new(alloc);
+    let mut faulty = false;
+    for (index, bytes) in lines.iter().enumerate() {
+        let line = read_line(alloc, without_return(bytes))?;
+        let reply = script.obey(line)?;
+        faulty |= is_fault(&reply);
+        let text = printed(alloc, index as u64 + 1, reply)?;
+        write_output(writer, text.as_str().as_bytes())?;
+    }
+    Ok(if faulty { 1 } else { 0 })
+}
+
+/// Reads a script, does its lines and writes what they print. The answer is the status: 1 where a
+/// line was refused or malformed, else 0.
+///
+/// The whole input is read before the first line is done. The output is written line by line.
+pub fn run_script<R: Source, W: Sink>(
+    alloc: Global,
+    mode: Mode,
+    reader: &mut R,
+    writer: &mut W,
+) -> Result<u8, ScriptFault>
+    // The whole input was read, and status and output are the script's.
+    ensures status { IfOk result (λ status. IfSome (R.left reader.old) (λ input. status ≡ status_of_script input)) }
+    ensures output { OnOk result (IfSome (R.left reader.old) (λ input. Appends (W.held writer.old) (W.held writer.new) (output_of input))) }
+    ensures whole { OnOk result (IsAtEnd (R.left reader.new)) }
+
+    // So it is too where the reader's bytes are not known: then they are the script's of some input.
+    ensures some { IfOk result (λ status. DoesSome (R.left reader.old) (R.left reader.new) (W.held writer.old) (W.held writer.new) status) }
+
+    // When each fault comes: a read has failed, more was read than may be, a write has failed.
+    ensures read_failures { MatchResult result (λ _. R.failures reader.new ≡ R.failures reader.old)
+        (λ fault. R.failures reader.new ≡ read_failures_after fault (R.failures reader.old)) }
+    ensures too_long { result ≡ Err ScriptFault.TooLong → ConsumesMoreThan (R.left reader.old) (R.left reader.new) INPUT_LIMIT }
+    ensures write_failures { MatchResult result (λ _. W.failures writer.new ≡ W.failures writer.old)
+        (λ fault. W.failures writer.new ≡ write_failures_after fault (W.failures writer.old)) }
+
+    // What a fault leaves: a front of the output is written, and nothing where the input could not be had.
+    ensures front { OnErr result (IfSome (R.left reader.old) (λ input. AppendsFront (W.held writer.old) (W.held writer.new) (output_of input))) }
+    ensures unwritten { IfErr result (λ fault. IsOfInput fault → Keeps (W.held writer.old) (W.held writer.new)) }
+{
+    let input = read_input(alloc, reader)?;
+    match mode {
+        Mode::Run => run_input(alloc, input.as_slice(), writer),
+    }
+}

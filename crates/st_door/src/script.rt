@@ -1,0 +1,203 @@
+//! A script between two of its lines.
+ghost use Rattle.std.specs.Prelude.{◌≡◌, ◌≤◌, ◌<◌, ℕ, None, Ok, Err, IfOk, OnOk, IfNone, IfSome, length, slice_index_or, slice_set};
+ghost use Rattle.st_door.specs.Doors.{NamedDoor, SameLabels, door_limit, door_of, refusal_of, press_of, pressed_door};
+ghost use Rattle.st_door.specs.Printing.{status_of};
+ghost use Rattle.st_door.specs.Script.{first_script_state, step_of, with_start, door_start_of, rested_of};
+ghost use Rattle.st_door.specs.declared.reply.Reply.TheVariants.{Printed};
+ghost use Rattle.st_door.specs.declared.line.Line.TheVariants as line;
+
+use crate::doors::Doors;
+use crate::line::Line;
+use crate::reply::Reply;
+use crate::settling::run_until_idle;
+use crate::text::Text;
+use crate::{Digits, Door};
+use st_core::{Core, Start};
+use st_events::{MachineId, Refusal};
+use std::alloc::{AllocError, Global};
+use std::marker::Model;
+
+/// How many doors there may be.
+const DOOR_LIMIT: usize = 65_536;
+
+/// A script between two of its lines: its doors, its moment in milliseconds, and from which place up
+/// to which other a door may be ready. Between lines no other is.
+#[derive(Drop)]
+pub(crate) struct Script {
+    alloc: Global,
+    doors: Doors,
+    moment: u64,
+    from: usize,
+    until: usize,
+}
+
+impl Model for Script {
+    ghost use Rattle.std.specs.Prelude.{length};
+    ghost use Rattle.st_door.specs.Doors.{IsKept};
+    ghost use Rattle.st_door.specs.Script.{ScriptState};
+
+    ghost Value = { ScriptState };
+
+    ghost view = { λ script. record { doors = script.doors; moment = script.moment; started = length script.doors } };
+
+    ghost invariant = { λ script. IsKept script.doors script.from script.until };
+}
+
+impl Script {
+    /// A script before its first line.
+    pub(crate) fn new(alloc: Global) -> Script
+        ensures { result ≡ first_script_state }
+    {
+        Script {
+            alloc,
+            doors: Doors::new(alloc),
+            moment: 0,
+            from: 0,
+            until: 0,
+        }
+    }
+
+    /// Does what a line says, and answers what it brings about.
+    pub(crate) fn obey(&mut self, line: Line) -> Result<Reply, AllocError>
+        ensures reply { IfOk result (λ reply. reply ≡ (step_of self.old line).0) }
+        ensures script { OnOk result (self.new ≡ (step_of self.old line).1) }
+    {
+        match line {
+            Line::Blank => Ok(Reply::Silent),
+            Line::Malformed => Ok(Reply::Malformed),
+            Line::New { name, code } => self.obey_new(name, code),
+            Line::Button { name, digit } => self.obey_button(name.as_str(), digit),
+            Line::Show { name } => self.obey_show(name.as_str()),
+            Line::Names => self.obey_names(),
+        }
+    }
+
+    /// Starts a door under a name, and answers its status.
+    fn obey_new(&mut self, name: Text, code: Digits) -> Result<Reply, AllocError>
+        ensures reply { IfOk result (λ reply. reply ≡ (step_of self.old (line.New name code)).0) }
+        ensures script { OnOk result (self.new ≡ (step_of self.old (line.New name code)).1) }
+    {
+        if let Some(taken) = self.doors.place_of(name.as_str()) {
+            let id = self.doors.id_at(taken);
+            return Ok(Reply::Refuses(Refusal::AlreadyStarted(id)));
+        }
+        let place = self.doors.len();
+        if place >= DOOR_LIMIT {
+            return Ok(Reply::Refuses(Refusal::Full));
+        }
+        if let Some(refusal) = self.start_door(name, code)? {
+            return Ok(Reply::Refuses(refusal));
+        }
+        self.settle()?;
+        self.status_reply(place)
+    }
+
+    /// Presses a button of the door of a name, and answers its status.
+    fn obey_button(&mut self, name: &str, digit: u8) -> Result<Reply, AllocError>
+        ensures reply { IfOk result (λ reply. reply ≡ (step_of self.old (line.Button name.now digit)).0) }
+        ensures script { OnOk result (self.new ≡ (step_of self.old (line.Button name.now digit)).1) }
+    {
+        let Some(place) = self.doors.place_of(name) else {
+            return Ok(Reply::Refuses(Refusal::NoSuchName));
+        };
+        if let Some(refusal) = self.press(place, digit)? {
+            return Ok(Reply::Refuses(refusal));
+        }
+        self.settle()?;
+        self.status_reply(place)
+    }
+
+    /// Answers the status of the door of a name.
+    fn obey_show(&mut self, name: &str) -> Result<Reply, AllocError>
+        ensures reply { IfOk result (λ reply. reply ≡ (step_of self.old (line.Show name.now)).0) }
+        ensures script { OnOk result (self.new ≡ (step_of self.old (line.Show name.now)).1) }
+    {
+        let Some(place) = self.doors.place_of(name) else {
+            return Ok(Reply::Refuses(Refusal::NoSuchName));
+        };
+        self.settle()?;
+        self.status_reply(place)
+    }
+
+    /// Answers the names.
+    fn obey_names(&mut self) -> Result<Reply, AllocError>
+        ensures reply { IfOk result (λ reply. reply ≡ (step_of self.old line.Names).0) }
+        ensures script { OnOk result (self.new ≡ (step_of self.old line.Names).1) }
+    {
+        self.settle()?;
+        Ok(Reply::Printed(Text::from(self.doors.names(self.alloc)?)))
+    }
+
+    /// Starts a door under a name that is not taken, and answers why that is refused, if it is.
+    fn start_door(&mut self, name: Text, code: Digits) -> Result<Option<Refusal>, AllocError>
+        requires free { door_of name self.old.doors ≡ None }
+        requires room { length self.old.doors < door_limit }
+        ensures started { IfOk result (λ refusal. IfNone refusal (with_start self.old name (door_start_of self.old code) ≡ Ok self.new)) }
+        ensures refused { IfOk result (λ refusal. IfSome refusal (λ refusal. (with_start self.old name (door_start_of self.old code) ≡ Err refusal) × (self.new ≡ self.old))) }
+    {
+        let count = self.doors.len();
+        let id = MachineId {
+            slot: count,
+            serial: count as u64 + 1,
+        };
+        match Core::start(self.alloc, Door, id, &code, self.moment) {
+            Ok(Start::Running(core, _report)) => {
+                self.doors.push(name.into_string(), core)?;
+                Ok(None)
+            }
+            Ok(Start::Ignored) => unreachable!(),
+            Ok(Start::Stopped(_reason)) => unreachable!(),
+            Err(refused) => match refused.refusal {
+                Refusal::NoMemory => Err(AllocError),
+                refusal => Ok(Some(refusal)),
+            },
+        }
+    }
+
+    /// Presses a button of the door at a place, and answers why that is refused, if it is.
+    fn press(&mut self, place: usize, digit: u8) -> Result<Option<Refusal>, AllocError>
+        requires { place < length self.old.doors }
+        ensures refusal { IfOk result (λ refusal. (d : NamedDoor) → refusal ≡ refusal_of (press_of digit (slice_index_or self.old.doors place d)).0) }
+        ensures pressed { OnOk result ((d : NamedDoor) → self.new ≡ record self.old { doors = slice_set self.old.doors place (pressed_door digit (slice_index_or self.old.doors place d)) }) }
+    {
+        let refusal = self.doors.press_at(place, digit)?;
+        let (from, until) = widened(self.from, self.until, place);
+        self.from = from;
+        self.until = until;
+        Ok(refusal)
+    }
+
+    /// Makes turns until the doors rest.
+    fn settle(&mut self) -> Result<(), AllocError>
+        ensures rested { OnOk result (self.new ≡ rested_of self.old) }
+        ensures same_labels { OnOk result (SameLabels self.old.doors self.new.doors) }
+    {
+        let first = run_until_idle(&mut self.doors, self.from, self.until, self.moment)?;
+        self.from = first;
+        Ok(())
+    }
+
+    /// Answers the status of the door at a place.
+    fn status_reply(&self, place: usize) -> Result<Reply, AllocError>
+        requires { place < length self.now.doors }
+        ensures { IfOk result (λ reply. (d : NamedDoor) → reply ≡ Printed (status_of (slice_index_or self.now.doors place d))) }
+    {
+        let text = self.doors.status_at(self.alloc, place)?;
+        Ok(Reply::Printed(Text::from(text)))
+    }
+}
+
+/// The places from one up to another, and this place too.
+fn widened(from: usize, until: usize, place: usize) -> (usize, usize)
+    requires { place < door_limit }
+    ensures ordered { result.0 ≤ result.1 }
+    ensures place { (result.0 ≤ place) × (place < result.1) }
+    ensures wider { from < until → (result.0 ≤ from) × (until ≤ result.1) }
+    ensures narrow { (n : ℕ) → until ≤ n → place < n → result.1 ≤ n }
+{
+    if from < until {
+        (from.min(place), until.max(place + 1))
+    } else {
+        (place, place + 1)
+    }
+}

@@ -1,0 +1,241 @@
+//! The door's callbacks, called as a machine calls them, row by row.
+
+use super::calls::digits;
+use super::tell_refusals;
+use crate::{Door, DoorContent, DoorData, DoorState};
+use st_events::{Action, Init, Kind, MachineId, Module, Outcome, Tag, Timer};
+use std::alloc::{AllocError, Global};
+use std::process::Abort;
+
+/// What a callback answers to an event.
+type Handled<M> = Outcome<<M as Module>::State, <M as Module>::Data, <M as Module>::Content>;
+
+/// What a callback answers to a start.
+type Started<M> = Init<<M as Module>::State, <M as Module>::Data, <M as Module>::Content>;
+
+/// The answer to a start. A call that finds no memory is made again.
+fn started<M: Module>(alloc: Global, module: &M, arg: &M::Arg) -> Result<Started<M>, AllocError> {
+    match module.init(alloc, arg) {
+        Err(AllocError) => module.init(alloc, arg),
+        answer => answer,
+    }
+}
+
+/// The answer to an event. A call that finds no memory is made again.
+fn handled<M: Module>(
+    alloc: Global,
+    module: &M,
+    kind: Kind,
+    content: &M::Content,
+    state: M::State,
+    held: &M::Data,
+) -> Result<Handled<M>, AllocError> {
+    match module.handle(alloc, kind, content, state, held) {
+        Err(AllocError) => module.handle(alloc, kind, content, state, held),
+        answer => answer,
+    }
+}
+
+/// A copy of a content.
+fn copied_content<M: Module>(
+    alloc: Global,
+    module: &M,
+    content: &M::Content,
+) -> Result<M::Content, AllocError> {
+    match module.copy_content(alloc, content) {
+        Err(AllocError) => module.copy_content(alloc, content),
+        answer => answer,
+    }
+}
+
+/// A copy of the data.
+fn copied_data<M: Module>(
+    alloc: Global,
+    module: &M,
+    held: &M::Data,
+) -> Result<M::Data, AllocError> {
+    match module.copy_data(alloc, held) {
+        Err(AllocError) => module.copy_data(alloc, held),
+        answer => answer,
+    }
+}
+
+/// The code of each door here.
+const CODE: &[u8] = &[1, 2];
+
+/// A door's data with this code and these buttons.
+fn data_with(rt: &impl Abort, alloc: Global, buttons: &[u8]) -> DoorData {
+    DoorData {
+        code: digits(rt, alloc, CODE),
+        buttons: digits(rt, alloc, buttons),
+    }
+}
+
+/// What a door answers to an event, with these buttons pressed.
+fn answer(
+    rt: &impl Abort,
+    alloc: Global,
+    kind: Kind,
+    content: DoorContent,
+    state: DoorState,
+    buttons: &[u8],
+) -> Handled<Door> {
+    let held = data_with(rt, alloc, buttons);
+    handled(alloc, &Door, kind, &content, state, &held).expect(rt, "memory")
+}
+
+/// Sees that an outcome is a transition to a state, with these buttons and no action.
+fn goes_to(rt: &impl Abort, outcome: &Handled<Door>, state: DoorState, buttons: &[u8]) {
+    let Outcome::NextState(next, held, actions) = outcome else {
+        panic!(rt; "no next state");
+    };
+    assert_eq!(rt; *next, state);
+    assert_eq!(rt; held.code.as_slice(), CODE);
+    assert_eq!(rt; held.buttons.as_slice(), buttons);
+    assert!(rt; actions.as_slice().is_empty());
+}
+
+/// Sees that an outcome keeps state and data, with no action.
+fn stays(rt: &impl Abort, outcome: &Handled<Door>) {
+    let Outcome::KeepStateAndData(actions) = outcome else {
+        panic!(rt; "state or data may change");
+    };
+    assert!(rt; actions.as_slice().is_empty());
+}
+
+/// A request.
+const TAG: Tag = Tag {
+    machine: MachineId { slot: 3, serial: 4 },
+    request: 5,
+};
+
+#[test]
+fn a_door_begins_locked(rt: HostRuntime) {
+    let code = digits(&rt, rt.alloc(), CODE);
+    let begun = started(rt.alloc(), &Door, &code).expect(&rt, "memory");
+    let Init::Ok(state, held, actions) = begun else {
+        panic!(rt; "no door");
+    };
+    assert_eq!(rt; state, DoorState::Locked);
+    assert_eq!(rt; held.code.as_slice(), CODE);
+    assert_eq!(rt; held.buttons.len(), 0);
+    assert!(rt; actions.as_slice().is_empty());
+    tell_refusals(rt);
+}
+
+#[test]
+fn a_button_counts_while_the_door_is_locked(rt: HostRuntime) {
+    for (digit, before, state, after) in [
+        (1, [].as_slice(), DoorState::Locked, [1].as_slice()),
+        (2, [2].as_slice(), DoorState::Locked, [2, 2].as_slice()),
+        (9, [2, 1].as_slice(), DoorState::Locked, [1, 9].as_slice()),
+        (1, [3, 3].as_slice(), DoorState::Locked, [3, 1].as_slice()),
+        (2, [1].as_slice(), DoorState::Open, [].as_slice()),
+        (2, [3, 1].as_slice(), DoorState::Open, [].as_slice()),
+    ] {
+        let button = DoorContent::Button(digit);
+        let outcome = answer(
+            &rt,
+            rt.alloc(),
+            Kind::Cast,
+            button,
+            DoorState::Locked,
+            before,
+        );
+        goes_to(&rt, &outcome, state, after);
+    }
+    let button = DoorContent::Button(1);
+    let outcome = answer(&rt, rt.alloc(), Kind::Cast, button, DoorState::Open, &[]);
+    stays(&rt, &outcome);
+    tell_refusals(rt);
+}
+
+#[test]
+fn a_timeout_locks_the_door_or_forgets_its_buttons(rt: HostRuntime) {
+    for (timer, state) in [
+        (Timer::Event, DoorState::Locked),
+        (Timer::State, DoorState::Open),
+    ] {
+        let outcome = answer(
+            &rt,
+            rt.alloc(),
+            Kind::Timeout(timer),
+            DoorContent::Nothing,
+            state,
+            &[1],
+        );
+        goes_to(&rt, &outcome, DoorState::Locked, &[]);
+    }
+    for (timer, state) in [
+        (Timer::Event, DoorState::Open),
+        (Timer::State, DoorState::Locked),
+        (Timer::Named(0), DoorState::Locked),
+        (Timer::Named(1), DoorState::Open),
+    ] {
+        let outcome = answer(
+            &rt,
+            rt.alloc(),
+            Kind::Timeout(timer),
+            DoorContent::Nothing,
+            state,
+            &[1],
+        );
+        stays(&rt, &outcome);
+    }
+    tell_refusals(rt);
+}
+
+#[test]
+fn a_call_is_told_how_long_the_code_is(rt: HostRuntime) {
+    for state in [DoorState::Locked, DoorState::Open] {
+        let outcome = answer(
+            &rt,
+            rt.alloc(),
+            Kind::Call(TAG),
+            DoorContent::CodeLength,
+            state,
+            &[1],
+        );
+        let Outcome::KeepStateAndData(actions) = outcome else {
+            panic!(rt; "state or data may change");
+        };
+        let [Action::Reply(tag, content)] = actions.as_slice() else {
+            panic!(rt; "no reply");
+        };
+        assert_eq!(rt; *tag, TAG);
+        assert_eq!(rt; *content, DoorContent::Length(2));
+    }
+    tell_refusals(rt);
+}
+
+#[test]
+fn all_else_changes_nothing(rt: HostRuntime) {
+    for (kind, content) in [
+        (Kind::Call(TAG), DoorContent::Button(1)),
+        (Kind::Call(TAG), DoorContent::Length(1)),
+        (Kind::Call(TAG), DoorContent::Nothing),
+        (Kind::Cast, DoorContent::CodeLength),
+        (Kind::Cast, DoorContent::Length(1)),
+        (Kind::Cast, DoorContent::Nothing),
+        (Kind::Info, DoorContent::Button(1)),
+        (Kind::Internal, DoorContent::Button(1)),
+    ] {
+        for state in [DoorState::Locked, DoorState::Open] {
+            stays(&rt, &answer(&rt, rt.alloc(), kind, content, state, &[1]));
+        }
+    }
+    tell_refusals(rt);
+}
+
+#[test]
+fn copies_are_equal(rt: HostRuntime) {
+    for content in [DoorContent::Button(7), DoorContent::Length(16)] {
+        let copy = copied_content(rt.alloc(), &Door, &content);
+        assert_eq!(rt; copy.expect(&rt, "memory"), content);
+    }
+    let held = data_with(&rt, rt.alloc(), &[1]);
+    let copy = copied_data(rt.alloc(), &Door, &held).expect(&rt, "memory");
+    assert_eq!(rt; copy.code.as_slice(), CODE);
+    assert_eq!(rt; copy.buttons.as_slice(), [1].as_slice());
+    tell_refusals(rt);
+}

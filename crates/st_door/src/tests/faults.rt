@@ -1,0 +1,101 @@
+//! Reads, writes and allocations that fail.
+
+use super::streams::{Failure, PLAIN, Way, run, run_once};
+use super::tell_refusals;
+use crate::ScriptFault;
+use std::alloc::Global;
+use std::process::Abort;
+
+/// A script of 13 bytes.
+const SCRIPT: &[u8] = b"show a\nnames\n";
+
+/// Its output, of 23 bytes.
+const OUTPUT: &[u8] = b"line 1 refused 8\nnames\n";
+
+#[test]
+fn a_byte_at_a_time_is_the_same(rt: HostRuntime) {
+    let (answer, written) = run(rt.alloc(), SCRIPT, Way { most: 1, ..PLAIN });
+    assert_eq!(rt; answer, Ok(1));
+    assert_eq!(rt; written.as_slice(), OUTPUT);
+    tell_refusals(rt);
+}
+
+#[test]
+fn a_read_that_fails_ends_the_script_before_it_begins(rt: HostRuntime) {
+    // Four bytes a read: three full reads, one of a byte, and the end.
+    for read in 1..6 {
+        let way = Way {
+            most: 4,
+            failing_read: read,
+            ..PLAIN
+        };
+        let (answer, written) = run(rt.alloc(), SCRIPT, way);
+        assert_eq!(rt; answer, Err(ScriptFault::Read), "at read {read}");
+        assert!(rt; written.is_empty(), "at read {read}");
+    }
+    tell_refusals(rt);
+}
+
+/// Fails at each write in turn: four bytes a write, of 17 bytes five writes and of 6 bytes two.
+fn fail_writes(rt: &impl Abort, alloc: Global, failure: Failure) {
+    for (write, length) in [(1, 0), (2, 4), (3, 8), (4, 12), (5, 16), (6, 17), (7, 21)] {
+        let way = Way {
+            most: 4,
+            failing_write: write,
+            failure,
+            ..PLAIN
+        };
+        let (answer, written) = run(alloc, SCRIPT, way);
+        assert_eq!(rt; answer, Err(ScriptFault::Write), "at write {write}");
+        assert_eq!(rt; written.as_slice(), &OUTPUT[..length], "at write {write}");
+    }
+}
+
+#[test]
+fn a_write_that_fails_ends_the_script(rt: HostRuntime) {
+    fail_writes(&rt, rt.alloc(), Failure::Error);
+    tell_refusals(rt);
+}
+
+#[test]
+fn a_write_that_takes_nothing_ends_the_script(rt: HostRuntime) {
+    fail_writes(&rt, rt.alloc(), Failure::TakesNothing);
+    tell_refusals(rt);
+}
+
+#[test]
+fn no_memory_ends_the_script(rt: HostRuntime) {
+    let script = b"new a 1\nbutton a 1\nnames\n";
+    let output = "a locked buttons 0 waiting 0\na open buttons 0 waiting 0\nnames a\n".as_bytes();
+    let (answer, written) = run_once(rt.alloc(), script, PLAIN);
+    match answer {
+        Ok(status) => {
+            assert_eq!(rt; status, 0);
+            assert_eq!(rt; written.as_slice(), output);
+        }
+        Err(fault) => {
+            assert_eq!(rt; fault, ScriptFault::Memory);
+            assert!(rt; output.starts_with(written.as_slice()));
+        }
+    }
+    tell_refusals(rt);
+}
+
+/// Sees what text a fault has.
+fn has_text(rt: &impl Abort, alloc: Global, fault: ScriptFault, text: &str) {
+    for _ in 0..2 {
+        if let Ok(printed) = format!(in alloc; "{fault}") {
+            assert_eq!(rt; printed.as_str(), text);
+            return;
+        }
+    }
+}
+
+#[test]
+fn each_fault_has_its_text(rt: HostRuntime) {
+    has_text(&rt, rt.alloc(), ScriptFault::Read, "read fault");
+    has_text(&rt, rt.alloc(), ScriptFault::TooLong, "input too long");
+    has_text(&rt, rt.alloc(), ScriptFault::Write, "write fault");
+    has_text(&rt, rt.alloc(), ScriptFault::Memory, "no memory");
+    tell_refusals(rt);
+}

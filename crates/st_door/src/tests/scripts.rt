@@ -1,0 +1,156 @@
+//! Whole scripts, and what they print.
+
+use super::streams::prints;
+use super::tell_refusals;
+
+#[test]
+fn an_empty_script_prints_nothing(rt: HostRuntime) {
+    prints(&rt, rt.alloc(), b"", "", 0);
+    tell_refusals(rt);
+}
+
+#[test]
+fn the_code_opens_the_door(rt: HostRuntime) {
+    prints(
+        &rt,
+        rt.alloc(),
+        b"new front 12\nbutton front 1\nbutton front 2\n",
+        "front locked buttons 0 waiting 0\n\
+         front locked buttons 1 waiting 0\n\
+         front open buttons 0 waiting 0\n",
+        0,
+    );
+    tell_refusals(rt);
+}
+
+#[test]
+fn the_last_buttons_count(rt: HostRuntime) {
+    prints(
+        &rt,
+        rt.alloc(),
+        b"new a 12\nbutton a 3\nbutton a 1\nbutton a 2\n",
+        "a locked buttons 0 waiting 0\n\
+         a locked buttons 1 waiting 0\n\
+         a locked buttons 2 waiting 0\n\
+         a open buttons 0 waiting 0\n",
+        0,
+    );
+    tell_refusals(rt);
+}
+
+#[test]
+fn an_open_door_takes_no_button(rt: HostRuntime) {
+    prints(
+        &rt,
+        rt.alloc(),
+        b"new a 1\nbutton a 1\nbutton a 1\nshow a\n",
+        "a locked buttons 0 waiting 0\n\
+         a open buttons 0 waiting 0\n\
+         a open buttons 0 waiting 0\n\
+         a open buttons 0 waiting 0\n",
+        0,
+    );
+    tell_refusals(rt);
+}
+
+#[test]
+fn refused_and_malformed_lines_are_told_by_number(rt: HostRuntime) {
+    prints(
+        &rt,
+        rt.alloc(),
+        b"button back 1\nnew front 12\nnew front 34\npress front 1\n",
+        "line 1 refused 8\n\
+         front locked buttons 0 waiting 0\n\
+         line 3 refused 7\n\
+         line 4 malformed\n",
+        1,
+    );
+    tell_refusals(rt);
+}
+
+#[test]
+fn names_stand_in_order_of_registration(rt: HostRuntime) {
+    prints(
+        &rt,
+        rt.alloc(),
+        b"names\nnew b 1\nnew a 2\nnames\nshow b\nshow c\n",
+        "names\n\
+         b locked buttons 0 waiting 0\n\
+         a locked buttons 0 waiting 0\n\
+         names b a\n\
+         b locked buttons 0 waiting 0\n\
+         line 6 refused 8\n",
+        1,
+    );
+    tell_refusals(rt);
+}
+
+#[test]
+fn lines_without_words_and_comments_print_nothing(rt: HostRuntime) {
+    prints(
+        &rt,
+        rt.alloc(),
+        b"#\x00\t\xff no text\r\n\n  \r\n  # show a\n\r\n names \r\n\n#names\nnames",
+        "names\nnames\n",
+        0,
+    );
+    tell_refusals(rt);
+}
+
+#[test]
+fn what_has_no_form_is_malformed(rt: HostRuntime) {
+    prints(
+        &rt,
+        rt.alloc(),
+        b"new a 1\n\
+          button a +1\n\
+          new a\n\
+          show\ta\n\
+          show \xc3\xa4\n\
+          show a\xff\n\
+          at 5\n\
+          stop a 1\n\
+          length a\n\
+          remove a\n\
+          show a\r\r\n\
+          button a 12\n\
+          show A\n\
+          show 1\n\
+          names a\n\
+          Names\n",
+        "a locked buttons 0 waiting 0\n\
+         line 2 malformed\n\
+         line 3 malformed\n\
+         line 4 malformed\n\
+         line 5 malformed\n\
+         line 6 malformed\n\
+         line 7 malformed\n\
+         line 8 malformed\n\
+         line 9 malformed\n\
+         line 10 malformed\n\
+         line 11 malformed\n\
+         line 12 malformed\n\
+         line 13 malformed\n\
+         line 14 malformed\n\
+         line 15 malformed\n\
+         line 16 malformed\n",
+        1,
+    );
+    tell_refusals(rt);
+}
+
+#[test]
+fn a_malformed_line_changes_nothing(rt: HostRuntime) {
+    prints(
+        &rt,
+        rt.alloc(),
+        b"new a 12\nbutton a 1\nbutton a +2\nnew a 3\nbutton a 2\n",
+        "a locked buttons 0 waiting 0\n\
+         a locked buttons 1 waiting 0\n\
+         line 3 malformed\n\
+         line 4 refused 7\n\
+         a open buttons 0 waiting 0\n",
+        1,
+    );
+    tell_refusals(rt);
+}

@@ -1,0 +1,13 @@
+//! What a machine handles.
+
+use crate::Kind;
+
+/// An event. Its number comes from one counter of its machine, so it names the event for good.
+///
+/// Manual: `event_type()`, `event_content()`. Ours: docs/DECISIONS.md, Numbers of events.
+#[derive(Debug, Drop)]
+pub struct Event<C> {
+    pub number: u64,
+    pub kind: Kind,
+    pub content: C,
+}

@@ -1,0 +1,35 @@
+//! The words that all crates share: events, actions, outcomes, the callback trait, refusals.
+//! It knows nothing of any rule of the engine.
+#![tactic(auto)]
+
+mod action;
+mod event;
+mod init;
+mod kind;
+mod machine_id;
+mod module;
+mod outcome;
+mod plain_list;
+mod refusal;
+mod refused;
+mod small_list;
+mod tag;
+#[cfg(test)]
+mod tests;
+mod time;
+mod timer;
+
+pub use action::{Action, Actions};
+pub use event::Event;
+pub use init::Init;
+pub use kind::Kind;
+pub use machine_id::MachineId;
+pub use module::Module;
+pub use outcome::{Outcome, Reason};
+pub use plain_list::PlainList;
+pub use refusal::Refusal;
+pub use refused::Refused;
+pub use small_list::SmallList;
+pub use tag::Tag;
+pub use time::Time;
+pub use timer::Timer;

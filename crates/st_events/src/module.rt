@@ -1,0 +1,81 @@
+//! The callback module.
+ghost use Rattle.std.specs.Prelude.{◌≡◌, true, IfOk};
+ghost use Rattle.std.specs.Mem.{FitsInMemory};
+ghost use Rattle.st_events.specs.declared.kind.Kind.{Kind};
+ghost use Rattle.st_events.specs.declared.outcome.Outcome.{Outcome};
+ghost use Rattle.st_events.specs.declared.init.Init.{Init};
+ghost use Rattle.st_events.specs.contracts.outcome.Outcome.{the_row as outcome_row};
+ghost use Rattle.st_events.specs.contracts.init.Init.{the_row as init_row};
+
+use crate::{Init, Kind, Outcome};
+use std::alloc::{AllocError, Global};
+
+/// A callback module: what an embedder writes, and a machine runs.
+///
+/// Each call has a definition, its ghost member, which its answer must be; the one other answer is
+/// want of memory. So a callback is a function of what it is handed, and its effects are actions.
+///
+/// Manual: Callback Functions, in the callback mode `handle_event_function`.
+pub trait Module: Drop {
+    /// The state. Equality of states is equality of values.
+    type State: Copy + Eq + Drop + Send;
+
+    /// The data.
+    type Data: Drop + Send;
+
+    /// The content of events and of replies.
+    type Content: Drop + Send;
+
+    /// What a start is given.
+    type Arg: Drop + Send;
+
+    // What `init` answers to an argument.
+    ghost init_is: { Self → Self.Arg → Init Self.State Self.Data Self.Content };
+
+    // What `handle` answers to an event, in a state, with the data.
+    ghost handle_is: { Self → Kind → Self.Content → Self.State → Self.Data → Outcome Self.State Self.Data Self.Content };
+
+    /// Begins: the first state, data and actions, or that no machine starts.
+    ///
+    /// Manual: `Module:init/1`.
+    fn init(
+        &self,
+        alloc: Global,
+        arg: &Self::Arg,
+    ) -> Result<Init<Self::State, Self::Data, Self::Content>, AllocError>
+        ensures { IfOk result (λ outcome. outcome ≡ init_is self.now arg.now) };
+
+    /// Handles an event of a kind and a content, in a state, with the data.
+    ///
+    /// Manual: `Module:handle_event/4`.
+    fn handle(
+        &self,
+        alloc: Global,
+        kind: Kind,
+        content: &Self::Content,
+        state: Self::State,
+        data: &Self::Data,
+    ) -> Result<Outcome<Self::State, Self::Data, Self::Content>, AllocError>
+        ensures { IfOk result (λ outcome. outcome ≡ handle_is self.now kind content.now state «data».now) };
+
+    /// A copy of a content, equal to it.
+    fn copy_content(
+        &self,
+        alloc: Global,
+        content: &Self::Content,
+    ) -> Result<Self::Content, AllocError>
+        ensures { IfOk result (λ copy. copy ≡ content.now) };
+
+    /// A copy of the data, equal to it.
+    fn copy_data(&self, alloc: Global, data: &Self::Data) -> Result<Self::Data, AllocError>
+        ensures { IfOk result (λ copy. copy ≡ «data».now) };
+
+    // States that compare equal are one state.
+    ghost states_exact: { (a b : Self.State) → Self.State.eq a b ≡ true → a ≡ b };
+
+    // What `handle` answers fits in memory, with its inline actions.
+    ghost outcome_fits: { FitsInMemory (outcome_row Self.State.row Self.Data.row Self.Content.row) };
+
+    // What `init` answers fits in memory, with its inline actions.
+    ghost init_fits: { FitsInMemory (init_row Self.State.row Self.Data.row Self.Content.row) };
+}

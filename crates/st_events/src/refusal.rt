@@ -1,0 +1,47 @@
+//! Why a call is refused.
+ghost use Rattle.std.specs.Prelude.{◌≡◌};
+ghost use Rattle.st_events.specs.Refusal.{number_of};
+
+use crate::MachineId;
+use thiserror::Error;
+
+/// Why a call was refused. A refused call changes nothing, and gives back what it took.
+///
+/// Ours: docs/TRANSITIONS.md, Refusals.
+#[derive(Clone, Copy, Debug, PartialEq, Eq, Error)]
+pub enum Refusal {
+    /// Memory was wanted and there was none.
+    #[error("no memory")]
+    NoMemory,
+    /// A counter has too few numbers left.
+    #[error("too few numbers left")]
+    Exhausted,
+    /// The moment is 2^63 milliseconds or more.
+    #[error("moment out of range")]
+    Moment,
+    /// The name is taken by this machine.
+    #[error("name already taken")]
+    AlreadyStarted(MachineId),
+    /// The name is not registered.
+    #[error("no such name")]
+    NoSuchName,
+    /// There are as many machines as there may be.
+    #[error("table full")]
+    Full,
+}
+
+impl Refusal {
+    /// The refusal's number, by which scripts report it.
+    pub fn number(&self) -> u8
+        ensures { result ≡ number_of self.now }
+    {
+        match self {
+            Refusal::NoMemory => 1,
+            Refusal::Exhausted => 3,
+            Refusal::Moment => 4,
+            Refusal::AlreadyStarted(_) => 7,
+            Refusal::NoSuchName => 8,
+            Refusal::Full => 11,
+        }
+    }
+}

@@ -1,0 +1,116 @@
+//! Each call once with memory, and a list of actions while an allocation is refused.
+use crate::{Action, Actions, MachineId, PlainList, Refusal, SmallList, Tag};
+use std::alloc::Global;
+use std::process::Abort;
+
+const MACHINE: MachineId = MachineId { slot: 2, serial: 5 };
+
+/// Says so where no allocation of this test was refused: then one of those that follow is.
+fn tell_refusals(rt: HostRuntime) {
+    for _ in 0..10_000 {
+        if Box::new(rt.alloc(), 'x').is_err() {
+            let _ = println!(rt; "nothing was refused");
+            return;
+        }
+    }
+}
+
+/// A vector of two numbers. Where memory was refused, it is made again.
+fn pair(rt: &impl Abort, alloc: Global) -> Vec<u64> {
+    match [8, 9].to_vec(alloc) {
+        Ok(numbers) => numbers,
+        Err(_) => [8, 9]
+            .to_vec(alloc)
+            .expect(rt, "one allocation alone is refused"),
+    }
+}
+
+/// The text of a refusal. Where memory was refused, it is written again.
+fn text_of(rt: &impl Abort, alloc: Global, refusal: Refusal) -> String {
+    match format!(in alloc; "{refusal}") {
+        Ok(text) => text,
+        Err(_) => format!(in alloc; "{refusal}").expect(rt, "one allocation alone is refused"),
+    }
+}
+
+/// A reply to a request, with ten times its number.
+fn reply(request: u64) -> Action<u64> {
+    let tag = Tag {
+        machine: MACHINE,
+        request,
+    };
+    Action::Reply(tag, request.saturating_mul(10))
+}
+
+/// Says whether an action is that reply.
+fn is_reply(action: &Action<u64>, request: u64) -> bool {
+    match action {
+        Action::Reply(tag, content) => {
+            *tag == Tag {
+                machine: MACHINE,
+                request,
+            } && *content == request.saturating_mul(10)
+        }
+        Action::Hibernate => false,
+    }
+}
+
+/// Looks that a list has the replies to the requests 0, 1, .., and no others.
+fn has_replies(rt: &impl Abort, actions: &Actions<u64>, count: usize) {
+    assert_eq!(rt; actions.as_slice().len(), count);
+    for (action, request) in actions.as_slice().iter().zip(0..6) {
+        assert!(rt; is_reply(action, request), "at {request}");
+    }
+}
+
+#[test]
+fn each_call_answers(rt: HostRuntime) {
+    let mut short = SmallList::new(rt.alloc());
+    assert_eq!(rt; short.as_slice(), [].as_slice());
+    assert!(rt; short.push(6).is_ok());
+    assert!(rt; short.push(4).is_ok());
+    assert_eq!(rt; short.as_slice(), [6, 4].as_slice());
+
+    let none: PlainList<u64> = PlainList::new(rt.alloc());
+    assert_eq!(rt; none.as_slice(), [].as_slice());
+    let two = PlainList::from(pair(&rt, rt.alloc()));
+    assert_eq!(rt; two.as_slice(), [8, 9].as_slice());
+    assert_eq!(rt; two.into_vec().as_slice(), [8, 9].as_slice());
+
+    let action: Action<u64> = Action::default();
+    assert!(rt; matches!(action, Action::Hibernate));
+    tell_refusals(rt);
+}
+
+#[test]
+fn refusals_have_numbers_and_texts(rt: HostRuntime) {
+    for (refusal, number, text) in [
+        (Refusal::NoMemory, 1, "no memory"),
+        (Refusal::Exhausted, 3, "too few numbers left"),
+        (Refusal::Moment, 4, "moment out of range"),
+        (Refusal::AlreadyStarted(MACHINE), 7, "name already taken"),
+        (Refusal::NoSuchName, 8, "no such name"),
+        (Refusal::Full, 11, "table full"),
+    ] {
+        assert_eq!(rt; refusal.number(), number);
+        assert_eq!(rt; text_of(&rt, rt.alloc(), refusal).as_str(), text);
+    }
+    tell_refusals(rt);
+}
+
+#[test]
+fn a_refused_push_changes_nothing(rt: HostRuntime) {
+    let mut actions: Actions<u64> = SmallList::new(rt.alloc());
+    for request in 0..6 {
+        let count = actions.as_slice().len();
+        if let Err(failed) = actions.push(reply(request)) {
+            // Four actions lie in the list itself.
+            assert!(rt; count >= 4);
+            assert!(rt; is_reply(&failed.value, request));
+            has_replies(&rt, &actions, count);
+            assert!(rt; actions.push(failed.value).is_ok());
+        }
+        has_replies(&rt, &actions, count + 1);
+    }
+    tell_refusals(rt);
+}

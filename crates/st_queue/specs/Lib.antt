@@ -1,0 +1,2 @@
+-- What contracts see of the pending events.
+pub mod Queue

@@ -1,0 +1,7 @@
+use Rattle.statem.proofs.main.Given as goal
+
+abbrev pub ghosts-done-A-Ledger : goal.ghosts-done-A-Ledger
+ghosts-done-A-Ledger a = record { name = a.reads.name; parts = a.reads.parts }
+
+abbrev pub ghosts-done-B-Ledger : goal.ghosts-done-B-Ledger
+ghosts-done-B-Ledger a = record { name = a.writes.name; parts = a.writes.parts }
