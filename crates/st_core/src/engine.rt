@@ -50,6 +50,8 @@ impl<M: Module> Model for Core<M> {
 
 impl<M: Module> Core<M> {
     /// Says whether there is an event that a turn would handle.
+    ///
+    /// Ours: docs/TRANSITIONS.md, Next event.
     pub fn is_ready(&self) -> bool
         ensures { result ≡ is_ready_of self.now.machine }
     {
@@ -57,6 +59,8 @@ impl<M: Module> Core<M> {
     }
 
     /// The machine's id.
+    ///
+    /// Ours: docs/DECISIONS.md, Ids.
     pub fn id(&self) -> MachineId
         ensures { result ≡ self.now.machine.id }
     {
@@ -64,6 +68,8 @@ impl<M: Module> Core<M> {
     }
 
     /// The state.
+    ///
+    /// Manual: `state()`.
     pub fn state(&self) -> M::State
         ensures { result ≡ self.now.machine.state }
     {
@@ -71,6 +77,8 @@ impl<M: Module> Core<M> {
     }
 
     /// The data.
+    ///
+    /// Manual: `data()`.
     pub fn data(&self) -> &M::Data
         ensures { result.now ≡ self.now.machine.data }
     {
@@ -78,6 +86,8 @@ impl<M: Module> Core<M> {
     }
 
     /// The latest moment that the machine has seen, in milliseconds.
+    ///
+    /// Ours: docs/DECISIONS.md, Moments.
     pub fn latest(&self) -> u64
         ensures latest { result ≡ self.now.machine.latest }
         ensures within { result < 2 ^ 63 }
@@ -86,6 +96,8 @@ impl<M: Module> Core<M> {
     }
 
     /// How many accepted events are not finished.
+    ///
+    /// Manual: `event_handler_result()`; ours: docs/TRANSITIONS.md, Next event.
     pub fn waiting(&self) -> usize
         ensures { result ≡ waiting_of self.now.machine }
     {

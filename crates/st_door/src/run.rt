@@ -49,6 +49,12 @@ fn run_input<W: Sink>(alloc: Global, input: &[u8], writer: &mut W) -> Result<u8,
 /// line was refused or malformed, else 0.
 ///
 /// The whole input is read before the first line is done. The output is written line by line.
+///
+/// `Read`: a read failed. `TooLong`: the input has more than 1,048,576 bytes. After these nothing was
+/// written. `Write`: a write failed or took no bytes. `Memory`: memory was wanted and there was none.
+/// After these what was written is a front of the output.
+///
+/// Ours: docs/SCRIPTS.md.
 pub fn run_script<R: Source, W: Sink>(
     alloc: Global,
     mode: Mode,

@@ -59,6 +59,8 @@ pub trait Module: Drop {
         ensures { IfOk result (λ outcome. outcome ≡ handle_is self.now kind content.now state «data».now) };
 
     /// A copy of a content, equal to it.
+    ///
+    /// Ours: docs/DECISIONS.md, Copies.
     fn copy_content(
         &self,
         alloc: Global,
@@ -67,6 +69,8 @@ pub trait Module: Drop {
         ensures { IfOk result (λ copy. copy ≡ content.now) };
 
     /// A copy of the data, equal to it.
+    ///
+    /// Ours: docs/DECISIONS.md, Copies.
     fn copy_data(&self, alloc: Global, data: &Self::Data) -> Result<Self::Data, AllocError>
         ensures { IfOk result (λ copy. copy ≡ «data».now) };
 

@@ -1,50 +1,65 @@
 //! The list, its cursor from 0 to the list's length, and the calls that read and change them.
-ghost use Rattle.std.specs.Prelude.{◌≡◌, ◌↔◌, ◌≤◌, [], length, option_copied, IsTrue, IsNone, IfNone, IfErr, OnOk, OnErr, OnSome};
-ghost use Rattle.st_queue.specs.Queue.{current, with_pushed, without_current, with_skipped, rewound};
+ghost use Rattle.std.specs.Prelude.{◌≡◌, ◌↔◌, ◌<◌, ◌≤◌, [], length, max, option_copied, IsTrue, IsNone, IsOk, IfNone, IfErr, OnOk, OnErr, OnSome};
+ghost use Rattle.st_queue.specs.Queue.{current, with_pushed, without_current, with_skipped, rewound, with_staged, with_inserted, with_pushed_staged};
 
-use std::alloc::{AllocFailed, Global};
+use std::alloc::{AllocError, AllocFailed, Global};
 use std::marker::Model;
 
 /// A list of events, and a cursor that stands before one of them or at the end.
 ///
 /// The events before the cursor were passed over by `skip`. They stay in the list, and `rewind` turns back to them.
+///
+/// `stage` makes nodes ready for events that come later. The calls `insert_staged` and `push_staged` use them and cannot
+/// fail; no other call does. Only `push_back` and `stage` take memory.
+///
+/// Manual: `transition_option()` and `postpone()`, on the event queue and the events that are put off.
 #[derive(Drop)]
 pub struct EventQueue<E> {
     list: Vec<E>,
     // How many events stand before the cursor.
     at: usize,
+    // How many nodes are ready: the list has room for so many events more.
+    ready: usize,
 }
 
 impl<E> Model for EventQueue<E> {
-    ghost use Rattle.std.specs.Prelude.{◌≤◌, length};
+    ghost use Rattle.std.specs.Prelude.{◌+◌, ◌≤◌, length};
+    ghost use Rattle.std.specs.Vec.{vec_capacity};
     ghost use Rattle.st_queue.specs.Queue.{Queue};
 
     ghost Value = { Queue E };
 
-    ghost view = { λ queue. record { items = queue.list.items; cursor = queue.at } };
+    ghost view = { λ queue. record { items = queue.list.items; cursor = queue.at; staged = queue.ready } };
 
-    ghost invariant = { λ queue. queue.at ≤ length queue.list.items };
+    ghost invariant = { λ queue. (queue.at ≤ length queue.list.items) × (length queue.list.items + queue.ready ≤ vec_capacity queue.list) };
 }
 
 impl<E> EventQueue<E> {
-    /// Makes a queue with no event. It takes no memory yet.
+    /// Makes a queue with no event and no node ready. It takes no memory yet.
     pub fn new(alloc: Global) -> EventQueue<E>
         ensures items { result.items ≡ [] }
         ensures cursor { result.cursor ≡ 0 }
+        ensures staged { result.staged ≡ 0 }
     {
         EventQueue {
             list: Vec::new(alloc),
             at: 0,
+            ready: 0,
         }
     }
 
-    /// Puts an event at the end. It alone takes memory: where there is none, it gives the event back.
+    /// Puts an event at the end, in memory of its own: the nodes that are ready stay ready.
+    ///
+    /// Where there is no memory, it gives the event back.
     pub fn push_back(&mut self, event: E) -> Result<(), AllocFailed<E>>
         ensures pushed { OnOk result (self.new ≡ with_pushed self.old event) }
 
         ensures unchanged { OnErr result (self.new ≡ self.old) }
-        ensures value { IfErr result (λ failed. failed.value ≡ event) }
+        ensures value_returned { IfErr result (λ failed. failed.value ≡ event) }
     {
+        if self.list.reserve(self.ready + 1).is_err() {
+            return Err(AllocFailed { value: event });
+        }
         self.list.push(event)
     }
 
@@ -116,5 +131,52 @@ impl<E> EventQueue<E> {
         ensures within { self.now.cursor ≤ length self.now.items }
     {
         self.at
+    }
+
+    /// Says how many nodes are ready for `insert_staged` and `push_staged`.
+    pub fn staged(&self) -> usize
+        ensures staged { result ≡ self.now.staged }
+    {
+        self.ready
+    }
+}
+
+// The list's own insert hands an event back where it finds no memory. Here that never comes, yet the event has to be `Drop`.
+impl<E: Drop> EventQueue<E> {
+    /// Makes the nodes that are lacking, so that `count` events can come in by calls that cannot fail.
+    ///
+    /// Where so many are ready, it makes none and takes no memory.
+    pub fn stage(&mut self, count: usize) -> Result<(), AllocError>
+        ensures staged { OnOk result (self.new ≡ with_staged self.old (max self.old.staged count)) }
+
+        ensures enough { count ≤ self.old.staged → IsOk result }
+        ensures unchanged { OnErr result (self.new ≡ self.old) }
+    {
+        if self.ready < count {
+            self.list.reserve(count)?;
+            self.ready = count;
+        }
+        Ok(())
+    }
+
+    /// Puts an event at the cursor, on a node that is ready. The event that stood there comes after it.
+    ///
+    /// It cannot fail, and the cursor then stands before the new event.
+    pub fn insert_staged(&mut self, event: E)
+        requires { 0 < self.old.staged }
+        ensures inserted { self.new ≡ with_inserted self.old event }
+    {
+        self.ready -= 1;
+        let inserted = self.list.insert(self.at, event);
+        prove!(inserted.is_ok());
+    }
+
+    /// Puts an event at the end, on a node that is ready. It cannot fail.
+    pub fn push_staged(&mut self, event: E)
+        requires { 0 < self.old.staged }
+        ensures pushed { self.new ≡ with_pushed_staged self.old event }
+    {
+        self.ready -= 1;
+        self.list.push_reserved(event);
     }
 }

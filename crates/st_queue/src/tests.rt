@@ -2,16 +2,33 @@
 use crate::EventQueue;
 use std::process::Abort;
 
+/// All that can be read of a queue without a change to it.
+fn readable(queue: &EventQueue<char>) -> (usize, bool, usize, usize, Option<char>) {
+    (
+        queue.len(),
+        queue.is_empty(),
+        queue.before(),
+        queue.staged(),
+        queue.peek().copied(),
+    )
+}
+
 /// Pushes an event. A push that finds no memory changes nothing that can be read, and is made again.
 fn push(rt: &impl Abort, queue: &mut EventQueue<char>, event: char) {
-    let (len, before, current) = (queue.len(), queue.before(), queue.peek().copied());
+    let before = readable(queue);
     if let Err(failed) = queue.push_back(event) {
         assert_eq!(rt; failed.value, event);
-        assert_eq!(rt; queue.len(), len);
-        assert_eq!(rt; queue.is_empty(), len == 0);
-        assert_eq!(rt; queue.before(), before);
-        assert_eq!(rt; queue.peek().copied(), current);
+        assert_eq!(rt; readable(queue), before);
         assert!(rt; queue.push_back(event).is_ok());
+    }
+}
+
+/// Stages nodes. A call that finds no memory changes nothing that can be read, and is made again.
+fn stage(rt: &impl Abort, queue: &mut EventQueue<char>, count: usize) {
+    let before = readable(queue);
+    if queue.stage(count).is_err() {
+        assert_eq!(rt; readable(queue), before);
+        assert!(rt; queue.stage(count).is_ok());
     }
 }
 
@@ -30,6 +47,7 @@ fn tell_refusals(rt: HostRuntime) {
 fn each_call_answers(rt: HostRuntime) {
     let mut queue = EventQueue::new(rt.alloc());
     assert!(rt; queue.is_empty());
+    assert_eq!(rt; queue.staged(), 0);
     for event in ['a', 'b', 'c', 'd', 'e'] {
         push(&rt, &mut queue, event);
     }
@@ -37,24 +55,41 @@ fn each_call_answers(rt: HostRuntime) {
     assert_eq!(rt; queue.skip(), Some(()));
     assert_eq!(rt; queue.remove(), Some('c'));
     assert_eq!(rt; queue.before(), 2);
+    stage(&rt, &mut queue, 2);
+    assert_eq!(rt; queue.staged(), 2);
+    queue.insert_staged('y');
+    queue.insert_staged('x');
+    assert_eq!(rt; queue.before(), 2);
+    assert_eq!(rt; queue.peek().copied(), Some('x'));
+    assert_eq!(rt; queue.staged(), 0);
     queue.rewind();
     assert_eq!(rt; queue.peek().copied(), Some('a'));
     assert_eq!(rt; queue.before(), 0);
-    assert_eq!(rt; queue.len(), 4);
+    assert_eq!(rt; queue.len(), 6);
     assert!(rt; !queue.is_empty());
-    for _ in 0..4 {
+    stage(&rt, &mut queue, 2);
+    push(&rt, &mut queue, 'f');
+    assert_eq!(rt; queue.staged(), 2);
+    assert_eq!(rt; queue.skip(), Some(()));
+    queue.push_staged('g');
+    assert_eq!(rt; queue.before(), 1);
+    assert_eq!(rt; queue.staged(), 1);
+    queue.rewind();
+    for event in ['a', 'b', 'x', 'y', 'd', 'e', 'f', 'g'] {
+        assert_eq!(rt; queue.peek().copied(), Some(event));
         assert_eq!(rt; queue.skip(), Some(()));
     }
     assert_eq!(rt; queue.peek().copied(), None);
     assert_eq!(rt; queue.remove(), None);
     assert_eq!(rt; queue.skip(), None);
-    assert_eq!(rt; queue.before(), 4);
-    assert_eq!(rt; queue.len(), 4);
+    assert_eq!(rt; queue.before(), 8);
+    assert_eq!(rt; queue.len(), 8);
+    assert_eq!(rt; queue.staged(), 1);
     tell_refusals(rt);
 }
 
 #[test]
-fn a_refused_push_changes_nothing(rt: HostRuntime) {
+fn a_refused_call_changes_nothing(rt: HostRuntime) {
     let mut queue = EventQueue::new(rt.alloc());
     // The first push takes memory, and so does each that finds 4 or 8 events.
     for event in ['a', 'b', 'c', 'd'] {
@@ -79,5 +114,34 @@ fn a_refused_push_changes_nothing(rt: HostRuntime) {
         assert_eq!(rt; queue.remove(), Some(event));
     }
     assert!(rt; queue.is_empty());
+    tell_refusals(rt);
+}
+
+#[test]
+fn a_staged_event_takes_no_memory(rt: HostRuntime) {
+    let mut queue = EventQueue::new(rt.alloc());
+    stage(&rt, &mut queue, 3);
+    // A smaller count makes no node and takes none away.
+    stage(&rt, &mut queue, 1);
+    assert_eq!(rt; queue.staged(), 3);
+    // Each push that takes memory keeps the room of the three.
+    for event in ['a', 'b', 'c', 'd', 'e', 'f'] {
+        push(&rt, &mut queue, event);
+        assert_eq!(rt; queue.staged(), 3);
+    }
+    stage(&rt, &mut queue, 20);
+    for _ in 0..10 {
+        assert!(rt; queue.staged() > 1);
+        queue.insert_staged('x');
+        queue.push_staged('y');
+    }
+    assert_eq!(rt; queue.staged(), 0);
+    assert_eq!(rt; queue.before(), 0);
+    assert_eq!(rt; queue.len(), 26);
+    for event in [
+        'x', 'x', 'x', 'x', 'x', 'x', 'x', 'x', 'x', 'x', 'a', 'b', 'c', 'd', 'e', 'f', 'y',
+    ] {
+        assert_eq!(rt; queue.remove(), Some(event));
+    }
     tell_refusals(rt);
 }
