@@ -1,3 +1,6 @@
--- Lemmas on runs, and the definitions computed on examples.
+-- Lemmas on the events that wait, on turns, starts and runs, and the definitions computed on examples.
+pub mod PendingLemmas
 pub mod RunLemmas
+pub mod StartLemmas
+pub mod TransitionLemmas
 pub mod WorkedExamples

@@ -1,19 +1,17 @@
--- The definitions computed on examples, whole answers in order. The module is a table: state, data
--- and contents are numbers, the first state is 0 and the data 7; content 3 leads to state 1, content
--- 4 to the data 9, every other content changes nothing.
-use Rattle.std.proofs.Common.{◌≡◌, ℕ, ◌==◌, if◌then◌else◌, Some, None, Result, Ok, Err, List, [], ◌∷◌, false, refl, inr}
+-- The definitions computed on examples, whole answers in order and the whole machine in the end.
+use Rattle.std.proofs.Common.{◌≡◌, ℕ, ◌+◌, ◌==◌, Some, None, Result, Ok, Err, List, [], ◌∷◌, true, false, refl, inr}
+use Rattle.st_events.specs.declared.event.Event.{Event}
 use Rattle.st_events.specs.declared.kind.Kind.{Kind}
 use Rattle.st_events.specs.declared.kind.Kind.TheVariants as kind
 use Rattle.st_events.specs.declared.machine_id.MachineId.{MachineId}
-use Rattle.st_events.specs.declared.outcome.Outcome.{Outcome}
-use Rattle.st_events.specs.declared.outcome.Outcome.TheVariants.{NextState, KeepState, KeepStateAndData}
-use Rattle.st_events.specs.declared.init.Init.{Init}
-use Rattle.st_events.specs.declared.init.Init.TheVariants as init
+use Rattle.st_events.specs.declared.refusal.Refusal.{Refusal}
 use Rattle.st_events.specs.declared.refusal.Refusal.TheVariants.{NoMemory, Exhausted, Moment}
+use Rattle.st_events.specs.declared.refusal.Refusal.TheVariants as refusal
 use Rattle.st_events.specs.declared.refused.Refused.{Refused}
 use Rattle.st_core.specs.declared.entry.Entry.TheVariants.{Cast, Info}
-use Rattle.st_core.specs.declared.call.Call.TheVariants.{Handle}
-use Rattle.st_core.specs.declared.done.Done.TheVariants.{Started, Finished}
+use Rattle.st_core.specs.declared.call.Call.TheVariants.{Handle, Terminate}
+use Rattle.st_core.specs.declared.done.Done.{Done}
+use Rattle.st_core.specs.declared.done.Done.TheVariants.{Started, Finished, PutOff, Ended}
 use Rattle.st_core.specs.declared.report.Report.{Report}
 use Rattle.st_core.specs.declared.start.Start.{Start}
 use Rattle.st_core.specs.declared.start.Start.TheVariants.{Running, Ignored, Stopped}
@@ -22,128 +20,441 @@ use Rattle.st_core.specs.declared.command.Command.{Command}
 use Rattle.st_core.specs.declared.command.Command.TheVariants as command
 use Rattle.st_core.specs.declared.answer.Answer.{Answer}
 use Rattle.st_core.specs.declared.answer.Answer.TheVariants as answer
-use Rattle.st_core.specs.MachineState.{MachineState}
+use Rattle.st_core.specs.MachineState.{Item, Received, Posted, MachineState}
 use Rattle.st_core.specs.Callbacks.{Callbacks}
-use Rattle.st_core.specs.Start.{start_of}
+use Rattle.st_core.specs.Choice.{is_ready_of, waiting_of}
+use Rattle.st_core.specs.Start.{start_of, start_refused, Starts}
+use Rattle.st_core.specs.Stop.{stop_of}
 use Rattle.st_core.specs.Run.{takes_memory, step_of, Runs}
+use Rattle.st_core.specs.WorkedTable.{handled_by_table, begun_by_table}
 use Rattle.st_core.proofs.RunLemmas.{runs_with_memory}
 
-abbrev handled_by_table : Kind → ℕ → ℕ → ℕ → Outcome ℕ ℕ ℕ
-handled_by_table kind content state held =
-    if content == 3 then NextState 1 held [] else (if content == 4 then KeepState 9 [] else KeepStateAndData [])
-
 abbrev table : Callbacks ℕ ℕ ℕ
-table = record { handle_is = handled_by_table }
+table = record {
+  handle_is = λ kind content state held. handled_by_table content state held;
+  terminate_is = λ reason state held. held;
+  same_state = λ state other. state == other;
+}
 
 abbrev id : MachineId
 id = record { slot = 0; serial = 1 }
 
--- a machine with nothing pending: its state and data, the latest moment and the next number
+-- a machine in which nothing waits: its state and data, the latest moment and the next number
 abbrev at_rest : ℕ → ℕ → ℕ → ℕ → MachineState ℕ ℕ ℕ
-at_rest state held latest next = record { id = id; state = state; «data» = held; pending = []; latest = latest; next = next }
+at_rest state held latest next = record {
+  id = id;
+  state = state;
+  «data» = held;
+  pending = [];
+  postponed = [];
+  latest = latest;
+  next = next;
+  ended = None;
+}
 
--- the report of a cast that was finished
-abbrev finished : ℕ → ℕ → ℕ → Report ℕ
-finished number before after = record {
+-- the machine of most examples, before its first event
+abbrev fresh : MachineState ℕ ℕ ℕ
+fresh = at_rest 0 7 0 1
+
+-- a machine that has ended
+abbrev at_end : MachineState ℕ ℕ ℕ → ℕ → ℕ → MachineState ℕ ℕ ℕ
+at_end machine reason word = record machine { ended = Some (reason, word) }
+
+abbrev cast_event : ℕ → ℕ → Event ℕ
+cast_event number content = record { number = number; kind = kind.Cast; content = content }
+
+-- the report of an event, by how it ended and with the numbers of what was inserted
+abbrev report : ℕ → Kind → ℕ → ℕ → Done → List ℕ → Report ℕ
+report number kind before after done inserted = record {
   event = Some number;
-  done = Finished;
-  calls = Handle number kind.Cast before ∷ [];
+  done = done;
+  calls = Handle number kind before ∷ [];
   before = before;
   after = after;
   replied = [];
-  inserted = [];
+  inserted = inserted;
   set = [];
 }
 
 abbrev cast : ℕ → Command ℕ
 cast content = command.Post Cast content
 
+abbrev turn : ℕ → Command ℕ
+turn now = command.Turn now
+
 abbrev posted : ℕ → Answer ℕ ℕ
 posted number = answer.Post (Ok number)
+
+abbrev not_posted : Refusal → ℕ → Answer ℕ ℕ
+not_posted refusal content = answer.Post (Err (record { refusal = refusal; value = content }))
 
 abbrev reported : Report ℕ → Answer ℕ ℕ
 reported report = answer.Turn (Ok (Reported report))
 
+-- an event of a kind is finished, and nothing is inserted
+abbrev finished_as : Kind → ℕ → ℕ → ℕ → Answer ℕ ℕ
+finished_as kind number before after = reported (report number kind before after Finished [])
+
+-- a cast is finished, and nothing is inserted
+abbrev finished : ℕ → ℕ → ℕ → Answer ℕ ℕ
+finished number before after = finished_as kind.Cast number before after
+
+-- a cast is postponed, and events are inserted
+abbrev put_off : ℕ → ℕ → ℕ → List ℕ → Answer ℕ ℕ
+put_off number before after inserted = reported (report number kind.Cast before after PutOff inserted)
+
+-- at a cast in the first state the machine ends for the reason 9, with a word
+abbrev ended : ℕ → ℕ → Answer ℕ ℕ
+ended number word = reported (record (report number kind.Cast 0 0 (Ended 9 word) []) {
+  calls = Handle number kind.Cast 0 ∷ Terminate 9 0 word ∷ [];
+})
+
 abbrev idle : Answer ℕ ℕ
 idle = answer.Turn (Ok Idle)
+
+abbrev not_turned : Refusal → Answer ℕ ℕ
+not_turned refusal = answer.Turn (Err refusal)
 
 -- two casts, of which the first changes the state, and three turns: the casts come in the order in
 -- which they were posted, and then there is none; an earlier moment counts as the latest
 abbrev casts_and_turns : List (Command ℕ)
-casts_and_turns = cast 3 ∷ cast 5 ∷ command.Turn 20 ∷ command.Turn 10 ∷ command.Turn 30 ∷ []
+casts_and_turns = cast 3 ∷ cast 5 ∷ turn 20 ∷ turn 10 ∷ turn 30 ∷ []
 
-two_casts : Runs table (at_rest 0 7 0 1) casts_and_turns
-    (posted 1 ∷ posted 2 ∷ reported (finished 1 0 1) ∷ reported (finished 2 1 1) ∷ idle ∷ [])
+two_casts : Runs table fresh casts_and_turns
+    (posted 1 ∷ posted 2 ∷ finished 1 0 1 ∷ finished 2 1 1 ∷ idle ∷ [])
     (at_rest 1 7 30 3)
-two_casts = runs_with_memory table (at_rest 0 7 0 1) casts_and_turns
+two_casts = runs_with_memory table fresh casts_and_turns
 
--- an info that keeps everything, and a cast that keeps the state and gives new data
+-- an info that keeps both, with a reply that no request waits for and a hibernation, and a cast that
+-- keeps the state and gives new data
 abbrev info_and_cast : List (Command ℕ)
-info_and_cast = command.Post Info 5 ∷ cast 4 ∷ command.Turn 0 ∷ command.Turn 0 ∷ []
+info_and_cast = command.Post Info 5 ∷ cast 4 ∷ turn 0 ∷ turn 0 ∷ []
 
-data_changes : Runs table (at_rest 0 7 0 1) info_and_cast
-    (posted 1 ∷ posted 2
-    ∷ reported (record (finished 1 0 0) { calls = Handle 1 kind.Info 0 ∷ [] })
-    ∷ reported (finished 2 0 0) ∷ [])
+data_changes : Runs table fresh info_and_cast
+    (posted 1 ∷ posted 2 ∷ finished_as kind.Info 1 0 0 ∷ finished 2 0 0 ∷ [])
     (at_rest 0 9 0 3)
-data_changes = runs_with_memory table (at_rest 0 7 0 1) info_and_cast
+data_changes = runs_with_memory table fresh info_and_cast
 
 -- the last number is given, and the next post is refused and gives its content back
 abbrev last_number : MachineState ℕ ℕ ℕ
 last_number = at_rest 0 7 0 9223372036854775807
 
 abbrev two_posts : List (Command ℕ)
-two_posts = cast 5 ∷ cast 6 ∷ command.Turn 0 ∷ command.Turn 0 ∷ []
+two_posts = cast 5 ∷ cast 6 ∷ turn 0 ∷ turn 0 ∷ []
 
 numbers_end : Runs table last_number two_posts
-    (posted 9223372036854775807 ∷ answer.Post (Err (record { refusal = Exhausted; value = 6 }))
-    ∷ reported (finished 9223372036854775807 0 0) ∷ idle ∷ [])
+    (posted 9223372036854775807 ∷ not_posted Exhausted 6 ∷ finished 9223372036854775807 0 0 ∷ idle ∷ [])
     (at_rest 0 7 0 9223372036854775808)
 numbers_end = runs_with_memory table last_number two_posts
 
 -- moments end too: a refused turn does not raise the latest moment, with an event or without
 abbrev late_turns : List (Command ℕ)
-late_turns = command.Turn 9223372036854775808 ∷ cast 3 ∷ command.Turn 9223372036854775808 ∷ command.Turn 9223372036854775807 ∷ []
+late_turns = turn 9223372036854775808 ∷ cast 3 ∷ turn 9223372036854775808 ∷ turn 9223372036854775807 ∷ []
 
-moments_end : Runs table (at_rest 0 7 0 1) late_turns
-    (answer.Turn (Err Moment) ∷ posted 1 ∷ answer.Turn (Err Moment) ∷ reported (finished 1 0 1) ∷ [])
+moments_end : Runs table fresh late_turns
+    (not_turned Moment ∷ posted 1 ∷ not_turned Moment ∷ finished 1 0 1 ∷ [])
     (at_rest 1 7 9223372036854775807 2)
-moments_end = runs_with_memory table (at_rest 0 7 0 1) late_turns
+moments_end = runs_with_memory table fresh late_turns
 
 -- a post that finds no memory gives its content back and takes no number; an idle turn never does
-no_memory : Runs table (at_rest 0 7 0 1)
+no_memory : Runs table fresh
     (cast 5 ∷ cast 6 ∷ [])
-    (answer.Post (Err (record { refusal = NoMemory; value = 5 })) ∷ posted 1 ∷ [])
-    (record (at_rest 0 7 0 2) { pending = record { number = 1; kind = kind.Cast; content = 6 } ∷ [] })
-no_memory = (at_rest 0 7 0 1, inr (refl, refl, refl), runs_with_memory table (at_rest 0 7 0 1) (cast 6 ∷ []))
+    (not_posted NoMemory 5 ∷ posted 1 ∷ [])
+    (record (at_rest 0 7 0 2) { pending = Posted (cast_event 1 6) ∷ [] })
+no_memory = (fresh, inr (refl, refl, refl), runs_with_memory table fresh (cast 6 ∷ []))
 
-idle_takes_no_memory : takes_memory (step_of table (at_rest 0 7 0 1) (command.Turn 0)).0 ≡ false
+idle_takes_no_memory : takes_memory (step_of table fresh (turn 0)).0 ≡ false
 idle_takes_no_memory = refl
 
--- starts: running with a report, ignored, stopped, and refused at the first moment out of range
-abbrev started : Result (Start ℕ ℕ ℕ ℕ ℕ) (Refused ℕ)
-started = start_of 50 id (init.Ok 0 7 []) 12 1
+-- two casts are postponed, the third changes the state, and then all come in the order in which they
+-- were posted, before the fourth
+abbrev posts_and_turns : List (Command ℕ)
+posts_and_turns =
+    cast 10 ∷ cast 10 ∷ cast 3 ∷ cast 0
+    ∷ turn 0 ∷ turn 0 ∷ turn 0 ∷ turn 0 ∷ turn 0 ∷ turn 0 ∷ turn 0 ∷ []
 
-start_runs : started ≡ Ok (Running (record { module_ = 50; machine = at_rest 0 7 12 1 }) (record {
+postponed_casts_keep_their_places : Runs table fresh posts_and_turns
+    (posted 1 ∷ posted 2 ∷ posted 3 ∷ posted 4
+    ∷ put_off 1 0 0 [] ∷ put_off 2 0 0 [] ∷ finished 3 0 1
+    ∷ finished 1 1 1 ∷ finished 2 1 1 ∷ finished 4 1 1 ∷ idle ∷ [])
+    (at_rest 1 7 0 5)
+postponed_casts_keep_their_places = runs_with_memory table fresh posts_and_turns
+
+-- while they are postponed, they keep their places and their numbers
+abbrev first_turns : List (Command ℕ)
+first_turns = cast 10 ∷ cast 10 ∷ cast 3 ∷ cast 0 ∷ turn 0 ∷ turn 0 ∷ []
+
+casts_are_postponed : Runs table fresh first_turns
+    (posted 1 ∷ posted 2 ∷ posted 3 ∷ posted 4 ∷ put_off 1 0 0 [] ∷ put_off 2 0 0 [] ∷ [])
+    (record (at_rest 0 7 0 5) {
+      pending = Received (cast_event 1 10) ∷ Received (cast_event 2 10) ∷ Posted (cast_event 3 3) ∷ Posted (cast_event 4 0) ∷ [];
+      postponed = 1 ∷ 2 ∷ [];
+    })
+casts_are_postponed = runs_with_memory table fresh first_turns
+
+-- a machine with one event postponed, and another that was posted
+abbrev one_postponed : ℕ → MachineState ℕ ℕ ℕ
+one_postponed content = record (at_rest 0 7 0 3) {
+  pending = Received (cast_event 1 10) ∷ Posted (cast_event 2 content) ∷ [];
+  postponed = 1 ∷ [];
+}
+
+abbrev first_of_two : ℕ → List (Command ℕ)
+first_of_two content = cast 10 ∷ cast content ∷ turn 0 ∷ []
+
+one_is_postponed : Runs table fresh (first_of_two 11)
+    (posted 1 ∷ posted 2 ∷ put_off 1 0 0 [] ∷ [])
+    (one_postponed 11)
+one_is_postponed = runs_with_memory table fresh (first_of_two 11)
+
+abbrev six_turns : List (Command ℕ)
+six_turns = turn 0 ∷ turn 0 ∷ turn 0 ∷ turn 0 ∷ turn 0 ∷ turn 0 ∷ []
+
+abbrev retried_after_inserted : List (Answer ℕ ℕ)
+retried_after_inserted =
+    put_off 2 0 1 (3 ∷ 4 ∷ [])
+    ∷ finished_as kind.Internal 3 1 1 ∷ finished 4 1 1 ∷ finished 1 1 1 ∷ finished 2 1 1 ∷ idle ∷ []
+
+-- the second changes the state, is postponed itself and inserts two events: these come first, and then
+-- the two that were postponed
+inserted_come_before_retried : Runs table fresh (cast 10 ∷ cast 11 ∷ turn 0 ∷ six_turns)
+    (posted 1 ∷ posted 2 ∷ put_off 1 0 0 [] ∷ retried_after_inserted)
+    (at_rest 1 7 0 5)
+inserted_come_before_retried = runs_with_memory table fresh (cast 10 ∷ cast 11 ∷ turn 0 ∷ six_turns)
+
+-- right after the second turn
+inserted_are_placed : Runs table (one_postponed 11) (turn 0 ∷ [])
+    (put_off 2 0 1 (3 ∷ 4 ∷ []) ∷ [])
+    (record (at_rest 1 7 0 5) {
+      pending = Received (record { number = 3; kind = kind.Internal; content = 20 }) ∷ Received (cast_event 4 21)
+          ∷ Received (cast_event 1 10) ∷ Received (cast_event 2 11) ∷ [];
+    })
+inserted_are_placed = runs_with_memory table (one_postponed 11) (turn 0 ∷ [])
+
+-- a growth of the second turn is refused: the machine is as it was, and the turn tried again
+-- answers the same
+refused_growth : Runs table (one_postponed 11) (turn 0 ∷ six_turns)
+    (not_turned NoMemory ∷ retried_after_inserted)
+    (at_rest 1 7 0 5)
+refused_growth = (one_postponed 11, inr (refl, refl, refl), runs_with_memory table (one_postponed 11) six_turns)
+
+-- the same where both are kept: the two that are postponed go on waiting, the inserted ones come
+abbrev five_turns : List (Command ℕ)
+five_turns = turn 0 ∷ turn 0 ∷ turn 0 ∷ turn 0 ∷ turn 0 ∷ []
+
+postponed_stay_without_a_change : Runs table fresh (cast 10 ∷ cast 12 ∷ five_turns)
+    (posted 1 ∷ posted 2 ∷ put_off 1 0 0 [] ∷ put_off 2 0 0 (3 ∷ 4 ∷ [])
+    ∷ finished_as kind.Internal 3 0 0 ∷ finished 4 0 0 ∷ idle ∷ [])
+    (record (at_rest 0 7 0 5) {
+      pending = Received (cast_event 1 10) ∷ Received (cast_event 2 12) ∷ [];
+      postponed = 1 ∷ 2 ∷ [];
+    })
+postponed_stay_without_a_change = runs_with_memory table fresh (cast 10 ∷ cast 12 ∷ five_turns)
+
+-- events are inserted behind the postponed ones and before those that were posted
+inserted_stand_behind_postponed : Runs table (one_postponed 12) (cast 0 ∷ turn 0 ∷ [])
+    (posted 3 ∷ put_off 2 0 0 (4 ∷ 5 ∷ []) ∷ [])
+    (record (at_rest 0 7 0 6) {
+      pending = Received (cast_event 1 10) ∷ Received (cast_event 2 12)
+          ∷ Received (record { number = 4; kind = kind.Internal; content = 20 }) ∷ Received (cast_event 5 21)
+          ∷ Posted (cast_event 3 0) ∷ [];
+      postponed = 1 ∷ 2 ∷ [];
+    })
+inserted_stand_behind_postponed = runs_with_memory table (one_postponed 12) (cast 0 ∷ turn 0 ∷ [])
+
+-- a NextState with the same state is no state change, and retries nothing
+the_same_state_retries_nothing : Runs table (one_postponed 9) (turn 0 ∷ turn 0 ∷ [])
+    (finished 2 0 0 ∷ idle ∷ [])
+    (record (at_rest 0 7 0 3) { pending = Received (cast_event 1 10) ∷ []; postponed = 1 ∷ [] })
+the_same_state_retries_nothing = runs_with_memory table (one_postponed 9) (turn 0 ∷ turn 0 ∷ [])
+
+-- of several Postpone actions the last decides, both ways
+abbrev two_lists : List (Command ℕ)
+two_lists = cast 13 ∷ cast 14 ∷ turn 0 ∷ turn 0 ∷ turn 0 ∷ []
+
+the_last_postpone_decides : Runs table fresh two_lists
+    (posted 1 ∷ posted 2 ∷ put_off 1 0 0 [] ∷ finished 2 0 0 ∷ idle ∷ [])
+    (record (at_rest 0 7 0 3) { pending = Received (cast_event 1 13) ∷ []; postponed = 1 ∷ [] })
+the_last_postpone_decides = runs_with_memory table fresh two_lists
+
+-- inserted events come before posted ones, whether these were posted before the insertion or after it
+abbrev posts_round_inserts : List (Command ℕ)
+posts_round_inserts =
+    cast 7 ∷ cast 0 ∷ turn 0 ∷ cast 0 ∷ turn 0 ∷ turn 0 ∷ turn 0 ∷ turn 0 ∷ turn 0 ∷ []
+
+inserted_come_before_posted : Runs table fresh posts_round_inserts
+    (posted 1 ∷ posted 2 ∷ reported (report 1 kind.Cast 0 0 Finished (3 ∷ 4 ∷ [])) ∷ posted 5
+    ∷ finished_as kind.Internal 3 0 0 ∷ finished 4 0 0 ∷ finished 2 0 0 ∷ finished 5 0 0 ∷ idle ∷ [])
+    (at_rest 0 7 0 6)
+inserted_come_before_posted = runs_with_memory table fresh posts_round_inserts
+
+-- what an inserted event inserts comes before what was inserted with it
+abbrev nested_inserts : List (Command ℕ)
+nested_inserts = cast 8 ∷ turn 0 ∷ turn 0 ∷ turn 0 ∷ turn 0 ∷ turn 0 ∷ turn 0 ∷ []
+
+inserted_come_before_inserted : Runs table fresh nested_inserts
+    (posted 1 ∷ reported (report 1 kind.Cast 0 0 Finished (2 ∷ 3 ∷ []))
+    ∷ reported (report 2 kind.Internal 0 0 Finished (4 ∷ 5 ∷ []))
+    ∷ finished_as kind.Internal 4 0 0 ∷ finished 5 0 0 ∷ finished 3 0 0 ∷ idle ∷ [])
+    (at_rest 0 7 0 6)
+inserted_come_before_inserted = runs_with_memory table fresh nested_inserts
+
+-- a stop from outside acts at once, while an event is postponed and others wait; from then on all is
+-- refused with its reason, also at a moment out of range
+abbrev stop_and_more : List (Command ℕ)
+stop_and_more =
+    cast 10 ∷ cast 0 ∷ cast 0 ∷ turn 5 ∷ command.Stop 9
+    ∷ cast 6 ∷ turn 8 ∷ turn 9223372036854775808 ∷ command.Stop 4 ∷ []
+
+stopped_from_outside : Runs table fresh stop_and_more
+    (posted 1 ∷ posted 2 ∷ posted 3 ∷ put_off 1 0 0 [] ∷ answer.Stop (Ok 7)
+    ∷ not_posted (refusal.Stopped 9) 6 ∷ not_turned (refusal.Stopped 9) ∷ not_turned (refusal.Stopped 9)
+    ∷ answer.Stop (Err (refusal.Stopped 9)) ∷ [])
+    (at_end (at_rest 0 7 5 4) 9 7)
+stopped_from_outside = runs_with_memory table fresh stop_and_more
+
+-- a machine is ready where it runs and an event is not postponed; once it has ended nothing waits
+posted_is_ready : is_ready_of (one_postponed 0) ≡ true
+posted_is_ready = refl
+
+abbrev only_postponed : MachineState ℕ ℕ ℕ
+only_postponed = record (at_rest 0 7 0 2) { pending = Received (cast_event 1 10) ∷ []; postponed = 1 ∷ [] }
+
+postponed_is_not_ready : is_ready_of only_postponed ≡ false
+postponed_is_not_ready = refl
+
+postponed_waits : waiting_of only_postponed ≡ 1
+postponed_waits = refl
+
+ended_is_not_ready : is_ready_of (stop_of table (one_postponed 0) 9).1 ≡ false
+ended_is_not_ready = refl
+
+nothing_waits_at_the_end : waiting_of (stop_of table (one_postponed 0) 9).1 ≡ 0
+nothing_waits_at_the_end = refl
+
+-- a stop takes no memory
+stop_takes_no_memory : takes_memory (step_of table (one_postponed 0) (command.Stop 9)).0 ≡ false
+stop_takes_no_memory = refl
+
+-- a machine that has ended says so also where no number is left
+abbrev post_stop_post : List (Command ℕ)
+post_stop_post = cast 0 ∷ command.Stop 9 ∷ cast 6 ∷ []
+
+stopped_before_exhausted : Runs table last_number post_stop_post
+    (posted 9223372036854775807 ∷ answer.Stop (Ok 7) ∷ not_posted (refusal.Stopped 9) 6 ∷ [])
+    (at_end (at_rest 0 7 0 9223372036854775808) 9 7)
+stopped_before_exhausted = runs_with_memory table last_number post_stop_post
+
+-- a callback stops, with the old data and with new ones, and with a reply: what waits is dropped, and
+-- the word is that of the data after it
+abbrev stopping : ℕ → List (Command ℕ)
+stopping content = cast 10 ∷ cast content ∷ cast 0 ∷ turn 5 ∷ turn 6 ∷ turn 8 ∷ command.Stop 4 ∷ []
+
+abbrev stopping_answers : ℕ → List (Answer ℕ ℕ)
+stopping_answers word =
+    posted 1 ∷ posted 2 ∷ posted 3 ∷ put_off 1 0 0 [] ∷ ended 2 word
+    ∷ not_turned (refusal.Stopped 9) ∷ answer.Stop (Err (refusal.Stopped 9)) ∷ []
+
+stopped_with_old_data : Runs table fresh (stopping 15) (stopping_answers 7) (at_end (at_rest 0 7 6 4) 9 7)
+stopped_with_old_data = runs_with_memory table fresh (stopping 15)
+
+stopped_with_new_data : Runs table fresh (stopping 16) (stopping_answers 8) (at_end (at_rest 0 8 6 4) 9 8)
+stopped_with_new_data = runs_with_memory table fresh (stopping 16)
+
+stopped_with_a_reply : Runs table fresh (stopping 17) (stopping_answers 8) (at_end (at_rest 0 8 6 4) 9 8)
+stopped_with_a_reply = runs_with_memory table fresh (stopping 17)
+
+-- a turn that inserts two events where one number is left: it is refused and all is as it was, the
+-- latest moment included; a moment out of range is told first; the last number can still be given
+abbrev one_number_too_few : MachineState ℕ ℕ ℕ
+one_number_too_few = at_rest 0 7 3 9223372036854775806
+
+abbrev too_many_inserts : List (Command ℕ)
+too_many_inserts = cast 7 ∷ turn 20 ∷ turn 9223372036854775808 ∷ turn 30 ∷ cast 0 ∷ turn 40 ∷ []
+
+inserts_need_numbers : Runs table one_number_too_few too_many_inserts
+    (posted 9223372036854775806 ∷ not_turned Exhausted ∷ not_turned Moment ∷ not_turned Exhausted
+    ∷ posted 9223372036854775807 ∷ not_turned Exhausted ∷ [])
+    (record (at_rest 0 7 3 9223372036854775808) {
+      pending = Posted (cast_event 9223372036854775806 7) ∷ Posted (cast_event 9223372036854775807 0) ∷ [];
+    })
+inserts_need_numbers = runs_with_memory table one_number_too_few too_many_inserts
+
+-- where two are left, they are the last
+abbrev numbers_enough : MachineState ℕ ℕ ℕ
+numbers_enough = at_rest 0 7 3 9223372036854775805
+
+abbrev last_inserts : List (Command ℕ)
+last_inserts = cast 7 ∷ turn 20 ∷ cast 6 ∷ turn 20 ∷ turn 20 ∷ turn 20 ∷ []
+
+the_last_numbers_are_inserted : Runs table numbers_enough last_inserts
+    (posted 9223372036854775805
+    ∷ reported (report 9223372036854775805 kind.Cast 0 0 Finished (9223372036854775806 ∷ 9223372036854775807 ∷ []))
+    ∷ not_posted Exhausted 6
+    ∷ finished_as kind.Internal 9223372036854775806 0 0 ∷ finished 9223372036854775807 0 0 ∷ idle ∷ [])
+    (at_rest 0 7 20 9223372036854775808)
+the_last_numbers_are_inserted = runs_with_memory table numbers_enough last_inserts
+
+-- starts: running with a report, ignored, stopped, and refused at the first moment out of range
+abbrev started : ℕ → ℕ → ℕ → Result (Start ℕ ℕ ℕ ℕ ℕ) (Refused ℕ)
+started arg now first = start_of 50 id (begun_by_table arg) now first
+
+abbrev start_report : List ℕ → Report ℕ
+start_report inserted = record {
   event = None;
   done = Started;
   calls = [];
   before = 0;
   after = 0;
   replied = [];
-  inserted = [];
+  inserted = inserted;
   set = [];
-}))
+}
+
+start_runs : started 0 12 1 ≡ Ok (Running (record { module_ = 50; machine = at_rest 0 7 12 1 }) (start_report []))
 start_runs = refl
 
-abbrev started_with : Init ℕ ℕ ℕ → ℕ → Result (Start ℕ ℕ ℕ ℕ ℕ) (Refused ℕ)
-started_with outcome now = start_of 50 id outcome now 1
-
-start_stops : started_with (init.Stop 4) 9223372036854775807 ≡ Ok (Stopped 4)
+start_stops : started 4 9223372036854775807 1 ≡ Ok (Stopped 4)
 start_stops = refl
 
-start_ignored : started_with init.Ignore 0 ≡ Ok Ignored
+start_ignored : started 1 0 1 ≡ Ok Ignored
 start_ignored = refl
 
-start_refused : started_with (init.Stop 4) 9223372036854775808 ≡ Err (record { refusal = Moment; value = 50 })
-start_refused = refl
+start_too_late : started 4 9223372036854775808 1 ≡ Err (record { refusal = Moment; value = 50 })
+start_too_late = refl
+
+-- a start whose actions insert two events, which get numbers from the first one on; its Postpone is
+-- ignored
+abbrev two_received : ℕ → List (Item ℕ)
+two_received first =
+    Received (record { number = first; kind = kind.Internal; content = 20 }) ∷ Received (cast_event (first + 1) 21) ∷ []
+
+start_inserts : started 3 12 5
+    ≡ Ok (Running (record { module_ = 50; machine = record (at_rest 0 7 12 7) { pending = two_received 5 } }) (start_report (5 ∷ 6 ∷ [])))
+start_inserts = refl
+
+-- they come before what is posted
+abbrev after_start : List (Command ℕ)
+after_start = cast 0 ∷ turn 0 ∷ turn 0 ∷ turn 0 ∷ turn 0 ∷ []
+
+inserted_at_the_start_come_first : Runs table (record (at_rest 0 7 12 7) { pending = two_received 5 }) after_start
+    (posted 7 ∷ finished_as kind.Internal 5 0 0 ∷ finished 6 0 0 ∷ finished 7 0 0 ∷ idle ∷ [])
+    (at_rest 0 7 12 8)
+inserted_at_the_start_come_first = runs_with_memory table (record (at_rest 0 7 12 7) { pending = two_received 5 }) after_start
+
+-- such a start needs two numbers; a moment out of range is told first
+start_takes_the_last_numbers : started 3 12 9223372036854775806
+    ≡ Ok (Running
+    (record { module_ = 50; machine = record (at_rest 0 7 12 9223372036854775808) { pending = two_received 9223372036854775806 } })
+    (start_report (9223372036854775806 ∷ 9223372036854775807 ∷ [])))
+start_takes_the_last_numbers = refl
+
+start_without_numbers : started 3 12 9223372036854775807 ≡ Err (record { refusal = Exhausted; value = 50 })
+start_without_numbers = refl
+
+start_too_late_without_numbers : started 3 9223372036854775808 9223372036854775807 ≡ Err (record { refusal = Moment; value = 50 })
+start_too_late_without_numbers = refl
+
+-- want of memory may come before want of numbers, for `init` is called first
+start_without_memory : Starts 50 (start_refused 50 NoMemory) (started 3 12 9223372036854775807)
+start_without_memory = inr (refl, refl)

@@ -11,14 +11,15 @@ use Rattle.st_core.specs.declared.answer.Answer.{Answer}
 use Rattle.st_core.specs.declared.answer.Answer.TheVariants as answer
 use Rattle.st_core.specs.MachineState.{MachineState}
 use Rattle.st_core.specs.Callbacks.{Callbacks}
-use Rattle.st_core.specs.Transition.{turn_of}
+use Rattle.st_core.specs.Transition.{turn_of, comes_after_callbacks}
+use Rattle.st_core.specs.Stop.{stop_of}
 use Rattle.st_core.specs.Post.{post_of}
 
--- a turn takes memory where there is an event to handle
+-- a turn takes memory where there is an event to handle, also where too few numbers are left
 abbrev pub turn_takes_memory : {S : Type 0} → Result (Turned S) Refusal → Bool
 turn_takes_memory (Ok (Reported report)) = true
 turn_takes_memory (Ok Idle) = false
-turn_takes_memory (Err refusal) = false
+turn_takes_memory (Err refusal) = comes_after_callbacks refusal
 
 -- a post takes memory where it is not refused
 abbrev pub post_takes_memory : {C : Type 0} → Result ℕ (Refused C) → Bool
@@ -38,11 +39,13 @@ module _ {S C : Type 0} where
   abbrev pub takes_memory : Answer S C → Bool
   takes_memory (answer.Post posted) = post_takes_memory posted
   takes_memory (answer.Turn turned) = turn_takes_memory turned
+  takes_memory (answer.Stop stopped) = false
 
   -- what a command answers that found no memory
   abbrev pub without_memory : Command C → Answer S C
   without_memory (command.Post entry content) = answer.Post (post_without_memory content)
   without_memory (command.Turn now) = answer.Turn turn_without_memory
+  without_memory (command.Stop reason) = answer.Stop (Err NoMemory)
 
 -- the answer and the machine after are those of the definition; or the definition's answer takes
 -- memory, there was none, the answer says so, and the machine is as it was
@@ -58,6 +61,8 @@ module _ {S D C : Type 0} where
       (answer.Post (post_of machine entry content).0, (post_of machine entry content).1)
   step_of callbacks machine (command.Turn now) =
       (answer.Turn (turn_of callbacks machine now).0, (turn_of callbacks machine now).1)
+  step_of callbacks machine (command.Stop reason) =
+      (answer.Stop (stop_of callbacks machine reason).0, (stop_of callbacks machine reason).1)
 
   -- these are the answers to these commands, one after another, and this is the machine in the end
   abbrev pub Runs : Callbacks S D C → MachineState S D C → List (Command C) → List (Answer S C) → MachineState S D C → Type 0

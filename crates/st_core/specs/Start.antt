@@ -1,26 +1,31 @@
 -- A machine starts.
-use Rattle.std.specs.Prelude.{◌≡◌, ℕ, ◌^◌, ◌⊎◌, true, Result, Ok, Err, None, [], is_ok, nat_lt, if◌then◌else◌}
+use Rattle.std.specs.Prelude.{◌≡◌, ℕ, ◌^◌, ◌⊎◌, Bool, true, false, Result, Ok, Err, None, List, [], nat_lt, if◌then◌else◌}
 use Rattle.st_events.specs.declared.machine_id.MachineId.{MachineId}
+use Rattle.st_events.specs.declared.action.Action.{Action}
 use Rattle.st_events.specs.declared.init.Init.{Init}
 use Rattle.st_events.specs.declared.init.Init.TheVariants as init
 use Rattle.st_events.specs.declared.refused.Refused.{Refused}
-use Rattle.st_events.specs.declared.refusal.Refusal.TheVariants.{NoMemory, Moment}
+use Rattle.st_events.specs.declared.refusal.Refusal.{Refusal}
+use Rattle.st_events.specs.declared.refusal.Refusal.TheVariants.{NoMemory, Exhausted, Moment}
+use Rattle.st_actions.specs.Plan.{inserts_of}
 use Rattle.st_core.specs.declared.done.Done.TheVariants.{Started}
 use Rattle.st_core.specs.declared.report.Report.{Report}
 use Rattle.st_core.specs.declared.start.Start.{Start}
 use Rattle.st_core.specs.declared.start.Start.TheVariants.{Running, Ignored, Stopped}
+use Rattle.st_core.specs.Items.{numbers_of, numbered}
 use Rattle.st_core.specs.MachineState.{MachineState}
+use Rattle.st_core.specs.Transition.{with_inserted, has_numbers, comes_after_callbacks}
 
--- what a start reports: no event, and `init`'s state before and after it
-abbrev pub start_report_of : {S : Type 0} → S → Report S
-start_report_of state = record {
+-- what a start reports: no event, `init`'s state before and after it, and what was inserted
+abbrev pub start_report_of : {S : Type 0} → S → List ℕ → Report S
+start_report_of state inserted = record {
   event = None;
   done = Started;
   calls = [];
   before = state;
   after = state;
   replied = [];
-  inserted = [];
+  inserted = inserted;
   set = [];
 }
 
@@ -31,28 +36,45 @@ first_state id state held now first = record {
   state = state;
   «data» = held;
   pending = [];
+  postponed = [];
   latest = now;
   next = first;
+  ended = None;
 }
 
 module _ {M S D C A : Type 0} where
+  -- a refused start gives the module back
+  abbrev pub start_refused : M → Refusal → Result (Start M S D C A) (Refused M)
+  start_refused module_ refusal = Err (record { refusal = refusal; value = module_ })
+
+  -- a machine runs that does what the actions of `init` ask for; a Postpone is ignored
+  abbrev pub started_with : M → MachineState S D C → List (Action C) → Result (Start M S D C A) (Refused M)
+  started_with module_ machine actions =
+      if has_numbers machine actions
+      then Ok (Running
+      (record { module_ = module_; machine = with_inserted machine (inserts_of actions) })
+      (start_report_of machine.state (numbers_of (numbered machine.next (inserts_of actions)))))
+      else start_refused module_ Exhausted
+
   -- what comes of `init`'s answer
-  abbrev pub started_by : M → MachineId → Init S D C → ℕ → ℕ → Start M S D C A
-  started_by module_ id (init.Ok state held actions) now first =
-      Running (record { module_ = module_; machine = first_state id state held now first }) (start_report_of state)
-  started_by module_ id (init.Stop reason) now first = Stopped reason
-  started_by module_ id init.Ignore now first = Ignored
+  abbrev pub started_by : M → MachineId → Init S D C → ℕ → ℕ → Result (Start M S D C A) (Refused M)
+  started_by module_ id (init.Ok state held actions) now first = started_with module_ (first_state id state held now first) actions
+  started_by module_ id (init.Stop reason) now first = Ok (Stopped reason)
+  started_by module_ id init.Ignore now first = Ok Ignored
 
   -- a start with `init`'s answer, at a moment, with the number of the first event: what it answers
   abbrev pub start_of : M → MachineId → Init S D C → ℕ → ℕ → Result (Start M S D C A) (Refused M)
   start_of module_ id answer now first =
-      if nat_lt now (2 ^ 63)
-      then Ok (started_by module_ id answer now first)
-      else Err (record { refusal = Moment; value = module_ })
+      if nat_lt now (2 ^ 63) then started_by module_ id answer now first else start_refused module_ Moment
 
-  -- the answer is the definition's; or the definition does not refuse, there was no memory, and the
+  -- a start takes memory where it comes to calling `init`
+  abbrev pub start_takes_memory : Result (Start M S D C A) (Refused M) → Bool
+  start_takes_memory (Ok start) = true
+  start_takes_memory (Err refused) = comes_after_callbacks refused.refusal
+
+  -- the answer is the definition's; or the definition's start takes memory, there was none, and the
   -- module comes back
   abbrev pub Starts : M → Result (Start M S D C A) (Refused M) → Result (Start M S D C A) (Refused M) → Type 0
   Starts module_ answer definition =
       (answer ≡ definition)
-      ⊎ ((is_ok definition ≡ true) × (answer ≡ Err (record { refusal = NoMemory; value = module_ })))
+      ⊎ ((start_takes_memory definition ≡ true) × (answer ≡ start_refused module_ NoMemory))

@@ -1,35 +1,93 @@
 -- One turn: the next event is handled, and the machine changes.
-use Rattle.std.specs.Prelude.{ℕ, ◌^◌, Option, Some, None, Result, Ok, Err, [], drop, max, nat_lt, if◌then◌else◌}
+use Rattle.std.specs.Prelude.{ℕ, ◌+◌, ◌^◌, Bool, true, false, Option, Some, None, Result, Ok, Err, List, [], ◌∷◌, ◌++◌, length, map, max, nat_lt, nat_le, if◌then◌else◌}
+use Rattle.st_events.specs.declared.action.Action.{Action}
 use Rattle.st_events.specs.declared.event.Event.{Event}
 use Rattle.st_events.specs.declared.refusal.Refusal.{Refusal}
-use Rattle.st_events.specs.declared.refusal.Refusal.TheVariants.{Moment}
-use Rattle.st_core.specs.declared.done.Done.TheVariants.{Finished}
+use Rattle.st_events.specs.declared.refusal.Refusal.TheVariants.{Exhausted, Moment}
+use Rattle.st_events.specs.declared.insert.Insert.{Insert}
+use Rattle.st_actions.specs.Plan.{inserts_of, postpone_of}
+use Rattle.st_core.specs.declared.call.Call.TheVariants.{Terminate}
+use Rattle.st_core.specs.declared.done.Done.{Done}
+use Rattle.st_core.specs.declared.done.Done.TheVariants.{Finished, PutOff, Ended}
 use Rattle.st_core.specs.declared.report.Report.{Report}
 use Rattle.st_core.specs.declared.turned.Turned.{Turned}
 use Rattle.st_core.specs.declared.turned.Turned.TheVariants.{Reported, Idle}
-use Rattle.st_core.specs.MachineState.{MachineState}
+use Rattle.st_core.specs.MachineState.{MachineState, Received}
+use Rattle.st_core.specs.Items.{with_next_received, kept, with_number, unless_changed, placed, numbered, numbers_of}
 use Rattle.st_core.specs.Callbacks.{Callbacks, Called, called_of}
 use Rattle.st_core.specs.Choice.{next_event_of}
+use Rattle.st_core.specs.Stop.{with_ended, unless_ended}
+
+-- how an event ends that is postponed or not
+abbrev pub done_by : Bool → Done
+done_by postpone = if postpone then PutOff else Finished
+
+-- whether a refusal comes after the callbacks, as only that for want of numbers does
+abbrev pub comes_after_callbacks : Refusal → Bool
+comes_after_callbacks Exhausted = true
+comes_after_callbacks _ = false
 
 module _ {S D C : Type 0} where
   -- a moment before the latest one counts as the latest
   abbrev pub with_moment : MachineState S D C → ℕ → MachineState S D C
   with_moment machine now = record machine { latest = max machine.latest now }
 
-  -- the new state and data stand, and the event, the first that waited, is finished and leaves
-  abbrev pub with_handled : MachineState S D C → Called S D → MachineState S D C
-  with_handled machine called = record machine {
-    state = called.state;
-    «data» = called.data;
-    pending = drop 1 machine.pending;
+  -- the next event is received, in its place
+  abbrev pub with_received : MachineState S D C → MachineState S D C
+  with_received machine = record machine { pending = with_next_received machine.postponed machine.pending }
+
+  -- the new state and data stand
+  abbrev pub with_called : MachineState S D C → Called S D C → MachineState S D C
+  with_called machine called = record machine { state = called.state; «data» = called.data }
+
+  -- the event of a number is postponed and keeps its place, or is finished and leaves
+  abbrev pub with_disposed : MachineState S D C → ℕ → Bool → MachineState S D C
+  with_disposed machine number postpone = record machine {
+    pending = kept postpone number machine.pending;
+    postponed = with_number postpone number machine.postponed;
   }
 
-  -- what a turn reports of an event that it finished
-  abbrev pub report_of : MachineState S D C → Event C → Called S D → Report S
-  report_of machine event called = record {
-    event = Some event.number;
-    done = Finished;
+  -- at a state change no event is postponed any more
+  abbrev pub with_retried : MachineState S D C → Bool → MachineState S D C
+  with_retried machine changed = record machine { postponed = unless_changed changed machine.postponed }
+
+  -- the inserted events come before the first one that is not postponed, with the next numbers
+  abbrev pub with_inserted : MachineState S D C → List (Insert C) → MachineState S D C
+  with_inserted machine inserts = record machine {
+    pending = placed machine.postponed (map Received (numbered machine.next inserts)) machine.pending;
+    next = machine.next + length inserts;
+  }
+
+  -- whether there are numbers enough for what actions insert
+  abbrev pub has_numbers : MachineState S D C → List (Action C) → Bool
+  has_numbers machine actions = nat_le (machine.next + length (inserts_of actions)) (2 ^ 63)
+
+  -- the steps of a transition on the event of a number, in their order
+  abbrev pub with_handled : MachineState S D C → ℕ → Called S D C → MachineState S D C
+  with_handled machine number called =
+      with_inserted
+      (with_retried (with_disposed (with_called machine called) number (postpone_of called.actions)) called.changed)
+      (inserts_of called.actions)
+
+  -- what a turn reports of an event after which the machine goes on
+  abbrev pub report_of : MachineState S D C → ℕ → Called S D C → Report S
+  report_of machine number called = record {
+    event = Some number;
+    done = done_by (postpone_of called.actions);
     calls = called.calls;
+    before = machine.state;
+    after = called.state;
+    replied = [];
+    inserted = numbers_of (numbered machine.next (inserts_of called.actions));
+    set = [];
+  }
+
+  -- what a turn reports of an event at which the machine ends
+  abbrev pub stop_report_of : MachineState S D C → ℕ → Called S D C → ℕ → ℕ → Report S
+  stop_report_of machine number called reason word = record {
+    event = Some number;
+    done = Ended reason word;
+    calls = called.calls ++ Terminate reason called.state word ∷ [];
     before = machine.state;
     after = called.state;
     replied = [];
@@ -37,16 +95,39 @@ module _ {S D C : Type 0} where
     set = [];
   }
 
-  -- the transition on an event, if there is one
-  abbrev pub transition_of : Callbacks S D C → MachineState S D C → Option (Event C) → Turned S × MachineState S D C
-  transition_of callbacks machine None = (Idle, machine)
-  transition_of callbacks machine (Some event) =
-      let called = called_of callbacks machine event in
-      (Reported (report_of machine event called), with_handled machine called)
+  -- the machine goes on; where too few numbers are left, the turn is refused and all is as it was
+  abbrev pub went_on : MachineState S D C → MachineState S D C → ℕ → Called S D C → Result (Turned S) Refusal × MachineState S D C
+  went_on old machine number called =
+      if has_numbers machine called.actions
+      then (Ok (Reported (report_of machine number called)), with_handled machine number called)
+      else (Err Exhausted, old)
+
+  -- the machine ends, and the word of `terminate` is of the new state and data
+  abbrev pub stopped : Callbacks S D C → MachineState S D C → ℕ → Called S D C → ℕ → Result (Turned S) Refusal × MachineState S D C
+  stopped callbacks machine number called reason =
+      let word = callbacks.terminate_is reason called.state called.data in
+      (Ok (Reported (stop_report_of machine number called reason word)), with_ended (with_called machine called) reason word)
+
+  -- what comes of the callbacks
+  abbrev pub settled : Callbacks S D C → MachineState S D C → MachineState S D C → ℕ → Called S D C → Option ℕ → Result (Turned S) Refusal × MachineState S D C
+  settled callbacks old machine number called None = went_on old machine number called
+  settled callbacks old machine number called (Some reason) = stopped callbacks machine number called reason
+
+  -- the transition on an event, if there is one, of a machine that was another before the turn
+  abbrev pub transition_of : Callbacks S D C → MachineState S D C → MachineState S D C → Option (Event C) → Result (Turned S) Refusal × MachineState S D C
+  transition_of callbacks old machine None = (Ok Idle, machine)
+  transition_of callbacks old machine (Some event) =
+      let received = with_received machine in
+      let called = called_of callbacks received event in
+      settled callbacks old received event.number called called.reason
+
+  -- a turn of a machine that runs
+  abbrev pub turn_running : Callbacks S D C → MachineState S D C → ℕ → Result (Turned S) Refusal × MachineState S D C
+  turn_running callbacks machine now =
+      let at : MachineState S D C = with_moment machine now in
+      if nat_lt now (2 ^ 63) then transition_of callbacks machine at (next_event_of at) else (Err Moment, machine)
 
   -- a turn at a moment: what it answers, and what it leaves
   abbrev pub turn_of : Callbacks S D C → MachineState S D C → ℕ → Result (Turned S) Refusal × MachineState S D C
   turn_of callbacks machine now =
-      let at : MachineState S D C = with_moment machine now in
-      let done = transition_of callbacks at (next_event_of at) in
-      if nat_lt now (2 ^ 63) then (Ok done.0, done.1) else (Err Moment, machine)
+      unless_ended machine.ended (λ refusal. Err refusal) machine (turn_running callbacks machine now)

@@ -8,4 +8,5 @@ use st_events::{Refusal, Refused};
 pub enum Answer<S, C> {
     Post(Result<u64, Refused<C>>),
     Turn(Result<Turned<S>, Refusal>),
+    Stop(Result<u32, Refusal>),
 }

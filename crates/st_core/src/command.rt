@@ -1,10 +1,12 @@
 //! What a machine can be told.
 
 use crate::Entry;
+use st_events::Reason;
 
 /// One command of a run: a call of the machine with what it takes. A moment is in milliseconds.
 #[derive(Debug, Drop)]
 pub enum Command<C> {
     Post(Entry, C),
     Turn(u64),
+    Stop(Reason),
 }

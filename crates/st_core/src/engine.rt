@@ -2,8 +2,8 @@
 ghost use Rattle.std.specs.Prelude.{◌≡◌, ◌<◌, ◌^◌};
 ghost use Rattle.st_core.specs.Choice.{is_ready_of, waiting_of};
 
-use st_events::{Event, MachineId, Module};
-use st_queue::EventQueue;
+use crate::pending::Pending;
+use st_events::{MachineId, Module, Reason};
 use std::alloc::Global;
 use std::marker::Model;
 
@@ -22,13 +22,14 @@ pub struct Core<M: Module> {
     pub(crate) id: MachineId,
     pub(crate) state: M::State,
     pub(crate) data: M::Data,
-    pub(crate) queue: EventQueue<Event<M::Content>>,
+    pub(crate) pending: Pending<M::Content>,
     pub(crate) latest: u64,
-    pub(crate) next: u64,
+    // The reason and the last word, once the machine has ended.
+    pub(crate) ended: Option<(Reason, u32)>,
 }
 
 impl<M: Module> Model for Core<M> {
-    ghost use Rattle.std.specs.Prelude.{◌≡◌, ◌≤◌, ◌<◌, ◌^◌};
+    ghost use Rattle.std.specs.Prelude.{◌<◌, ◌^◌};
     ghost use Rattle.st_core.specs.MachineState.{Machine};
 
     ghost Value = { Machine M M.State M.Data M.Content };
@@ -39,23 +40,25 @@ impl<M: Module> Model for Core<M> {
         id = core.id;
         state = core.state;
         «data» = core.data;
-        pending = core.queue.items;
+        pending = core.pending.items;
+        postponed = core.pending.postponed;
         latest = core.latest;
-        next = core.next;
+        next = core.pending.next;
+        ended = core.ended;
       };
     } };
 
-    ghost invariant = { λ core. (core.next ≤ 2 ^ 63) × (core.latest < 2 ^ 63) × (core.queue.cursor ≡ 0) };
+    ghost invariant = { λ core. core.latest < 2 ^ 63 };
 }
 
 impl<M: Module> Core<M> {
-    /// Says whether there is an event that a turn would handle.
+    /// Says whether the machine has not ended and there is an event that a turn would handle.
     ///
     /// Ours: docs/TRANSITIONS.md, Next event.
     pub fn is_ready(&self) -> bool
         ensures { result ≡ is_ready_of self.now.machine }
     {
-        self.queue.peek().is_some()
+        self.ended.is_none() && self.pending.peek().is_some()
     }
 
     /// The machine's id.
@@ -101,6 +104,15 @@ impl<M: Module> Core<M> {
     pub fn waiting(&self) -> usize
         ensures { result ≡ waiting_of self.now.machine }
     {
-        self.queue.len()
+        self.pending.len()
+    }
+
+    /// The reason for which the machine has ended, and its last word; `None` as long as it runs.
+    ///
+    /// Manual: `stop/3`, `Module:terminate/3`; ours: docs/DECISIONS.md, The last word.
+    pub fn ended(&self) -> Option<(Reason, u32)>
+        ensures { result ≡ self.now.machine.ended }
+    {
+        self.ended
     }
 }

@@ -8,10 +8,14 @@ mod command;
 mod done;
 mod engine;
 mod entry;
+mod numbers;
+mod outcomes;
+mod pending;
 mod post;
 mod report;
 mod run;
 mod start;
+mod stop;
 #[cfg(test)]
 mod tests;
 mod turn;

@@ -5,7 +5,7 @@ ghost use Rattle.st_core.specs.Run.{Meets, post_takes_memory, post_without_memor
 
 use crate::engine::LIMIT;
 use crate::{Core, Entry};
-use st_events::{Event, Kind, Module, Refusal, Refused};
+use st_events::{Kind, Module, Refusal, Refused};
 
 /// The kind of an event that is posted so.
 fn kind_of(entry: Entry) -> Kind
@@ -28,8 +28,8 @@ impl<M: Module> Core<M> {
     /// Hands the machine an event from outside, and answers the event's number. The event waits
     /// behind all others.
     ///
-    /// Refused with `Exhausted` where no number is left, and with `NoMemory` where memory is wanted.
-    /// A refusal changes nothing and gives the content back.
+    /// Refused with `Stopped` once the machine has ended, with `Exhausted` where no number is left, and
+    /// with `NoMemory` where memory is wanted. A refusal changes nothing and gives the content back.
     ///
     /// Manual: `cast/2`, `event_type()`.
     pub fn post(&mut self, entry: Entry, content: M::Content) -> Result<u64, Refused<M::Content>>
@@ -38,33 +38,15 @@ impl<M: Module> Core<M> {
 
         ensures unchanged { OnErr result (self.new ≡ self.old) }
     {
-        if self.next >= LIMIT {
+        if let Some((reason, _)) = self.ended {
+            return Err(refused(Refusal::Stopped(reason), content));
+        }
+        if self.pending.next() >= LIMIT {
             return Err(refused(Refusal::Exhausted, content));
         }
-        let number = self.next;
-        let event = Event {
-            number,
-            kind: kind_of(entry),
-            content,
-        };
-        match self.queue.push_back(event) {
-            Ok(()) => {
-                self.next += 1;
-                Ok(number)
-            }
-            Err(failed) => Err(refused(Refusal::NoMemory, content_of(failed.value))),
+        match self.pending.push(kind_of(entry), content) {
+            Ok(number) => Ok(number),
+            Err(failed) => Err(refused(Refusal::NoMemory, failed.value)),
         }
     }
-}
-
-/// The content of an event that could not be kept.
-fn content_of<C>(event: Event<C>) -> C
-    ensures { result ≡ event.content }
-{
-    let Event {
-        number: _,
-        kind: _,
-        content,
-    } = event;
-    content
 }

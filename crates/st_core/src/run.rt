@@ -9,12 +9,13 @@ use st_events::Module;
 impl<M: Module> Core<M> {
     /// Does one command.
     fn step(&mut self, command: Command<M::Content>) -> Answer<M::State, M::Content>
-        ensures step { Meets takes_memory (without_memory command) result self.old.machine self.new.machine (step_of (callbacks_of M.Module self.old.module_) self.old.machine command) }
+        ensures step { Meets takes_memory (without_memory command) result self.old.machine self.new.machine (step_of (callbacks_of M.Module M.State.eq self.old.module_) self.old.machine command) }
         ensures unchanged_module { self.new.module_ ≡ self.old.module_ }
     {
         match command {
             Command::Post(entry, content) => Answer::Post(self.post(entry, content)),
             Command::Turn(now) => Answer::Turn(self.turn(now)),
+            Command::Stop(reason) => Answer::Stop(self.stop(reason)),
         }
     }
 
@@ -28,7 +29,7 @@ impl<M: Module> Core<M> {
         &mut self,
         commands: Vec<Command<M::Content>>,
     ) -> Result<Vec<Answer<M::State, M::Content>>, Vec<Command<M::Content>>>
-        ensures run { IfOk result (λ answers. Runs (callbacks_of M.Module self.old.module_) self.old.machine commands.items answers.items self.new.machine) }
+        ensures run { IfOk result (λ answers. Runs (callbacks_of M.Module M.State.eq self.old.module_) self.old.machine commands.items answers.items self.new.machine) }
         ensures unchanged_module { self.new.module_ ≡ self.old.module_ }
 
         ensures unchanged { IfErr result (λ back. (back ≡ commands) × (self.new ≡ self.old)) }

@@ -1,11 +1,13 @@
 //! A machine starts.
 ghost use Rattle.std.specs.Prelude.{◌≡◌, ◌≤◌, ◌<◌, ◌^◌};
-ghost use Rattle.st_core.specs.Start.{start_of, Starts, first_state, start_report_of};
+ghost use Rattle.st_core.specs.Start.{start_of, started_with, Starts, first_state, start_report_of};
 
 use crate::engine::LIMIT;
+use crate::numbers::numbers_from;
+use crate::pending::Pending;
 use crate::{Core, Done, Report};
-use st_events::{Init, MachineId, Module, PlainList, Reason, Refusal, Refused};
-use st_queue::EventQueue;
+use st_actions::plan;
+use st_events::{Actions, Init, MachineId, Module, PlainList, Reason, Refusal, Refused};
 use std::alloc::Global;
 
 /// What comes of a start.
@@ -21,9 +23,16 @@ pub enum Start<M: Module> {
     Stopped(Reason),
 }
 
-/// What a start reports.
-fn start_report<S: Copy>(alloc: Global, state: S) -> Report<S>
-    ensures { result ≡ start_report_of state }
+/// What a refused start answers.
+fn refused<M>(refusal: Refusal, value: M) -> Refused<M>
+    ensures { result ≡ record { refusal = refusal; value = value } }
+{
+    Refused { refusal, value }
+}
+
+/// What a start reports that inserted these events.
+fn start_report<S: Copy>(alloc: Global, state: S, inserted: PlainList<u64>) -> Report<S>
+    ensures { result ≡ start_report_of state inserted }
 {
     Report {
         event: None,
@@ -32,7 +41,7 @@ fn start_report<S: Copy>(alloc: Global, state: S) -> Report<S>
         before: state,
         after: state,
         replied: PlainList::new(alloc),
-        inserted: PlainList::new(alloc),
+        inserted,
         set: PlainList::new(alloc),
     }
 }
@@ -41,8 +50,12 @@ impl<M: Module> Core<M> {
     /// Starts a machine at a moment, in milliseconds: calls the module's `init` on the argument. The
     /// first event gets the number 1.
     ///
-    /// Refused with `Moment` at 2^63 or later, before `init` is called, and with `NoMemory` where
-    /// memory is wanted. A refusal gives the module back.
+    /// What `init` asks for is done: its events are inserted. There is no event that could be postponed,
+    /// so a Postpone is ignored.
+    ///
+    /// Refused with `Moment` at 2^63 or later, before `init` is called, with `Exhausted` where too few
+    /// numbers are left for the events that are inserted, and with `NoMemory` where memory is wanted. A
+    /// refusal gives the module back.
     ///
     /// Manual: `start/3`, `Module:init/1`.
     pub fn start(
@@ -73,31 +86,58 @@ impl<M: Module> Core<M> {
         ensures start { Starts «module» result (start_of «module» id (M.init_is «module» arg.now) now first) }
     {
         if now >= LIMIT {
-            return Err(Refused {
-                refusal: Refusal::Moment,
-                value: module,
-            });
+            return Err(refused(Refusal::Moment, module));
         }
         match module.init(alloc, arg) {
-            Err(_) => Err(Refused {
-                refusal: Refusal::NoMemory,
-                value: module,
-            }),
+            Err(_) => Err(refused(Refusal::NoMemory, module)),
             Ok(Init::Ignore) => Ok(Start::Ignored),
             Ok(Init::Stop(reason)) => Ok(Start::Stopped(reason)),
-            Ok(Init::Ok(state, data, _actions)) => {
-                let core = Core {
-                    alloc,
-                    module,
-                    id,
-                    state,
-                    data,
-                    queue: EventQueue::new(alloc),
-                    latest: now,
-                    next: first,
-                };
-                Ok(Start::Running(core, start_report(alloc, state)))
+            Ok(Init::Ok(state, data, actions)) => {
+                Core::begin(alloc, module, id, state, data, actions, now, first)
             }
         }
+    }
+
+    /// Starts a machine in a state with data, and does what `init` asked for. A Postpone is ignored.
+    fn begin(
+        alloc: Global,
+        module: M,
+        id: MachineId,
+        state: M::State,
+        data: M::Data,
+        actions: Actions<M::Content>,
+        now: u64,
+        first: u64,
+    ) -> Result<Start<M>, Refused<M>>
+        requires moment { now < 2 ^ 63 }
+        requires greatest { first < 2 ^ 63 }
+        ensures start { Starts «module» result (started_with «module» (first_state id state «data» now first) actions) }
+    {
+        let Ok(planned) = plan(alloc, actions) else {
+            return Err(refused(Refusal::NoMemory, module));
+        };
+        let count = planned.inserts.len();
+        if LIMIT - first < count as u64 {
+            return Err(refused(Refusal::Exhausted, module));
+        }
+        let Ok(inserted) = numbers_from(alloc, first, count) else {
+            return Err(refused(Refusal::NoMemory, module));
+        };
+        let mut pending = Pending::new(alloc, first);
+        let Ok(()) = pending.stage(count) else {
+            return Err(refused(Refusal::NoMemory, module));
+        };
+        pending.insert(planned.inserts);
+        let core = Core {
+            alloc,
+            module,
+            id,
+            state,
+            data,
+            pending,
+            latest: now,
+            ended: None,
+        };
+        Ok(Start::Running(core, start_report(alloc, state, inserted)))
     }
 }

@@ -1,10 +1,14 @@
 //! Machines of two modules, told commands with memory and while an allocation is refused.
 
 mod answers;
+mod compared;
 mod lamp;
+mod postponing;
 mod runs;
 mod starts;
+mod stops;
 mod table;
+mod table_machine;
 mod tested;
 
 /// Says so where no allocation of this test was refused: then one of those that follow is.

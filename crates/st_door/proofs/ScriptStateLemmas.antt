@@ -1,15 +1,16 @@
 -- What a script keeps of its doors, and what a line makes of them.
-use Rattle.std.proofs.Common.{◌≡◌, ℕ, zero, suc, ◌+◌, ◌<◌, ◌≤◌, ◌^◌, ◌≢◌, nat_eq, Bool, true, false, nat_lt, List, [], ◌∷◌, ◌++◌, length, get_or, set, Some, None, Ok, refl, ap, sym, ◌∙◌, arith, inl, inr, bytes_eq, length-append, lt-ltb}
+use Rattle.std.proofs.Common.{◌≡◌, ℕ, zero, suc, ◌+◌, ◌<◌, ◌≤◌, ◌^◌, ◌≢◌, nat_eq, Bool, true, false, nat_lt, List, [], ◌∷◌, ◌++◌, length, get_or, set, Option, Some, None, Ok, ◌⊎◌, refl, ap, sym, ◌∙◌, arith, inl, inr, bytes_eq, length-append, lt-ltb}
 use Rattle.std.specs.List.{list_any, find}
 use Rattle.std.proofs.lemmas.Bool.{cases_Bool, cases_lt}
 use Rattle.std.proofs.lemmas.Bool.Decides.{eqb_tells}
-use Rattle.std.proofs.lemmas.List.{set-get_or, length-set, map-append, get_or-set_other, get_or_append_left}
+use Rattle.std.proofs.lemmas.List.{set-get_or, length-set, map-append, get_or-set_same, get_or-set_other, get_or_append_left}
 use Rattle.std.proofs.Math.Seq.{get_or-append_seam}
 use Rattle.std.proofs.lemmas.Slice.Eq.{bytes_eq-Decides}
 use Rattle.st_events.specs.declared.refusal.Refusal.{Refusal}
 use Rattle.st_events.specs.declared.refusal.Refusal.TheVariants.{AlreadyStarted}
 use Rattle.st_core.specs.declared.entry.Entry.TheVariants.{Cast}
-use Rattle.st_core.specs.Post.{post_of}
+use Rattle.st_core.specs.Post.{post_of, post_running}
+use Rattle.st_core.specs.Stop.{stop_of, stop_running}
 use Rattle.st_core.specs.Start.{first_state, start_of}
 use Rattle.st_core.specs.Choice.{is_ready_of}
 use Rattle.st_core.specs.declared.report.Report.{Report}
@@ -23,11 +24,11 @@ use Rattle.st_door.specs.declared.door_state.DoorState.TheVariants.{Locked}
 use Rattle.st_door.specs.declared.line.Line.TheVariants as line
 use Rattle.st_door.specs.declared.reply.Reply.{Reply}
 use Rattle.st_door.specs.declared.reply.Reply.TheVariants.{Printed, Refuses}
-use Rattle.st_door.specs.Doors.{NamedDoor, DoorMachine, IsFirst, IsKept, RestsOutside, SameLabels, door_limit, door_named, door_of, has_name, is_ready_door, names_of, slots_of, least_from, free_slot_of, press_of, pressed_door, refusal_of, upward}
+use Rattle.st_door.specs.Doors.{NamedDoor, DoorMachine, IsFirst, IsKept, RestsOutside, SameLabels, door_limit, door_named, door_of, has_name, is_ready_door, names_of, slots_of, least_from, free_slot_of, press_of, pressed_door, refusal_of, door_callbacks, door_stop_of, ended_door, stop_refusal_of, upward}
 use Rattle.st_door.specs.Printing.{status_of}
 use Rattle.st_door.specs.Script.{ScriptState, door_start_of, next_id_of, the_door, named_status_of, rested_of, step_of, with_start}
 use Rattle.st_door.proofs.DoorLemmas.{IsFirst-within, IsFirst-changed, IsFirst-found, IsFirst-map, IsFirst-of_map}
-use Rattle.st_door.proofs.SettlingLemmas.{no_door, labels-set, labels-more}
+use Rattle.st_door.proofs.SettlingLemmas.{no_door, labels-set, labels-more, id-unless}
 
 -- ---- the least free place
 any-upward : (more first slot : ℕ) → first ≤ slot → slot < first + more → list_any (λ taken. nat_eq taken slot) (upward first more) ≡ true
@@ -106,6 +107,23 @@ kept-set doors from until place low high machine kept within same below above bo
       ]));
 }
 
+-- a door gets another machine of the same id that rests
+pub kept-resting : (doors : List NamedDoor) (from until place : ℕ) (machine : DoorMachine) → IsKept doors from until → place < length doors
+    → machine.id ≡ (get_or doors place no_door).machine.id → is_ready_of machine ≡ false
+    → IsKept (set doors place (door_named (get_or doors place no_door).name machine)) from until
+kept-resting doors from until place machine kept within same rests = record {
+  ordered = kept.ordered;
+  within = rw length-set kept.within;
+  few = rw length-set kept.few;
+  numbered = (labels-set doors place no_door machine within same).slots ∙ (kept.numbered ∙ ap (upward 0) (sym (length-set doors place _)));
+  resting = λ k d less outside.
+      let there : k < length doors = omega (arith, less, length-set {A = NamedDoor}) in
+      elim (eqb_tells k place) [
+        | inl here ↦ rw (here.1, get_or-set_same doors place _ d within) rests
+        | inr other ↦ let ne : k ≢ place = other.1 in rw get_or-set_other (kept.resting k d there outside)
+      ];
+}
+
 -- the doors had turns
 pub kept-labels : (old new : List NamedDoor) (from until first : ℕ) → IsKept old from until → SameLabels old new → first ≤ until → RestsOutside first until new → IsKept new first until
 kept-labels old new from until first kept same less rests =
@@ -139,11 +157,19 @@ pub named-status : (name : List ℕ) (script : ScriptState) (place : ℕ) (d : N
 named-status name script place d first = rw (IsFirst-found (has_name name) script.doors place d first) refl
 
 -- ---- buttons
+-- a machine runs, or it has ended
+cases_ended : (ended : Option (ℕ × ℕ)) → (ended ≡ None) ⊎ ((end : ℕ × ℕ) × (ended ≡ Some end))
+cases_ended None = inl refl
+cases_ended (Some end) = inr (end, refl)
+
 -- a refused post leaves the door as it was
 pressed-refused : (digit : ℕ) (door : NamedDoor) (refusal : Refusal) → refusal_of (press_of digit door).0 ≡ Some refusal → pressed_door digit door ≡ door
-pressed-refused digit door refusal refused = elim (cases_Bool (nat_lt door.machine.next (2 ^ 63))) [
-  | inl room ↦ let none = rw room at refused in cc
-  | inr full ↦ rw full refl
+pressed-refused digit door refusal refused = elim (cases_ended door.machine.ended) [
+  | inl runs ↦ elim (cases_Bool (nat_lt door.machine.next (2 ^ 63))) [
+    | inl room ↦ let none = rw (runs, room) at refused in cc
+    | inr full ↦ rw (runs, full) refl
+  ]
+  | inr end ↦ rw end.1 refl
 ]
 
 pub button-refused : (script : ScriptState) (name : List ℕ) (digit place : ℕ) (refusal : Refusal) → IsFirst (has_name name) script.doors place
@@ -175,10 +201,60 @@ button-done script name digit place first accepted =
     ) refl
 
 -- a post keeps the machine's id
-pub id-post : (machine : DoorMachine) (digit : ℕ) → (post_of machine Cast (Button digit)).1.id ≡ machine.id
-id-post machine digit = elim (cases_Bool (nat_lt machine.next (2 ^ 63))) [
+id-post_running : (machine : DoorMachine) (digit : ℕ) → (post_running machine Cast (Button digit)).1.id ≡ machine.id
+id-post_running machine digit = elim (cases_Bool (nat_lt machine.next (2 ^ 63))) [
   | inl room ↦ rw room refl
   | inr full ↦ rw full refl
+]
+
+pub id-post : (machine : DoorMachine) (digit : ℕ) → (post_of machine Cast (Button digit)).1.id ≡ machine.id
+id-post machine digit = id-unless machine.ended _ machine (post_running machine Cast (Button digit)) (id-post_running machine digit)
+
+-- ---- stops
+-- a refused stop leaves the door as it was
+ended-refused : (reason : ℕ) (door : NamedDoor) (refusal : Refusal) → stop_refusal_of (door_stop_of reason door).0 ≡ Some refusal → ended_door reason door ≡ door
+ended-refused reason door refusal refused = elim (cases_ended door.machine.ended) [
+  | inl runs ↦ let none = rw runs at refused in cc
+  | inr end ↦ rw end.1 refl
+]
+
+pub stop-refused : (script : ScriptState) (name : List ℕ) (reason place : ℕ) (refusal : Refusal) → IsFirst (has_name name) script.doors place
+    → Some refusal ≡ stop_refusal_of (door_stop_of reason (get_or script.doors place no_door)).0
+    → step_of script (line.Stop name reason) ≡ (Refuses refusal, script)
+stop-refused script name reason place refusal first refused =
+    rw (IsFirst-found (has_name name) script.doors place no_door first, ← refused) refl
+
+pub stop-refused_doors : (doors : List NamedDoor) (reason place : ℕ) (refusal : Refusal)
+    → Some refusal ≡ stop_refusal_of (door_stop_of reason (get_or doors place no_door)).0
+    → set doors place (ended_door reason (get_or doors place no_door)) ≡ doors
+stop-refused_doors doors reason place refusal refused =
+    ap (set doors place) (ended-refused reason (get_or doors place no_door) refusal (sym refused)) ∙ set-get_or doors place no_door
+
+-- the script with the door at a place stopped
+abbrev pub ended_script : ScriptState → ℕ → ℕ → ScriptState
+ended_script script reason place = record script { doors = set script.doors place (ended_door reason (get_or script.doors place no_door)) }
+
+pub stop-done : (script : ScriptState) (name : List ℕ) (reason place : ℕ) → IsFirst (has_name name) script.doors place
+    → None ≡ stop_refusal_of (door_stop_of reason (get_or script.doors place no_door)).0
+    → step_of script (line.Stop name reason)
+    ≡ (Printed (named_status_of (rested_of (ended_script script reason place)) name), rested_of (ended_script script reason place))
+stop-done script name reason place first accepted =
+    let machine = (door_stop_of reason (get_or script.doors place no_door)).1 in
+    rw (
+      IsFirst-found (has_name name) script.doors place no_door first,
+      ← accepted,
+      IsFirst-changed (has_name name) (λ (door : NamedDoor). door_named door.name machine) script.doors place no_door first,
+    ) refl
+
+-- a stop keeps the machine's id
+pub id-stop : (machine : DoorMachine) (reason : ℕ) → (stop_of door_callbacks machine reason).1.id ≡ machine.id
+id-stop machine reason = id-unless machine.ended _ machine (stop_running door_callbacks machine reason) refl
+
+-- after it the door rests
+pub rests-ended : (machine : DoorMachine) (reason : ℕ) → is_ready_of (stop_of door_callbacks machine reason).1 ≡ false
+rests-ended machine reason = elim (cases_ended machine.ended) [
+  | inl runs ↦ rw runs refl
+  | inr end ↦ rw end.1 refl
 ]
 
 -- ---- shows
@@ -268,3 +344,15 @@ first-pressed script pressed settled name digit place first is_pressed rests =
     let within : place < length script.doors = IsFirst-within (has_name name) script.doors place first in
     let labels : SameLabels script.doors pressed.doors = rw is_pressed (labels-pressed script.doors digit place within) in
     IsFirst-labels name script.doors settled.doors place (labels-more script.doors pressed.doors settled.doors labels rests) first
+
+-- the doors with the one at a place stopped have the same labels
+pub labels-ended : (doors : List NamedDoor) (reason place : ℕ) → place < length doors → SameLabels doors (set doors place (ended_door reason (get_or doors place no_door)))
+labels-ended doors reason place within = labels-set doors place no_door _ within (id-stop (get_or doors place no_door).machine reason)
+
+-- the name has its place still, once the door was stopped and the doors rest
+pub first-ended : (script ended settled : ScriptState) (name : List ℕ) (reason place : ℕ) → IsFirst (has_name name) script.doors place
+    → ended ≡ ended_script script reason place → SameLabels ended.doors settled.doors → IsFirst (has_name name) settled.doors place
+first-ended script ended settled name reason place first is_ended rests =
+    let within : place < length script.doors = IsFirst-within (has_name name) script.doors place first in
+    let labels : SameLabels script.doors ended.doors = rw is_ended (labels-ended script.doors reason place within) in
+    IsFirst-labels name script.doors settled.doors place (labels-more script.doors ended.doors settled.doors labels rests) first

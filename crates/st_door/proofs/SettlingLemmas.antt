@@ -4,11 +4,16 @@ use Rattle.std.specs.List.{list_any}
 use Rattle.std.proofs.lemmas.Bool.{cases_Bool, cases_lt}
 use Rattle.std.proofs.lemmas.List.{get_or-set_other, get_or_default, length-set}
 use Rattle.st_core.specs.Choice.{next_event_of}
-use Rattle.st_core.specs.Transition.{turn_of, transition_of, with_moment}
+use Rattle.st_core.specs.Callbacks.{Called, called_of}
+use Rattle.st_core.specs.Stop.{unless_ended}
+use Rattle.st_core.specs.Transition.{turn_of, turn_running, transition_of, with_moment, with_received, settled, went_on, has_numbers}
 use Rattle.st_core.specs.Start.{first_state}
 use Rattle.st_events.specs.declared.event.Event.{Event}
 use Rattle.st_events.specs.declared.machine_id.MachineId.{MachineId}
+use Rattle.st_events.specs.declared.refusal.Refusal.{Refusal}
 use Rattle.st_door.specs.declared.door_content.DoorContent.{DoorContent}
+use Rattle.st_door.specs.declared.door_data.DoorData.{DoorData}
+use Rattle.st_door.specs.declared.door_state.DoorState.{DoorState}
 use Rattle.st_door.specs.declared.door_state.DoorState.TheVariants.{Locked}
 use Rattle.st_door.specs.Doors.{NamedDoor, DoorMachine, IsFirst, door_callbacks, door_named, is_ready_door, turned_door, run_until_idle, RestsOutside, SameLabels}
 use Rattle.st_door.proofs.DoorLemmas.{IsFirst-changed}
@@ -16,6 +21,10 @@ use Rattle.st_door.proofs.DoorLemmas.{IsFirst-changed}
 -- a door to speak of where there is none
 abbrev pub no_door : NamedDoor
 no_door = record { name = []; machine = first_state (record { slot = 0; serial = 0 }) Locked (record { code = []; buttons = [] }) 0 0 }
+
+-- what the callbacks of a door come to
+abbrev DoorCalled : Type 0
+DoorCalled = Called DoorState DoorData DoorContent
 
 -- ---- the first element that passes
 pub IsFirst-after : {X : Type 0} (test : X → Bool) (xs : List X) (place : ℕ) (d : X) → place < length xs
@@ -42,16 +51,40 @@ map-set_same f [] place x d h same = refl
 map-set_same f (y ∷ ys) zero x d h same = ap (λ t. t ∷ map f ys) same
 map-set_same f (y ∷ ys) (suc place) x d h same = ap (λ t. f y ∷ t) (map-set_same f ys place x d (omega arith) same)
 
--- a turn keeps the machine's id
-id-transition : (machine : DoorMachine) (next : Option (Event DoorContent)) → (transition_of door_callbacks machine next).1.id ≡ machine.id
-id-transition machine None = refl
-id-transition machine (Some event) = refl
+-- once a machine has ended its id stays, and else it does where a call keeps it
+pub id-unless : {A : Type 0} (end : Option (ℕ × ℕ)) (refused : Refusal → A) (machine : DoorMachine) (done : A × DoorMachine)
+    → done.1.id ≡ machine.id → (unless_ended end refused machine done).1.id ≡ machine.id
+id-unless None refused machine done kept = kept
+id-unless (Some end) refused machine done kept = refl
 
-pub id-turn : (machine : DoorMachine) (moment : ℕ) → (turn_of door_callbacks machine moment).1.id ≡ machine.id
-id-turn machine moment = elim (cases_Bool (nat_lt moment (2 ^ 63))) [
-  | inl early ↦ rw early (id-transition (with_moment machine moment) (next_event_of (with_moment machine moment)))
+-- a turn keeps the machine's id, whether it goes on or ends
+id-went_on : (old machine : DoorMachine) (number : ℕ) (called : DoorCalled) → old.id ≡ machine.id → (went_on old machine number called).1.id ≡ machine.id
+id-went_on old machine number called same = elim (cases_Bool (has_numbers machine called.actions)) [
+  | inl enough ↦ rw enough refl
+  | inr none ↦ rw none same
+]
+
+id-settled : (old machine : DoorMachine) (number : ℕ) (called : DoorCalled) (reason : Option ℕ) → old.id ≡ machine.id
+    → (settled door_callbacks old machine number called reason).1.id ≡ machine.id
+id-settled old machine number called None same = id-went_on old machine number called same
+id-settled old machine number called (Some reason) same = refl
+
+id-transition : (old machine : DoorMachine) (next : Option (Event DoorContent)) → old.id ≡ machine.id
+    → (transition_of door_callbacks old machine next).1.id ≡ machine.id
+id-transition old machine None same = refl
+id-transition old machine (Some event) same =
+    let received = with_received machine in
+    let called = called_of door_callbacks received event in
+    id-settled old received event.number called called.reason same
+
+id-running : (machine : DoorMachine) (moment : ℕ) → (turn_running door_callbacks machine moment).1.id ≡ machine.id
+id-running machine moment = elim (cases_Bool (nat_lt moment (2 ^ 63))) [
+  | inl early ↦ rw early (id-transition machine (with_moment machine moment) (next_event_of (with_moment machine moment)) refl)
   | inr late ↦ rw late refl
 ]
+
+pub id-turn : (machine : DoorMachine) (moment : ℕ) → (turn_of door_callbacks machine moment).1.id ≡ machine.id
+id-turn machine moment = id-unless machine.ended _ machine (turn_running door_callbacks machine moment) (id-running machine moment)
 
 pub labels-same : (doors : List NamedDoor) → SameLabels doors doors
 labels-same doors = record { names = refl; slots = refl }

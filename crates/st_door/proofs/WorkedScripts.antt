@@ -72,3 +72,97 @@ names_in_order : output_of two_doors
     ∷ codes "b locked buttons 0 waiting 0" ∷ [])
 unfolding run_until_idle digits
 names_in_order = refl
+
+-- a button of an open door waits, and what waits is dropped at a stop; then the door takes no button
+abbrev stopping : List ℕ
+stopping =
+    text_of_lines (
+    codes "new a 1" ∷ codes "button a 1" ∷ codes "button a 1" ∷ codes "stop a 7" ∷ codes "show a" ∷ codes "button a 1" ∷ [])
+
+a_stop_ends_the_door : output_of stopping
+    ≡ text_of_lines (
+    codes "a locked buttons 0 waiting 0"
+    ∷ codes "a open buttons 0 waiting 0"
+    ∷ codes "a open buttons 0 waiting 1"
+    ∷ codes "a stopped 7 word 0"
+    ∷ codes "a stopped 7 word 0"
+    ∷ codes "line 6 refused 2" ∷ [])
+unfolding run_until_idle digits
+a_stop_ends_the_door = refl
+
+stopping_status : status_of_script stopping ≡ 1
+unfolding run_until_idle
+stopping_status = refl
+
+-- the last word is the number of buttons
+abbrev last_word : List ℕ
+last_word = text_of_lines (codes "new a 12" ∷ codes "button a 1" ∷ codes "stop a 7" ∷ [])
+
+the_last_word_counts_the_buttons : output_of last_word
+    ≡ text_of_lines (
+    codes "a locked buttons 0 waiting 0"
+    ∷ codes "a locked buttons 1 waiting 0"
+    ∷ codes "a stopped 7 word 1" ∷ [])
+unfolding run_until_idle digits
+the_last_word_counts_the_buttons = refl
+
+last_word_status : status_of_script last_word ≡ 0
+unfolding run_until_idle
+last_word_status = refl
+
+-- a button of an open door waits for the door to be locked
+abbrev postponing : List ℕ
+postponing = text_of_lines (codes "new front 12" ∷ codes "button front 1" ∷ codes "button front 2" ∷ codes "button front 1" ∷ [])
+
+an_open_door_postpones : output_of postponing
+    ≡ text_of_lines (
+    codes "front locked buttons 0 waiting 0"
+    ∷ codes "front locked buttons 1 waiting 0"
+    ∷ codes "front open buttons 0 waiting 0"
+    ∷ codes "front open buttons 0 waiting 1" ∷ [])
+unfolding run_until_idle digits
+an_open_door_postpones = refl
+
+postponing_status : status_of_script postponing ≡ 0
+unfolding run_until_idle
+postponing_status = refl
+
+-- what a reason may be, and what is refused of a name that is not there and of a door that has ended
+abbrev reasons : List ℕ
+reasons =
+    text_of_lines (
+    codes "new a 1"
+    ∷ codes "stop a 4294967296"
+    ∷ codes "stop a 00000000007"
+    ∷ codes "stop a +7"
+    ∷ codes "stop a"
+    ∷ codes "stop a 7 7"
+    ∷ codes "stop b 7"
+    ∷ codes "stop a 0000000007"
+    ∷ codes "stop a 7"
+    ∷ codes "new a 1"
+    ∷ codes "names"
+    ∷ codes "new b 1"
+    ∷ codes "stop b 4294967295" ∷ [])
+
+reasons_are_numbers : output_of reasons
+    ≡ text_of_lines (
+    codes "a locked buttons 0 waiting 0"
+    ∷ codes "line 2 malformed"
+    ∷ codes "line 3 malformed"
+    ∷ codes "line 4 malformed"
+    ∷ codes "line 5 malformed"
+    ∷ codes "line 6 malformed"
+    ∷ codes "line 7 refused 8"
+    ∷ codes "a stopped 7 word 0"
+    ∷ codes "line 9 refused 2"
+    ∷ codes "line 10 refused 7"
+    ∷ codes "names a"
+    ∷ codes "b locked buttons 0 waiting 0"
+    ∷ codes "b stopped 4294967295 word 0" ∷ [])
+unfolding run_until_idle digits
+reasons_are_numbers = refl
+
+reasons_status : status_of_script reasons ≡ 1
+unfolding run_until_idle
+reasons_status = refl

@@ -1,6 +1,6 @@
--- The door module: what `init` and `handle` answer, an equation for each row of its table.
-use Rattle.std.specs.Prelude.{ℕ, List, [], ◌∷◌, ◌++◌, drop, length, nat_lt, bytes_eq, if◌then◌else◌}
-use Rattle.st_events.specs.declared.action.Action.TheVariants.{Reply}
+-- The door module: what `init`, `handle` and `terminate` answer, an equation for each row of its table.
+use Rattle.std.specs.Prelude.{ℕ, Bool, true, false, List, [], ◌∷◌, ◌++◌, drop, length, nat_lt, bytes_eq, if◌then◌else◌}
+use Rattle.st_events.specs.declared.action.Action.TheVariants.{Reply, Postpone}
 use Rattle.st_events.specs.declared.init.Init.{Init}
 use Rattle.st_events.specs.declared.init.Init.TheVariants as init
 use Rattle.st_events.specs.declared.kind.Kind.{Kind}
@@ -42,10 +42,10 @@ unlocked_by held buttons =
 abbrev pub pressed : DoorData → ℕ → DoorOutcome
 pressed held digit = unlocked_by held (with_button held.code held.buttons digit)
 
--- a cast: a button counts while the door is locked, and has no effect while it is open
+-- a cast: a button counts while the door is locked, and is postponed while it is open
 abbrev pub cast_of : DoorContent → DoorState → DoorData → DoorOutcome
 cast_of (Button digit) Locked held = pressed held digit
-cast_of (Button digit) Open held = KeepStateAndData []
+cast_of (Button digit) Open held = KeepStateAndData (Postpone true ∷ [])
 cast_of CodeLength state held = KeepStateAndData []
 cast_of (Length digits) state held = KeepStateAndData []
 cast_of Nothing state held = KeepStateAndData []
@@ -70,3 +70,14 @@ handle_of Cast content state held = cast_of content state held
 handle_of Info content state held = KeepStateAndData []
 handle_of (Timeout timer) content state held = timeout_of timer state held
 handle_of Internal content state held = KeepStateAndData []
+
+-- a door's last word: how many buttons count
+abbrev pub terminate_of : ℕ → DoorState → DoorData → ℕ
+terminate_of reason state held = length held.buttons
+
+-- whether two states of a door are the same
+abbrev pub is_same_state : DoorState → DoorState → Bool
+is_same_state Locked Locked = true
+is_same_state Open Open = true
+is_same_state Locked Open = false
+is_same_state Open Locked = false

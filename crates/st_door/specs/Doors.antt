@@ -5,6 +5,7 @@ use Rattle.st_core.specs.MachineState.{MachineState}
 use Rattle.st_core.specs.Callbacks.{Callbacks}
 use Rattle.st_core.specs.Choice.{is_ready_of}
 use Rattle.st_core.specs.Post.{post_of}
+use Rattle.st_core.specs.Stop.{stop_of}
 use Rattle.st_core.specs.Transition.{turn_of}
 use Rattle.st_core.specs.declared.entry.Entry.TheVariants.{Cast}
 use Rattle.st_door.specs.declared.door_content.DoorContent.TheVariants.{Button}
@@ -13,7 +14,7 @@ use Rattle.st_events.specs.declared.refused.Refused.{Refused}
 use Rattle.st_door.specs.declared.door_content.DoorContent.{DoorContent}
 use Rattle.st_door.specs.declared.door_data.DoorData.{DoorData}
 use Rattle.st_door.specs.declared.door_state.DoorState.{DoorState}
-use Rattle.st_door.specs.Door.{handle_of}
+use Rattle.st_door.specs.Door.{handle_of, terminate_of, is_same_state}
 
 abbrev pub DoorMachine : Type 0
 DoorMachine = MachineState DoorState DoorData DoorContent
@@ -26,9 +27,9 @@ pub record NamedDoor : Type 0 where
 abbrev pub door_named : List ℕ → DoorMachine → NamedDoor
 door_named name machine = record { name = name; machine = machine }
 
--- the callbacks of a door
+-- the callbacks of a door, and the equality of its states
 abbrev pub door_callbacks : Callbacks DoorState DoorData DoorContent
-door_callbacks = record { handle_is = handle_of }
+door_callbacks = record { handle_is = handle_of; terminate_is = terminate_of; same_state = is_same_state }
 
 -- the first element that passes is changed
 abbrev pub change_first : {X : Type 0} → (X → Bool) → (X → X) → List X → List X
@@ -77,6 +78,19 @@ press_of digit door = post_of door.machine Cast (Button digit)
 -- the door after it
 abbrev pub pressed_door : ℕ → NamedDoor → NamedDoor
 pressed_door digit door = door_named door.name (press_of digit door).1
+
+-- why a stop is refused, if it is
+abbrev pub stop_refusal_of : Result ℕ Refusal → Option Refusal
+stop_refusal_of (Ok word) = None
+stop_refusal_of (Err refusal) = Some refusal
+
+-- the door is stopped for a reason: what the stop answers, and the machine after it
+abbrev pub door_stop_of : ℕ → NamedDoor → Result ℕ Refusal × DoorMachine
+door_stop_of reason door = stop_of door_callbacks door.machine reason
+
+-- the door after it
+abbrev pub ended_door : ℕ → NamedDoor → NamedDoor
+ended_door reason door = door_named door.name (door_stop_of reason door).1
 
 -- as long as a door is ready, the first ready one gets a turn, at most so many times
 unfoldable pub run_until_idle : ℕ → ℕ → List NamedDoor → List NamedDoor

@@ -1,9 +1,9 @@
 -- What a line says.
 use Rattle.std.specs.Prelude.{ℕ, Bool, false, ◌&&◌, ◌==◌, ◌-◌, nat_lt, List, [], ◌∷◌, length, if◌then◌else◌, bytes_eq, codes}
 use Rattle.st_door.specs.declared.line.Line.{Line}
-use Rattle.st_door.specs.declared.line.Line.TheVariants.{Blank, Malformed, New, Button, Show, Names}
+use Rattle.st_door.specs.declared.line.Line.TheVariants.{Blank, Malformed, New, Button, Show, Stop, Names}
 use Rattle.st_door.specs.Lines.{words}
-use Rattle.st_door.specs.WordForms.{digit_zero, is_name, is_digits, digits_of}
+use Rattle.st_door.specs.WordForms.{digit_zero, is_name, is_digits, digits_of, is_number, number_of}
 
 -- how many bytes a line may have
 abbrev pub line_limit : ℕ
@@ -12,6 +12,14 @@ line_limit = 256
 -- how many digits a code may have
 abbrev pub code_limit : ℕ
 code_limit = 16
+
+-- how many digits a reason may have
+abbrev pub reason_limit : ℕ
+reason_limit = 10
+
+-- the greatest reason
+abbrev pub greatest_reason : ℕ
+greatest_reason = 4294967295
 
 -- the byte that begins a comment
 abbrev pub number_sign : ℕ
@@ -34,6 +42,12 @@ abbrev pub show_of : List (List ℕ) → Line
 show_of (name ∷ []) = if is_name name then Show name else Malformed
 show_of _ = Malformed
 
+-- `stop`, after which a name and a reason stand
+abbrev pub stop_of : List (List ℕ) → Line
+stop_of (name ∷ reason ∷ []) =
+    if is_name name && is_number reason_limit greatest_reason reason then Stop name (number_of reason) else Malformed
+stop_of _ = Malformed
+
 -- `names`, after which nothing stands
 abbrev pub names_of : List (List ℕ) → Line
 names_of [] = Names
@@ -51,8 +65,9 @@ command_of verb args =
     else (if bytes_eq verb (codes "new") then new_of args
     else (if bytes_eq verb (codes "button") then button_of args
     else (if bytes_eq verb (codes "show") then show_of args
+    else (if bytes_eq verb (codes "stop") then stop_of args
     else (if bytes_eq verb (codes "names") then names_of args
-    else Malformed))))
+    else Malformed)))))
 
 -- what the words of a line say
 abbrev pub line_of_words : List (List ℕ) → Line

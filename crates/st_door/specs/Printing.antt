@@ -1,5 +1,5 @@
 -- What is printed.
-use Rattle.std.specs.Prelude.{ℕ, List, [], ◌∷◌, ◌++◌, codes, decimal, flat_map, length}
+use Rattle.std.specs.Prelude.{ℕ, Option, Some, None, List, [], ◌∷◌, ◌++◌, codes, decimal, flat_map, length}
 use Rattle.st_core.specs.Choice.{waiting_of}
 use Rattle.st_door.specs.declared.door_state.DoorState.{DoorState}
 use Rattle.st_door.specs.declared.door_state.DoorState.TheVariants.{Locked, Open}
@@ -11,14 +11,24 @@ abbrev pub state_name_of : DoorState → List ℕ
 state_name_of Locked = codes "locked"
 state_name_of Open = codes "open"
 
--- the status of a door by its parts
+-- the status of a door that runs, by its parts
 abbrev pub status_text : List ℕ → DoorState → ℕ → ℕ → List ℕ
 status_text name state buttons waiting =
     name ++ (codes " " ++ (state_name_of state ++ (codes " buttons " ++ (decimal buttons ++ (codes " waiting " ++ (decimal waiting ++ line_feed ∷ []))))))
 
+-- the status of a door that has ended, by its parts: the reason, and the last word
+abbrev pub ended_text : List ℕ → ℕ → ℕ → List ℕ
+ended_text name reason word =
+    name ++ (codes " stopped " ++ (decimal reason ++ (codes " word " ++ (decimal word ++ line_feed ∷ []))))
+
+-- the status of a door, by the reason and the last word if it has ended
+abbrev pub status_by : NamedDoor → Option (ℕ × ℕ) → List ℕ
+status_by door None = status_text door.name door.machine.state (length door.machine.data.buttons) (waiting_of door.machine)
+status_by door (Some end) = ended_text door.name end.0 end.1
+
 -- the status of a door
 abbrev pub status_of : NamedDoor → List ℕ
-status_of door = status_text door.name door.machine.state (length door.machine.data.buttons) (waiting_of door.machine)
+status_of door = status_by door door.machine.ended
 
 -- the names of the doors, in order of registration
 abbrev pub names_text : List NamedDoor → List ℕ

@@ -19,7 +19,7 @@ use Rattle.st_door.specs.declared.line.Line.TheVariants as line
 use Rattle.st_door.specs.declared.reply.Reply.{Reply}
 use Rattle.st_door.specs.declared.reply.Reply.TheVariants.{Silent, Printed, Refuses, Malformed}
 use Rattle.st_door.specs.Door.{init_of}
-use Rattle.st_door.specs.Doors.{NamedDoor, DoorMachine, door_limit, door_of, with_machine, free_slot_of, run_until_idle, press_of, refusal_of}
+use Rattle.st_door.specs.Doors.{NamedDoor, DoorMachine, door_limit, door_of, with_machine, free_slot_of, run_until_idle, press_of, refusal_of, door_stop_of, stop_refusal_of}
 use Rattle.st_door.specs.Grammar.{line_of}
 use Rattle.st_door.specs.Lines.{lines}
 use Rattle.st_door.specs.Printing.{status_of, names_text, refused_text, malformed_text}
@@ -71,15 +71,21 @@ new_door script name code None =
     then with_start script name (door_start_of script code)
     else Err Full
 
--- what comes of a post to the door of a name, by its refusal and the machine after it
-abbrev pub with_post : ScriptState → List ℕ → Option Refusal → DoorMachine → Result ScriptState Refusal
-with_post script name None machine = Ok (record script { doors = with_machine name machine script.doors })
-with_post script name (Some refusal) machine = Err refusal
+-- what comes of a call of the door of a name, by its refusal and the machine after it
+abbrev pub with_call : ScriptState → List ℕ → Option Refusal → DoorMachine → Result ScriptState Refusal
+with_call script name None machine = Ok (record script { doors = with_machine name machine script.doors })
+with_call script name (Some refusal) machine = Err refusal
 
 -- `button`: a name that is not registered is refused, then as the post is
 abbrev pub pressed_button : ScriptState → List ℕ → ℕ → Option NamedDoor → Result ScriptState Refusal
 pressed_button script name digit None = Err NoSuchName
-pressed_button script name digit (Some door) = with_post script name (refusal_of (press_of digit door).0) (press_of digit door).1
+pressed_button script name digit (Some door) = with_call script name (refusal_of (press_of digit door).0) (press_of digit door).1
+
+-- `stop`: a name that is not registered is refused, then as the stop is
+abbrev pub stopped_door : ScriptState → List ℕ → ℕ → Option NamedDoor → Result ScriptState Refusal
+stopped_door script name reason None = Err NoSuchName
+stopped_door script name reason (Some door) =
+    with_call script name (stop_refusal_of (door_stop_of reason door).0) (door_stop_of reason door).1
 
 -- `show`: a name that is not registered is refused
 abbrev pub shown_door : ScriptState → Option NamedDoor → Result ScriptState Refusal
@@ -93,6 +99,7 @@ acted_of script line.Malformed = Ok script
 acted_of script (line.New name code) = new_door script name code (door_of name script.doors)
 acted_of script (line.Button name digit) = pressed_button script name digit (door_of name script.doors)
 acted_of script (line.Show name) = shown_door script (door_of name script.doors)
+acted_of script (line.Stop name reason) = stopped_door script name reason (door_of name script.doors)
 acted_of script line.Names = Ok script
 
 -- the script once its doors rest
@@ -110,6 +117,7 @@ text_of script line.Malformed = []
 text_of script (line.New name code) = named_status_of script name
 text_of script (line.Button name digit) = named_status_of script name
 text_of script (line.Show name) = named_status_of script name
+text_of script (line.Stop name reason) = named_status_of script name
 text_of script line.Names = names_text script.doors
 
 -- a line that is refused changes nothing; else the doors run until they rest, and then it prints
@@ -124,6 +132,7 @@ step_of script line.Malformed = (Malformed, script)
 step_of script (line.New name code) = settled_of script (line.New name code) (acted_of script (line.New name code))
 step_of script (line.Button name digit) = settled_of script (line.Button name digit) (acted_of script (line.Button name digit))
 step_of script (line.Show name) = settled_of script (line.Show name) (acted_of script (line.Show name))
+step_of script (line.Stop name reason) = settled_of script (line.Stop name reason) (acted_of script (line.Stop name reason))
 step_of script line.Names = settled_of script line.Names (acted_of script line.Names)
 
 -- what the line of a number prints

@@ -1,10 +1,10 @@
 //! The example module: a door with a code lock.
 ghost use Rattle.std.specs.Prelude.{◌≡◌, IfOk};
 ghost use Rattle.std.proofs.Common.{rules};
-ghost use Rattle.st_door.specs.Door.{init_of, handle_of, cast_of, timeout_of, call_of, pressed, with_button};
+ghost use Rattle.st_door.specs.Door.{init_of, handle_of, terminate_of, cast_of, timeout_of, call_of, pressed, with_button};
 
 use crate::{Digits, DoorContent, DoorData, DoorState};
-use st_events::{Action, Actions, Init, Kind, Module, Outcome, Tag, Timer};
+use st_events::{Action, Actions, Init, Kind, Module, Outcome, Reason, Tag, Timer};
 use std::alloc::{AllocError, Global};
 
 /// What the door's `handle` answers.
@@ -53,7 +53,7 @@ fn pressed(alloc: Global, data: &DoorData, digit: u8) -> Result<DoorOutcome, All
     }
 }
 
-/// A cast: a button counts while the door is locked.
+/// A cast: a button counts while the door is locked, and is postponed while it is open.
 fn cast(
     alloc: Global,
     content: &DoorContent,
@@ -64,6 +64,11 @@ fn cast(
 {
     match (content, state) {
         (DoorContent::Button(digit), DoorState::Locked) => pressed(alloc, data, *digit),
+        (DoorContent::Button(_), DoorState::Open) => {
+            let mut actions = Actions::new(alloc);
+            actions.push(Action::Postpone(true))?;
+            Ok(Outcome::KeepStateAndData(actions))
+        }
         _ => Ok(Outcome::KeepStateAndData(Actions::new(alloc))),
     }
 }
@@ -115,6 +120,8 @@ impl Module for Door {
 
     ghost handle_is = { λ door kind content state held. handle_of kind content state held };
 
+    ghost terminate_is = { λ door reason state held. terminate_of reason state held };
+
     fn init(
         &self,
         alloc: Global,
@@ -144,6 +151,10 @@ impl Module for Door {
         }
     }
 
+    fn terminate(&self, _reason: Reason, _state: DoorState, data: &DoorData) -> u32 {
+        data.buttons.len() as u32
+    }
+
     fn copy_content(
         &self,
         _alloc: Global,
@@ -162,4 +173,12 @@ impl Module for Door {
     ghost outcome_fits = { Prim.search rules };
 
     ghost init_fits = { Prim.search rules };
+
+    ghost actions_fit = { Prim.search rules };
+
+    ghost replies_fit = { Prim.search rules };
+
+    ghost inserts_fit = { Prim.search rules };
+
+    ghost planned_fits = { Prim.search rules };
 }

@@ -1,17 +1,18 @@
 //! The doors of a script, by name, in order of registration.
 ghost use Rattle.std.specs.Prelude.{◌≡◌, ◌<◌, [], ◌∷◌, ◌++◌, None, IfOk, OnOk, OnErr, IfSome, IfNone, length, slice_set, slice_index_or, string_bytes};
 ghost use Rattle.st_core.specs.Post.{post_of};
+ghost use Rattle.st_core.specs.Stop.{stop_of};
 ghost use Rattle.st_core.specs.Transition.{turn_of};
 ghost use Rattle.st_core.specs.declared.entry.Entry.TheVariants.{Cast};
 ghost use Rattle.st_door.specs.declared.door_content.DoorContent.TheVariants.{Button};
-ghost use Rattle.st_door.specs.Doors.{NamedDoor, door_named, IsFirst, has_name, door_of, is_ready_door, turned_door, press_of, pressed_door, refusal_of, door_callbacks};
+ghost use Rattle.st_door.specs.Doors.{NamedDoor, door_named, IsFirst, has_name, door_of, is_ready_door, turned_door, press_of, pressed_door, refusal_of, door_stop_of, ended_door, stop_refusal_of, door_callbacks};
 ghost use Rattle.st_door.specs.Printing.{status_of, names_text};
 
-use crate::printing::status;
+use crate::printing::{ended_status, status};
 use crate::{Door, DoorContent};
 use indexmap::IndexMap;
 use st_core::{Core, Entry};
-use st_events::{MachineId, Refusal};
+use st_events::{MachineId, Reason, Refusal};
 use std::alloc::{AllocError, Global};
 use std::marker::Model;
 
@@ -120,6 +121,16 @@ impl Doors {
         press(core, digit)
     }
 
+    /// Stops the door at a place for a reason, and answers why that is refused, if it is.
+    pub(crate) fn stop_at(&mut self, place: usize, reason: Reason) -> Option<Refusal>
+        requires { place < length self.old }
+        ensures refusal { (d : NamedDoor) → result ≡ stop_refusal_of (door_stop_of reason (slice_index_or self.old place d)).0 }
+        ensures ended { (d : NamedDoor) → self.new ≡ slice_set self.old place (ended_door reason (slice_index_or self.old place d)) }
+    {
+        let (_, core) = self.entries.pair_mut(place);
+        stop(core, reason)
+    }
+
     /// The line of the names, in order of registration.
     pub(crate) fn names(&self, alloc: Global) -> Result<String, AllocError>
         ensures { IfOk result (λ text. string_bytes text ≡ names_text self.now) }
@@ -140,6 +151,9 @@ impl Doors {
         ensures { IfOk result (λ text. (d : NamedDoor) → string_bytes text ≡ status_of (slice_index_or self.now place d)) }
     {
         let (name, core) = self.entry_at(place);
+        if let Some((reason, word)) = core.ended() {
+            return ended_status(alloc, name.as_str(), reason, word);
+        }
         status(
             alloc,
             name.as_str(),
@@ -176,5 +190,16 @@ fn press(core: &mut Core<Door>, digit: u8) -> Result<Option<Refusal>, AllocError
             Refusal::NoMemory => Err(AllocError),
             refusal => Ok(Some(refusal)),
         },
+    }
+}
+
+/// Stops a door for a reason, and answers why that is refused, if it is.
+fn stop(core: &mut Core<Door>, reason: Reason) -> Option<Refusal>
+    ensures refusal { result ≡ stop_refusal_of (stop_of door_callbacks core.old.machine reason).0 }
+    ensures ended { core.new.machine ≡ (stop_of door_callbacks core.old.machine reason).1 }
+{
+    match core.stop(reason) {
+        Ok(_word) => None,
+        Err(refusal) => Some(refusal),
     }
 }

@@ -2,12 +2,13 @@
 ghost use Rattle.std.specs.Prelude.{◌≡◌, IfOk, map, Some, None, if◌then◌else◌};
 ghost use Rattle.st_door.specs.WordForms.{is_name};
 ghost use Rattle.st_door.specs.Grammar.{line_of, command_of, is_comment};
-ghost use Rattle.st_door.specs.Grammar.{new_of, button_of, show_of, names_of};
+ghost use Rattle.st_door.specs.Grammar.{new_of, button_of, show_of, stop_of, names_of};
 
 use crate::digits::Digits;
 use crate::lines::words;
 use crate::text::Text;
-use crate::word_forms::{digits_of, is_digits, is_name};
+use crate::word_forms::{digits_of, is_digits, is_name, number_of};
+use st_events::Reason;
 use std::alloc::{AllocError, Global};
 use std::str;
 
@@ -16,6 +17,9 @@ pub const LINE_LIMIT: usize = 256;
 
 /// How many digits a code may have.
 const CODE_LIMIT: usize = 16;
+
+/// How many digits a reason may have.
+const REASON_LIMIT: usize = 10;
 
 /// What a line says.
 #[derive(Drop)]
@@ -30,6 +34,8 @@ pub enum Line {
     Button { name: Text, digit: u8 },
     /// Print a door's status.
     Show { name: Text },
+    /// Stop a door.
+    Stop { name: Text, reason: Reason },
     /// Print the names of the doors.
     Names,
 }
@@ -95,6 +101,24 @@ fn show_line(alloc: Global, args: &[&[u8]]) -> Result<Line, AllocError>
     Ok(Line::Show { name })
 }
 
+fn stop_line(alloc: Global, args: &[&[u8]]) -> Result<Line, AllocError>
+    ensures { IfOk result (λ line. line ≡ stop_of (map (λ arg. arg.now) args.now)) }
+{
+    let [word, reason] = args else {
+        return Ok(Line::Malformed);
+    };
+    let Some(reason) = number_of(REASON_LIMIT, Reason::MAX as u64, reason) else {
+        return Ok(Line::Malformed);
+    };
+    let Some(name) = name_of(alloc, word)? else {
+        return Ok(Line::Malformed);
+    };
+    Ok(Line::Stop {
+        name,
+        reason: reason as Reason,
+    })
+}
+
 fn names_line(args: &[&[u8]]) -> Line
     ensures { result ≡ names_of (map (λ arg. arg.now) args.now) }
 {
@@ -115,6 +139,8 @@ fn command(alloc: Global, verb: &[u8], args: &[&[u8]]) -> Result<Line, AllocErro
         button_line(alloc, args)
     } else if verb == b"show".as_slice() {
         show_line(alloc, args)
+    } else if verb == b"stop".as_slice() {
+        stop_line(alloc, args)
     } else if verb == b"names".as_slice() {
         Ok(names_line(args))
     } else {

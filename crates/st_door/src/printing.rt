@@ -1,11 +1,12 @@
 //! What is printed.
 ghost use Rattle.std.specs.Prelude.{◌≡◌, IfOk, string_bytes};
-ghost use Rattle.st_door.specs.Printing.{state_name_of, status_text};
+ghost use Rattle.st_door.specs.Printing.{state_name_of, status_text, ended_text};
 ghost use Rattle.st_door.specs.Script.{printed_of};
 
 use crate::DoorState;
 use crate::reply::Reply;
 use crate::text::Text;
+use st_events::Reason;
 use std::alloc::{AllocError, Global};
 
 /// The name of a state.
@@ -18,7 +19,7 @@ fn state_name(state: DoorState) -> &'static str
     }
 }
 
-/// The status of a door by its parts.
+/// The status of a door that runs, by its parts.
 pub(crate) fn status(
     alloc: Global,
     name: &str,
@@ -30,6 +31,18 @@ pub(crate) fn status(
 {
     let state = state_name(state);
     format!(in alloc; "{name} {state} buttons {buttons} waiting {waiting}\n")
+}
+
+/// The status of a door that has ended, by its parts.
+pub(crate) fn ended_status(
+    alloc: Global,
+    name: &str,
+    reason: Reason,
+    word: u32,
+) -> Result<String, AllocError>
+    ensures { IfOk result (λ text. string_bytes text ≡ ended_text name.now reason word) }
+{
+    format!(in alloc; "{name} stopped {reason} word {word}\n")
 }
 
 /// What the line of a number prints.

@@ -1,6 +1,6 @@
 //! A script between two of its lines.
 ghost use Rattle.std.specs.Prelude.{◌≡◌, ◌≤◌, ◌<◌, ℕ, None, Ok, Err, IfOk, OnOk, IfNone, IfSome, length, slice_index_or, slice_set};
-ghost use Rattle.st_door.specs.Doors.{NamedDoor, SameLabels, door_limit, door_of, refusal_of, press_of, pressed_door};
+ghost use Rattle.st_door.specs.Doors.{NamedDoor, SameLabels, door_limit, door_of, refusal_of, press_of, pressed_door, stop_refusal_of, door_stop_of, ended_door};
 ghost use Rattle.st_door.specs.Printing.{status_of};
 ghost use Rattle.st_door.specs.Script.{first_script_state, step_of, with_start, door_start_of, rested_of};
 ghost use Rattle.st_door.specs.declared.reply.Reply.TheVariants.{Printed};
@@ -13,7 +13,7 @@ use crate::settling::run_until_idle;
 use crate::text::Text;
 use crate::{Digits, Door};
 use st_core::{Core, Start};
-use st_events::{MachineId, Refusal};
+use st_events::{MachineId, Reason, Refusal};
 use std::alloc::{AllocError, Global};
 use std::marker::Model;
 
@@ -68,6 +68,7 @@ impl Script {
             Line::New { name, code } => self.obey_new(name, code),
             Line::Button { name, digit } => self.obey_button(name.as_str(), digit),
             Line::Show { name } => self.obey_show(name.as_str()),
+            Line::Stop { name, reason } => self.obey_stop(name.as_str(), reason),
             Line::Names => self.obey_names(),
         }
     }
@@ -119,6 +120,21 @@ impl Script {
         self.status_reply(place)
     }
 
+    /// Stops the door of a name for a reason, and answers its status.
+    fn obey_stop(&mut self, name: &str, reason: Reason) -> Result<Reply, AllocError>
+        ensures reply { IfOk result (λ reply. reply ≡ (step_of self.old (line.Stop name.now reason)).0) }
+        ensures script { OnOk result (self.new ≡ (step_of self.old (line.Stop name.now reason)).1) }
+    {
+        let Some(place) = self.doors.place_of(name) else {
+            return Ok(Reply::Refuses(Refusal::NoSuchName));
+        };
+        if let Some(refusal) = self.stop(place, reason) {
+            return Ok(Reply::Refuses(refusal));
+        }
+        self.settle()?;
+        self.status_reply(place)
+    }
+
     /// Answers the names.
     fn obey_names(&mut self) -> Result<Reply, AllocError>
         ensures reply { IfOk result (λ reply. reply ≡ (step_of self.old line.Names).0) }
@@ -165,6 +181,16 @@ impl Script {
         self.from = from;
         self.until = until;
         Ok(refusal)
+    }
+
+    /// Stops the door at a place for a reason, and answers why that is refused, if it is. From then on
+    /// the door rests.
+    fn stop(&mut self, place: usize, reason: Reason) -> Option<Refusal>
+        requires { place < length self.old.doors }
+        ensures refusal { (d : NamedDoor) → result ≡ stop_refusal_of (door_stop_of reason (slice_index_or self.old.doors place d)).0 }
+        ensures ended { (d : NamedDoor) → self.new ≡ record self.old { doors = slice_set self.old.doors place (ended_door reason (slice_index_or self.old.doors place d)) } }
+    {
+        self.doors.stop_at(place, reason)
     }
 
     /// Makes turns until the doors rest.

@@ -1,11 +1,12 @@
-//! What a word has to be to stand for a name or for digits.
-ghost use Rattle.std.specs.Prelude.{◌≡◌, IfOk};
+//! What a word has to be to stand for a name, for digits or for a number.
+ghost use Rattle.std.specs.Prelude.{◌≡◌, IfOk, Some, None, if◌then◌else◌};
 ghost use Rattle.std.specs.Char.{is_ascii_digit};
 ghost use Rattle.std.specs.List.{list_all};
-ghost use Rattle.st_door.specs.WordForms.{is_name, is_name_byte, is_digits, digits_of};
+ghost use Rattle.st_door.specs.WordForms.{is_name, is_name_byte, is_digits, digits_of, is_number, number_of};
 
 use crate::digits::Digits;
 use std::alloc::{AllocError, Global};
+use std::str;
 
 /// How many bytes a name may have.
 const NAME_LIMIT: usize = 32;
@@ -56,4 +57,20 @@ pub fn digits_of(alloc: Global, word: &[u8]) -> Result<Digits, AllocError>
         digits.push(c.saturating_sub(b'0'))?;
     }
     Ok(digits)
+}
+
+/// The number that a word of 1 to `most` digits shows, if it is not greater than `greatest`.
+pub fn number_of(most: usize, greatest: u64, word: &[u8]) -> Option<u64>
+    ensures { result ≡ (if is_number most greatest word.now then Some (number_of word.now) else None) }
+{
+    if !is_digits(most, word) {
+        return None;
+    }
+    let Ok(text) = str::from_utf8(word) else {
+        return None;
+    };
+    match text.parse::<u64>() {
+        Ok(number) if number <= greatest => Some(number),
+        _ => None,
+    }
 }

@@ -6,6 +6,7 @@ use Rattle.st_events.specs.declared.refusal.Refusal.TheVariants as refusal
 -- the number of a refusal; the numbers left out are of refusals that come with later calls
 abbrev pub number_of : Refusal → ℕ
 number_of refusal.NoMemory = 1
+number_of (refusal.Stopped reason) = 2
 number_of refusal.Exhausted = 3
 number_of refusal.Moment = 4
 number_of (refusal.AlreadyStarted id) = 7

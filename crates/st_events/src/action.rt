@@ -1,6 +1,6 @@
 //! What a callback asks for.
 
-use crate::{SmallList, Tag};
+use crate::{Kind, SmallList, Tag};
 
 /// One action of a callback.
 ///
@@ -9,14 +9,13 @@ use crate::{SmallList, Tag};
 pub enum Action<C> {
     /// Answers a request. Manual: `reply_action()`.
     Reply(Tag, C),
+    /// Says whether the event is postponed. Of several the last one decides. Manual: `postpone()`.
+    Postpone(bool),
+    /// Inserts an event, which is handled before all that was not handled yet. Manual: `action()`,
+    /// the bullet on `next_event`.
+    NextEvent(Kind, C),
     /// Is accepted and has no effect. Manual: `hibernate()`; ours: docs/DECISIONS.md, Hibernation.
     Hibernate,
-}
-
-impl<C> Default for Action<C> {
-    fn default() -> Action<C> {
-        Action::Hibernate
-    }
 }
 
 /// The actions of a callback, in the order in which they are done. Up to four take no memory.

@@ -1,13 +1,14 @@
 //! The callback module.
-ghost use Rattle.std.specs.Prelude.{◌≡◌, true, IfOk};
+ghost use Rattle.std.specs.Prelude.{◌≡◌, ℕ, true, IfOk};
 ghost use Rattle.std.specs.Mem.{FitsInMemory};
 ghost use Rattle.st_events.specs.declared.kind.Kind.{Kind};
 ghost use Rattle.st_events.specs.declared.outcome.Outcome.{Outcome};
 ghost use Rattle.st_events.specs.declared.init.Init.{Init};
 ghost use Rattle.st_events.specs.contracts.outcome.Outcome.{the_row as outcome_row};
 ghost use Rattle.st_events.specs.contracts.init.Init.{the_row as init_row};
+ghost use Rattle.st_events.specs.Rows.{ActionsFit, RepliesFit, InsertsFit, PlannedFits};
 
-use crate::{Init, Kind, Outcome};
+use crate::{Init, Kind, Outcome, Reason};
 use std::alloc::{AllocError, Global};
 
 /// A callback module: what an embedder writes, and a machine runs.
@@ -35,6 +36,9 @@ pub trait Module: Drop {
     // What `handle` answers to an event, in a state, with the data.
     ghost handle_is: { Self → Kind → Self.Content → Self.State → Self.Data → Outcome Self.State Self.Data Self.Content };
 
+    // What `terminate` answers to a reason, in a state, with the data.
+    ghost terminate_is: { Self → ℕ → Self.State → Self.Data → ℕ };
+
     /// Begins: the first state, data and actions, or that no machine starts.
     ///
     /// Manual: `Module:init/1`.
@@ -57,6 +61,12 @@ pub trait Module: Drop {
         data: &Self::Data,
     ) -> Result<Outcome<Self::State, Self::Data, Self::Content>, AllocError>
         ensures { IfOk result (λ outcome. outcome ≡ handle_is self.now kind content.now state «data».now) };
+
+    /// Ends: answers the machine's last word, for a reason, in a state, with the data. It takes no memory.
+    ///
+    /// Manual: `Module:terminate/3`; ours: docs/DECISIONS.md, The last word.
+    fn terminate(&self, reason: Reason, state: Self::State, data: &Self::Data) -> u32
+        ensures { result ≡ terminate_is self.now reason state «data».now };
 
     /// A copy of a content, equal to it.
     ///
@@ -82,4 +92,16 @@ pub trait Module: Drop {
 
     // What `init` answers fits in memory, with its inline actions.
     ghost init_fits: { FitsInMemory (init_row Self.State.row Self.Data.row Self.Content.row) };
+
+    // A list of actions fits in memory, with its inline actions.
+    ghost actions_fit: { ActionsFit Self.Content.row };
+
+    // A list of replies fits in memory, with its inline replies.
+    ghost replies_fit: { RepliesFit Self.Content.row };
+
+    // A list of events to be inserted fits in memory, with its inline events.
+    ghost inserts_fit: { InsertsFit Self.Content.row };
+
+    // What a list of actions asks for fits in memory, with all of these.
+    ghost planned_fits: { PlannedFits Self.Content.row };
 }

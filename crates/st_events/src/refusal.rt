@@ -2,7 +2,7 @@
 ghost use Rattle.std.specs.Prelude.{◌≡◌};
 ghost use Rattle.st_events.specs.Refusal.{number_of};
 
-use crate::MachineId;
+use crate::{MachineId, Reason};
 use thiserror::Error;
 
 /// Why a call was refused. A refused call changes nothing, and gives back what it took.
@@ -13,6 +13,9 @@ pub enum Refusal {
     /// Memory was wanted and there was none.
     #[error("no memory")]
     NoMemory,
+    /// The machine has ended, for this reason.
+    #[error("stopped")]
+    Stopped(Reason),
     /// A counter has too few numbers left.
     #[error("too few numbers left")]
     Exhausted,
@@ -37,6 +40,7 @@ impl Refusal {
     {
         match self {
             Refusal::NoMemory => 1,
+            Refusal::Stopped(_) => 2,
             Refusal::Exhausted => 3,
             Refusal::Moment => 4,
             Refusal::AlreadyStarted(_) => 7,

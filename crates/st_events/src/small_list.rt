@@ -1,5 +1,6 @@
 //! Short lists that contracts see as lists.
-ghost use Rattle.std.specs.Prelude.{◌≡◌, ◌<◌, [], ◌∷◌, ◌++◌, length, IsOk, OnOk, OnErr, IfErr};
+ghost use Rattle.std.specs.Prelude.{◌≡◌, ◌↔◌, ◌<◌, [], ◌∷◌, ◌++◌, length, reverse, slice_get, option_copied, IsTrue, IsNone, IsOk, IfNone, OnOk, OnErr, IfErr};
+ghost use Rattle.std.specs.Option.{option_to_list};
 
 use smallvec::SmallVec;
 use std::alloc::{AllocFailed, Global};
@@ -8,7 +9,8 @@ use std::marker::Model;
 /// A list of which up to four elements lie in the value itself. Contracts see its elements alone.
 #[derive(Debug, Drop)]
 pub struct SmallList<T> {
-    elements: SmallVec<T, 4>,
+    // Each is `Some`: an inline place that is not used holds `None`, so that no element needs a blank.
+    pub(crate) elements: SmallVec<Option<T>, 4>,
 }
 
 impl<T> Model for SmallList<T> {
@@ -16,12 +18,14 @@ impl<T> Model for SmallList<T> {
 
     ghost Value = { List T };
 
-    ghost view = { λ list. list.elements.items };
+    ghost use Rattle.st_events.specs.Places.{present, IsFull};
 
-    ghost invariant = { λ list. 4 ≤ list.elements.capacity };
+    ghost view = { λ list. present list.elements.items };
+
+    ghost invariant = { λ list. (4 ≤ list.elements.capacity) × IsFull list.elements.items };
 }
 
-impl<T: Default + Drop> SmallList<T> {
+impl<T: Drop> SmallList<T> {
     /// No element. It takes no memory.
     pub fn new(alloc: Global) -> SmallList<T>
         ensures { result ≡ [] }
@@ -40,15 +44,56 @@ impl<T: Default + Drop> SmallList<T> {
         ensures unchanged { OnErr result (self.new ≡ self.old) }
         ensures value_returned { IfErr result (λ failed. failed.value ≡ element) }
     {
-        self.elements.push(element)
+        if self.elements.reserve(1).is_err() {
+            return Err(AllocFailed { value: element });
+        }
+        self.elements.push_reserved(Some(element));
+        Ok(())
+    }
+
+    /// Takes the last element out, or answers `None` where there is none. It takes no memory.
+    pub fn pop(&mut self) -> Option<T>
+        ensures popped { self.old ≡ self.new ++ option_to_list result }
+
+        ensures end { IsNone result ↔ (self.old ≡ []) }
+        ensures unchanged { IfNone result (self.new ≡ self.old) }
+    {
+        match self.elements.pop() {
+            Some(element) => element,
+            None => None,
+        }
     }
 }
 
 impl<T> SmallList<T> {
-    /// The elements in order.
-    pub fn as_slice(&self) -> &[T]
-        ensures { result.now ≡ self.now }
+    /// How many elements there are.
+    pub fn len(&self) -> usize
+        ensures length { result ≡ length self.now }
     {
-        self.elements.as_slice()
+        self.elements.len()
+    }
+
+    /// Says whether there is no element.
+    pub fn is_empty(&self) -> bool
+        ensures empty { IsTrue result ↔ (self.now ≡ []) }
+    {
+        self.elements.is_empty()
+    }
+
+    /// The element at an index, counted from 0, or `None` where there are not so many.
+    pub fn get(&self, index: usize) -> Option<&T>
+        ensures element { option_copied result ≡ slice_get self.now index }
+    {
+        match self.elements.as_slice().get(index) {
+            Some(Some(element)) => Some(element),
+            _ => None,
+        }
+    }
+
+    /// Turns the order of the elements round. It takes no memory.
+    pub fn reverse(&mut self)
+        ensures reversed { self.new ≡ reverse self.old }
+    {
+        self.elements.as_mut_slice().reverse();
     }
 }

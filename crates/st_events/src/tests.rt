@@ -1,5 +1,7 @@
-//! Each call once with memory, and a list of actions while an allocation is refused.
-use crate::{Action, Actions, MachineId, PlainList, Refusal, SmallList, Tag};
+//! Each call once with memory, and lists while an allocation is refused.
+ghost use Rattle.std.specs.Prelude.{◌≡◌, [], max};
+
+use crate::{Action, Actions, MachineId, PlainList, Refusal, SmallList, SmallListBuilder, Tag};
 use std::alloc::Global;
 use std::process::Abort;
 
@@ -33,6 +35,20 @@ fn text_of(rt: &impl Abort, alloc: Global, refusal: Refusal) -> String {
     }
 }
 
+/// Room for so many numbers. Where memory was refused, it is got again.
+fn room_for(rt: &impl Abort, alloc: Global, count: usize) -> SmallListBuilder<u64>
+    ensures { result ≡ record { items = []; room = max 4 count } }
+{
+    match SmallListBuilder::with_room(alloc, count) {
+        Ok(builder) => builder,
+        Err(_) => {
+            // Room for four lies in the list itself.
+            assert!(rt; count > 4);
+            SmallListBuilder::with_room(alloc, count).expect(rt, "one allocation alone is refused")
+        }
+    }
+}
+
 /// A reply to a request, with ten times its number.
 fn reply(request: u64) -> Action<u64> {
     let tag = Tag {
@@ -51,14 +67,25 @@ fn is_reply(action: &Action<u64>, request: u64) -> bool {
                 request,
             } && *content == request.saturating_mul(10)
         }
-        Action::Hibernate => false,
+        Action::Postpone(_) | Action::NextEvent(_, _) | Action::Hibernate => false,
     }
+}
+
+/// Looks that a list has these elements, and no others.
+fn has(rt: &impl Abort, list: &SmallList<u64>, elements: &[u64]) {
+    assert_eq!(rt; list.len(), elements.len());
+    assert_eq!(rt; list.is_empty(), elements.is_empty());
+    for (index, element) in elements.iter().enumerate() {
+        assert_eq!(rt; list.get(index), Some(element));
+    }
+    assert_eq!(rt; list.get(elements.len()), None);
 }
 
 /// Looks that a list has the replies to the requests 0, 1, .., and no others.
 fn has_replies(rt: &impl Abort, actions: &Actions<u64>, count: usize) {
-    assert_eq!(rt; actions.as_slice().len(), count);
-    for (action, request) in actions.as_slice().iter().zip(0..6) {
+    assert_eq!(rt; actions.len(), count);
+    for (index, request) in (0..count).zip(0..6) {
+        let action = actions.get(index).expect(rt, "there are so many");
         assert!(rt; is_reply(action, request), "at {request}");
     }
 }
@@ -66,19 +93,27 @@ fn has_replies(rt: &impl Abort, actions: &Actions<u64>, count: usize) {
 #[test]
 fn each_call_answers(rt: HostRuntime) {
     let mut short = SmallList::new(rt.alloc());
-    assert_eq!(rt; short.as_slice(), [].as_slice());
-    assert!(rt; short.push(6).is_ok());
-    assert!(rt; short.push(4).is_ok());
-    assert_eq!(rt; short.as_slice(), [6, 4].as_slice());
+    has(&rt, &short, &[]);
+    assert_eq!(rt; short.pop(), None);
+    for number in [6, 4, 2] {
+        assert!(rt; short.push(number).is_ok());
+    }
+    has(&rt, &short, &[6, 4, 2]);
+    short.reverse();
+    has(&rt, &short, &[2, 4, 6]);
+    assert_eq!(rt; short.pop(), Some(6));
+    has(&rt, &short, &[2, 4]);
+
+    let mut builder = room_for(&rt, rt.alloc(), 2);
+    builder.push(3);
+    builder.push(1);
+    has(&rt, &builder.finish(), &[3, 1]);
 
     let none: PlainList<u64> = PlainList::new(rt.alloc());
     assert_eq!(rt; none.as_slice(), [].as_slice());
     let two = PlainList::from(pair(&rt, rt.alloc()));
     assert_eq!(rt; two.as_slice(), [8, 9].as_slice());
     assert_eq!(rt; two.into_vec().as_slice(), [8, 9].as_slice());
-
-    let action: Action<u64> = Action::default();
-    assert!(rt; matches!(action, Action::Hibernate));
     tell_refusals(rt);
 }
 
@@ -86,6 +121,7 @@ fn each_call_answers(rt: HostRuntime) {
 fn refusals_have_numbers_and_texts(rt: HostRuntime) {
     for (refusal, number, text) in [
         (Refusal::NoMemory, 1, "no memory"),
+        (Refusal::Stopped(9), 2, "stopped"),
         (Refusal::Exhausted, 3, "too few numbers left"),
         (Refusal::Moment, 4, "moment out of range"),
         (Refusal::AlreadyStarted(MACHINE), 7, "name already taken"),
@@ -102,7 +138,7 @@ fn refusals_have_numbers_and_texts(rt: HostRuntime) {
 fn a_refused_push_changes_nothing(rt: HostRuntime) {
     let mut actions: Actions<u64> = SmallList::new(rt.alloc());
     for request in 0..6 {
-        let count = actions.as_slice().len();
+        let count = actions.len();
         if let Err(failed) = actions.push(reply(request)) {
             // Four actions lie in the list itself.
             assert!(rt; count >= 4);
@@ -110,7 +146,26 @@ fn a_refused_push_changes_nothing(rt: HostRuntime) {
             has_replies(&rt, &actions, count);
             assert!(rt; actions.push(failed.value).is_ok());
         }
-        has_replies(&rt, &actions, count + 1);
+        has_replies(&rt, &actions, count.saturating_add(1));
     }
+    actions.reverse();
+    for request in 0..6 {
+        let action = actions.pop().expect(&rt, "there are so many");
+        assert!(rt; is_reply(&action, request));
+    }
+    assert!(rt; actions.is_empty());
+    tell_refusals(rt);
+}
+
+#[test]
+fn room_is_got_before_the_elements_come(rt: HostRuntime) {
+    let mut builder = room_for(&rt, rt.alloc(), 6);
+    builder.push(9);
+    builder.push(8);
+    builder.push(7);
+    builder.push(6);
+    builder.push(5);
+    builder.push(4);
+    has(&rt, &builder.finish(), &[9, 8, 7, 6, 5, 4]);
     tell_refusals(rt);
 }

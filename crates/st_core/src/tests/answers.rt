@@ -1,17 +1,45 @@
 //! Answers that are wanted, and how they are compared.
 use crate::{Answer, Call, Done, Report, Turned};
-use st_events::{Kind, PlainList, Refusal, Refused};
+use st_events::{Kind, PlainList, Reason, Refusal, Refused};
 use std::alloc::Global;
 use std::fmt::Debug;
 use std::process::Abort;
 
-/// A list of one call. Where memory was refused, it is asked for again.
-fn one_call<S: Copy>(rt: &impl Abort, alloc: Global, call: Call<S>) -> PlainList<Call<S>> {
-    let mut calls = Vec::new(alloc);
-    if calls.push(call).is_err() {
-        assert!(rt; calls.push(call).is_ok());
+/// An empty vector with room. Where memory was refused, room is got again.
+pub fn room<T>(rt: &impl Abort, alloc: Global, count: usize) -> Vec<T> {
+    match Vec::with_capacity(alloc, count) {
+        Ok(elements) => elements,
+        Err(_) => Vec::with_capacity(alloc, count).expect(rt, "one allocation alone is refused"),
     }
+}
+
+/// A list of one call.
+fn one_call<S: Copy>(rt: &impl Abort, alloc: Global, call: Call<S>) -> PlainList<Call<S>> {
+    let mut calls = room(rt, alloc, 1);
+    assert!(rt; calls.push(call).is_ok());
     PlainList::from(calls)
+}
+
+/// A list of two calls.
+fn two_calls<S: Copy>(
+    rt: &impl Abort,
+    alloc: Global,
+    first: Call<S>,
+    second: Call<S>,
+) -> PlainList<Call<S>> {
+    let mut calls = room(rt, alloc, 2);
+    assert!(rt; calls.push(first).is_ok());
+    assert!(rt; calls.push(second).is_ok());
+    PlainList::from(calls)
+}
+
+/// A list of numbers.
+fn list(rt: &impl Abort, alloc: Global, numbers: &[u64]) -> PlainList<u64> {
+    let mut copies = room(rt, alloc, numbers.len());
+    for number in numbers {
+        assert!(rt; copies.push(*number).is_ok());
+    }
+    PlainList::from(copies)
 }
 
 /// What a post answers that is accepted.
@@ -24,6 +52,32 @@ pub fn not_posted<S, C>(refusal: Refusal, value: C) -> Answer<S, C> {
     Answer::Post(Err(Refused { refusal, value }))
 }
 
+/// What a turn reports that finishes an event, and inserts nothing.
+fn report<S: Copy>(
+    rt: &impl Abort,
+    alloc: Global,
+    number: u64,
+    kind: Kind,
+    before: S,
+    after: S,
+) -> Report<S> {
+    let call = Call::Handle {
+        number,
+        kind,
+        state: before,
+    };
+    Report {
+        event: Some(number),
+        done: Done::Finished,
+        calls: one_call(rt, alloc, call),
+        before,
+        after,
+        replied: PlainList::new(alloc),
+        inserted: PlainList::new(alloc),
+        set: PlainList::new(alloc),
+    }
+}
+
 /// What a turn answers that finishes an event.
 pub fn finished<S: Copy, C>(
     rt: &impl Abort,
@@ -33,20 +87,63 @@ pub fn finished<S: Copy, C>(
     before: S,
     after: S,
 ) -> Answer<S, C> {
-    let call = Call::Handle {
+    Answer::Turn(Ok(Turned::Reported(report(rt, alloc, number, kind, before, after))))
+}
+
+/// What a turn answers that finishes an event in a state, and inserts others.
+pub fn inserting<S: Copy, C>(
+    rt: &impl Abort,
+    alloc: Global,
+    number: u64,
+    kind: Kind,
+    state: S,
+    inserted: &[u64],
+) -> Answer<S, C> {
+    Answer::Turn(Ok(Turned::Reported(Report {
+        inserted: list(rt, alloc, inserted),
+        ..report(rt, alloc, number, kind, state, state)
+    })))
+}
+
+/// What a turn answers that postpones a cast, and inserts other events.
+pub fn put_off<S: Copy, C>(
+    rt: &impl Abort,
+    alloc: Global,
+    number: u64,
+    before: S,
+    after: S,
+    inserted: &[u64],
+) -> Answer<S, C> {
+    Answer::Turn(Ok(Turned::Reported(Report {
+        done: Done::PutOff,
+        inserted: list(rt, alloc, inserted),
+        ..report(rt, alloc, number, Kind::Cast, before, after)
+    })))
+}
+
+/// What a turn answers that stops at a cast in a state.
+pub fn ended<S: Copy, C>(
+    rt: &impl Abort,
+    alloc: Global,
+    number: u64,
+    state: S,
+    reason: Reason,
+    word: u32,
+) -> Answer<S, C> {
+    let handle = Call::Handle {
         number,
-        kind,
-        state: before,
+        kind: Kind::Cast,
+        state,
+    };
+    let terminate = Call::Terminate {
+        reason,
+        state,
+        word,
     };
     Answer::Turn(Ok(Turned::Reported(Report {
-        event: Some(number),
-        done: Done::Finished,
-        calls: one_call(rt, alloc, call),
-        before,
-        after,
-        replied: PlainList::new(alloc),
-        inserted: PlainList::new(alloc),
-        set: PlainList::new(alloc),
+        done: Done::Ended(reason, word),
+        calls: two_calls(rt, alloc, handle, terminate),
+        ..report(rt, alloc, number, Kind::Cast, state, state)
     })))
 }
 
@@ -60,8 +157,18 @@ pub fn not_turned<S, C>(refusal: Refusal) -> Answer<S, C> {
     Answer::Turn(Err(refusal))
 }
 
-/// What a start reports.
-pub fn started<S: Copy>(alloc: Global, state: S) -> Report<S> {
+/// What a stop answers that is accepted.
+pub fn stopped<S, C>(word: u32) -> Answer<S, C> {
+    Answer::Stop(Ok(word))
+}
+
+/// What a stop answers that is refused.
+pub fn not_stopped<S, C>(refusal: Refusal) -> Answer<S, C> {
+    Answer::Stop(Err(refusal))
+}
+
+/// What a start reports that inserts events.
+pub fn started<S: Copy>(rt: &impl Abort, alloc: Global, state: S, inserted: &[u64]) -> Report<S> {
     Report {
         event: None,
         done: Done::Started,
@@ -69,7 +176,7 @@ pub fn started<S: Copy>(alloc: Global, state: S) -> Report<S> {
         before: state,
         after: state,
         replied: PlainList::new(alloc),
-        inserted: PlainList::new(alloc),
+        inserted: list(rt, alloc, inserted),
         set: PlainList::new(alloc),
     }
 }
@@ -104,15 +211,24 @@ pub fn same_answer<S: Eq + Debug, C: Eq + Debug>(
         (Answer::Turn(Err(refusal)), Answer::Turn(Err(other))) => {
             assert_eq!(rt; refusal, other);
         }
+        (Answer::Stop(stopped), Answer::Stop(other)) => assert_eq!(rt; stopped, other),
         _ => panic!(rt; "{answer:?} in the place of {wanted:?}"),
     }
 }
 
-/// Says whether a command found no memory.
+/// Says whether a command found no memory. A stop takes none.
 pub fn found_no_memory<S, C>(answer: &Answer<S, C>) -> bool {
     match answer {
         Answer::Post(Err(refused)) => refused.refusal == Refusal::NoMemory,
         Answer::Turn(Err(refusal)) => *refusal == Refusal::NoMemory,
         _ => false,
     }
+}
+
+/// Says whether a command was refused.
+pub fn is_refused<S, C>(answer: &Answer<S, C>) -> bool {
+    matches!(
+        answer,
+        Answer::Post(Err(_)) | Answer::Turn(Err(_)) | Answer::Stop(Err(_))
+    )
 }

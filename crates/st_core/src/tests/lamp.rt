@@ -10,7 +10,7 @@ ghost use Rattle.st_core.specs.declared.tests.lamp.Bulb.{Bulb};
 ghost use Rattle.st_core.specs.declared.tests.lamp.Press.{Press};
 ghost use Rattle.st_core.specs.declared.tests.lamp.Press.TheVariants as press;
 
-use st_events::{Actions, Init, Kind, Module, Outcome};
+use st_events::{Actions, Init, Kind, Module, Outcome, Reason};
 use std::alloc::{AllocError, Global};
 
 /// Whether the lamp is on.
@@ -54,6 +54,8 @@ impl Module for Lamp {
       | press.Renew bulb ↦ outcome.KeepState bulb []
     ] };
 
+    ghost terminate_is = { λ lamp reason state held. held.left };
+
     fn init(&self, alloc: Global, arg: &Bulb) -> Result<Init<Light, Bulb, Press>, AllocError> {
         Ok(Init::Ok(Light::Off, *arg, Actions::new(alloc)))
     }
@@ -85,6 +87,10 @@ impl Module for Lamp {
         }
     }
 
+    fn terminate(&self, _reason: Reason, _state: Light, held: &Bulb) -> u32 {
+        u32::from(held.left)
+    }
+
     fn copy_content(&self, _alloc: Global, content: &Press) -> Result<Press, AllocError> {
         Ok(*content)
     }
@@ -98,4 +104,12 @@ impl Module for Lamp {
     ghost outcome_fits = { Prim.search rules };
 
     ghost init_fits = { Prim.search rules };
+
+    ghost actions_fit = { Prim.search rules };
+
+    ghost replies_fit = { Prim.search rules };
+
+    ghost inserts_fit = { Prim.search rules };
+
+    ghost planned_fits = { Prim.search rules };
 }

@@ -1,89 +1,12 @@
-//! Runs of one machine: the same commands by single calls, and by one run.
-use super::answers::{
-    finished, found_no_memory, idle, not_posted, not_turned, posted, same_answer,
-};
+//! Events that come one after another: their kinds, numbers and moments.
+use super::answers::{finished, idle, not_posted, not_turned, posted};
+use super::compared::answers_are;
 use super::lamp::{Bulb, Lamp, Light, Press};
-use super::table::Table;
+use super::table_machine::{BEGIN, at_rest, cast, info};
 use super::tell_refusals;
-use super::tested::{Begin, Seen, Tested, Told, without_memory};
-use crate::{Answer, Entry};
-use st_events::{Kind, Module, Refusal};
-use std::alloc::Global;
-use std::fmt::Debug;
-use std::process::Abort;
-
-/// Looks at the answers to commands, and at what they leave.
-fn answers_are<M: Module + Copy + Eq + Debug>(
-    rt: &impl Abort,
-    alloc: Global,
-    begin: &Begin<M, M::Arg>,
-    told: &[Told<M::Content>],
-    wanted: &[Answer<M::State, M::Content>],
-    end: &Seen<M::State, M::Data>,
-)
-where
-    M::State: Debug,
-    M::Data: Copy + Eq + Debug,
-    M::Content: Copy + Eq + Debug,
-{
-    let mut single = Tested::new(rt, alloc, begin);
-    assert_eq!(rt; told.len(), wanted.len());
-    for (one, wanted) in told.iter().zip(wanted.iter()) {
-        same_answer(rt, &single.tell(rt, *one), wanted);
-    }
-    assert_eq!(rt; single.seen(), *end);
-    for _ in 0..2 {
-        let mut at_once = Tested::new(rt, alloc, begin);
-        let answers = at_once.run(rt, alloc, told);
-        if answers.iter().any(found_no_memory) {
-            // As by single calls without the command that found no memory.
-            let mut without = Tested::new(rt, alloc, begin);
-            for (one, answer) in told.iter().zip(answers.iter()) {
-                if found_no_memory(answer) {
-                    same_answer(rt, answer, &without_memory(*one));
-                } else {
-                    same_answer(rt, answer, &without.tell(rt, *one));
-                }
-            }
-            assert_eq!(rt; at_once.seen(), without.seen());
-        } else {
-            assert_eq!(rt; answers.len(), wanted.len());
-            for (answer, wanted) in answers.iter().zip(wanted.iter()) {
-                same_answer(rt, answer, wanted);
-            }
-            assert_eq!(rt; at_once.seen(), *end);
-            return;
-        }
-    }
-    panic!(rt; "one allocation alone is refused");
-}
-
-fn cast(content: u64) -> Told<u64> {
-    Told::Post(Entry::Cast, content)
-}
-
-fn info(content: u64) -> Told<u64> {
-    Told::Post(Entry::Info, content)
-}
-
-/// A table's machine at the moment 0.
-const BEGIN: Begin<Table, u32> = Begin {
-    module: Table { number: 50 },
-    arg: 0,
-    now: 0,
-    first: None,
-};
-
-/// What can be read of a table's machine with nothing pending.
-fn at_rest(state: u32, held: u64, latest: u64) -> Seen<u32, u64> {
-    Seen {
-        is_ready: false,
-        state,
-        held,
-        latest,
-        waiting: 0,
-    }
-}
+use super::tested::{Begin, Seen, Tested, Told};
+use crate::Entry;
+use st_events::{Kind, Refusal};
 
 #[test]
 fn casts_come_in_order(rt: HostRuntime) {
@@ -184,6 +107,7 @@ fn a_lamp_is_switched_until_its_bulb_is_spent(rt: HostRuntime) {
         arg: Bulb { left: 2 },
         now: 0,
         first: None,
+        inserted: &[],
     };
     let end = Seen {
         is_ready: true,
@@ -191,6 +115,7 @@ fn a_lamp_is_switched_until_its_bulb_is_spent(rt: HostRuntime) {
         held: Bulb { left: 6 },
         latest: 4,
         waiting: 1,
+        ended: None,
     };
     answers_are(&rt, rt.alloc(), &begin, &told, &wanted, &end);
     tell_refusals(rt);

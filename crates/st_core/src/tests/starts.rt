@@ -1,8 +1,10 @@
 //! What comes of a start, and copies by a module.
+use super::answers::{not_posted, same_answer};
 use super::lamp::{Bulb, Lamp, Press};
 use super::table::Table;
+use super::table_machine::cast;
 use super::tell_refusals;
-use super::tested::{Begin, start};
+use super::tested::{Begin, Tested, start};
 use crate::Start;
 use st_events::{Module, Refusal};
 
@@ -15,6 +17,7 @@ fn a_start_is_ignored_stopped_or_refused(rt: HostRuntime) {
             arg: 1,
             now: 0,
             first,
+            inserted: &[],
         };
         assert!(rt; matches!(start(&rt, rt.alloc(), &begin), Ok(Start::Ignored)));
         let begin = Begin {
@@ -52,5 +55,39 @@ fn copies_are_equal(rt: HostRuntime) {
         Ok(Press::Renew(bulb))
     );
     assert_eq!(rt; Lamp.copy_data(rt.alloc(), &bulb), Ok(bulb));
+    tell_refusals(rt);
+}
+
+/// A start that inserts two events needs two numbers. Its moment is looked at first.
+#[test]
+fn inserts_of_a_start_need_numbers(rt: HostRuntime) {
+    let module = Table { number: 50 };
+    let begin = Begin {
+        module,
+        arg: 3,
+        now: 12,
+        first: Some(9_223_372_036_854_775_806),
+        inserted: &[9_223_372_036_854_775_806, 9_223_372_036_854_775_807],
+    };
+    let mut tested = Tested::new(&rt, rt.alloc(), &begin);
+    let post = tested.tell(&rt, cast(6));
+    same_answer(&rt, &post, &not_posted(Refusal::Exhausted, 6));
+    for (now, refusal) in [
+        (12, Refusal::Exhausted),
+        (9_223_372_036_854_775_808, Refusal::Moment),
+    ] {
+        let begin = Begin {
+            now,
+            first: Some(9_223_372_036_854_775_807),
+            ..begin
+        };
+        match start(&rt, rt.alloc(), &begin) {
+            Err(refused) => {
+                assert_eq!(rt; refused.refusal, refusal);
+                assert_eq!(rt; refused.value, module);
+            }
+            Ok(_) => panic!(rt; "a start with too few numbers"),
+        }
+    }
     tell_refusals(rt);
 }

@@ -1,20 +1,50 @@
 //! The module by a table: each content has its outcome, each argument its start.
-ghost use Rattle.std.specs.Prelude.{◌≡◌, ◌==◌, if◌then◌else◌, [], ◌∷◌, IfOk, refl};
+ghost use Rattle.std.specs.Prelude.{◌≡◌, true, [], ◌∷◌, IfOk, refl};
 ghost use Rattle.std.proofs.Common.{rules};
 ghost use Rattle.st_events.specs.declared.action.Action.TheVariants as action;
-ghost use Rattle.st_events.specs.declared.outcome.Outcome.TheVariants as outcome;
-ghost use Rattle.st_events.specs.declared.init.Init.TheVariants as init;
+ghost use Rattle.st_core.specs.WorkedTable.{first_tag, five_actions, two_inserts, handled_anywhere, handled_at_first, handled_by_table, begun_by_table};
 
-use st_events::{Action, Actions, Init, Kind, MachineId, Module, Outcome, Tag};
+use st_events::{Action, Actions, Init, Kind, MachineId, Module, Outcome, Reason, Replies, Tag};
 use std::alloc::{AllocError, Global};
 
-/// The first state is 0 and the first data 7.
+/// The request to which the table replies.
+const TAG: Tag = Tag {
+    machine: MachineId { slot: 0, serial: 1 },
+    request: 1,
+};
+
+/// States, data and contents are numbers. The first state is 0, the first data 7, and `terminate`
+/// answers the data.
 ///
-/// A content: 3 leads to the state 1; 4 gives the data 9; 5 keeps both, with a reply of 50 and a
-/// hibernation; 6 keeps both, with five hibernations; every other keeps both.
+/// | Content | Outcome in the state 0 |
+/// |---|---|
+/// | 10 | keeps both, and is postponed |
+/// | 11 | leads to the state 1, is postponed, and inserts 20 as internal and 21 as a cast |
+/// | 12 | keeps both, is postponed, and inserts 20 as internal and 21 as a cast |
+/// | 13 | keeps both, with `Postpone(false)` and then `Postpone(true)` |
+/// | 14 | keeps both, with `Postpone(true)` and then `Postpone(false)` |
 ///
-/// An argument: 0 starts a machine; 1 is ignored; 2 starts a machine, with five hibernations; every
-/// other stops, and is the reason.
+/// | Content | Outcome in each state, but 10 to 14 as above |
+/// |---|---|
+/// | 3 | leads to the state 1 |
+/// | 4 | keeps the state, with the data 9 |
+/// | 5 | keeps both, with a reply of 50 and a hibernation |
+/// | 6 | keeps both, with five hibernations |
+/// | 7 | keeps both, and inserts 20 as internal and 21 as a cast |
+/// | 8 | keeps both, and inserts 7 as internal and 21 as a cast |
+/// | 9 | leads to the state 0 |
+/// | 15 | stops for the reason 9 |
+/// | 16 | stops for the reason 9, with the data 8 |
+/// | 17 | stops for the reason 9, with a reply of 40 and the data 8 |
+/// | other | keeps both |
+///
+/// | Argument | Start |
+/// |---|---|
+/// | 0 | a machine |
+/// | 1 | ignored |
+/// | 2 | a machine, with five hibernations |
+/// | 3 | a machine, with `Postpone(true)`, and inserts 20 as internal and 21 as a cast |
+/// | other | stops, and is the reason |
 ///
 /// The number tells one module from another.
 #[derive(Clone, Copy, Debug, PartialEq, Eq)]
@@ -23,8 +53,8 @@ pub struct Table {
 }
 
 /// Five hibernations, one action more than a list holds without memory.
-fn five(alloc: Global) -> Result<Actions<u64>, AllocError>
-    ensures { IfOk result (λ actions. actions ≡ action.Hibernate ∷ action.Hibernate ∷ action.Hibernate ∷ action.Hibernate ∷ action.Hibernate ∷ []) }
+fn five(alloc: Global) -> Result<Actions<u32>, AllocError>
+    ensures { IfOk result (λ actions. actions ≡ five_actions) }
 {
     let mut actions = Actions::new(alloc);
     actions.push(Action::Hibernate)?;
@@ -35,47 +65,130 @@ fn five(alloc: Global) -> Result<Actions<u64>, AllocError>
     Ok(actions)
 }
 
-/// A reply of 50, and a hibernation.
-fn reply(alloc: Global) -> Result<Actions<u64>, AllocError>
-    ensures { IfOk result (λ actions. actions ≡ action.Reply (record { machine = record { slot = 0; serial = 1 }; request = 1 }) 50 ∷ action.Hibernate ∷ []) }
+/// One action.
+fn one(alloc: Global, first: Action<u32>) -> Result<Actions<u32>, AllocError>
+    ensures { IfOk result (λ actions. actions ≡ first ∷ []) }
 {
-    let tag = Tag {
-        machine: MachineId { slot: 0, serial: 1 },
-        request: 1,
-    };
     let mut actions = Actions::new(alloc);
-    actions.push(Action::Reply(tag, 50))?;
-    actions.push(Action::Hibernate)?;
+    actions.push(first)?;
     Ok(actions)
+}
+
+/// Two actions.
+fn two(alloc: Global, first: Action<u32>, second: Action<u32>) -> Result<Actions<u32>, AllocError>
+    ensures { IfOk result (λ actions. actions ≡ first ∷ second ∷ []) }
+{
+    let mut actions = Actions::new(alloc);
+    actions.push(first)?;
+    actions.push(second)?;
+    Ok(actions)
+}
+
+/// Two events are inserted.
+fn inserts(alloc: Global) -> Result<Actions<u32>, AllocError>
+    ensures { IfOk result (λ actions. actions ≡ two_inserts) }
+{
+    two(
+        alloc,
+        Action::NextEvent(Kind::Internal, 20),
+        Action::NextEvent(Kind::Cast, 21),
+    )
+}
+
+/// The event is postponed, and two are inserted.
+fn postpone_and_inserts(alloc: Global) -> Result<Actions<u32>, AllocError>
+    ensures { IfOk result (λ actions. actions ≡ action.Postpone true ∷ two_inserts) }
+{
+    let mut actions = Actions::new(alloc);
+    actions.push(Action::Postpone(true))?;
+    actions.push(Action::NextEvent(Kind::Internal, 20))?;
+    actions.push(Action::NextEvent(Kind::Cast, 21))?;
+    Ok(actions)
+}
+
+/// A reply of 40.
+fn last_reply(alloc: Global) -> Result<Replies<u32>, AllocError>
+    ensures { IfOk result (λ replies. replies ≡ (first_tag, 40) ∷ []) }
+{
+    let mut replies = Replies::new(alloc);
+    replies.push((TAG, 40))?;
+    Ok(replies)
+}
+
+/// What `handle` answers in any state, where the content is not one of those of the first state.
+fn handle_anywhere(
+    alloc: Global,
+    content: u32,
+    held: u32,
+) -> Result<Outcome<u32, u32, u32>, AllocError>
+    ensures { IfOk result (λ outcome. outcome ≡ handled_anywhere content held) }
+{
+    match content {
+        3 => Ok(Outcome::NextState(1, held, Actions::new(alloc))),
+        4 => Ok(Outcome::KeepState(9, Actions::new(alloc))),
+        5 => Ok(Outcome::KeepStateAndData(two(alloc, Action::Reply(TAG, 50), Action::Hibernate)?)),
+        6 => Ok(Outcome::KeepStateAndData(five(alloc)?)),
+        7 => Ok(Outcome::KeepStateAndData(inserts(alloc)?)),
+        8 => Ok(Outcome::KeepStateAndData(two(
+            alloc,
+            Action::NextEvent(Kind::Internal, 7),
+            Action::NextEvent(Kind::Cast, 21),
+        )?)),
+        9 => Ok(Outcome::NextState(0, held, Actions::new(alloc))),
+        15 => Ok(Outcome::Stop(9, None)),
+        16 => Ok(Outcome::Stop(9, Some(8))),
+        17 => Ok(Outcome::StopAndReply(9, last_reply(alloc)?, Some(8))),
+        _ => Ok(Outcome::KeepStateAndData(Actions::new(alloc))),
+    }
+}
+
+/// What `handle` answers in the first state.
+fn handle_at_first(
+    alloc: Global,
+    content: u32,
+    held: u32,
+) -> Result<Outcome<u32, u32, u32>, AllocError>
+    ensures { IfOk result (λ outcome. outcome ≡ handled_at_first content held) }
+{
+    match content {
+        10 => Ok(Outcome::KeepStateAndData(one(alloc, Action::Postpone(true))?)),
+        11 => Ok(Outcome::NextState(1, held, postpone_and_inserts(alloc)?)),
+        12 => Ok(Outcome::KeepStateAndData(postpone_and_inserts(alloc)?)),
+        13 => Ok(Outcome::KeepStateAndData(two(
+            alloc,
+            Action::Postpone(false),
+            Action::Postpone(true),
+        )?)),
+        14 => Ok(Outcome::KeepStateAndData(two(
+            alloc,
+            Action::Postpone(true),
+            Action::Postpone(false),
+        )?)),
+        _ => handle_anywhere(alloc, content, held),
+    }
 }
 
 impl Module for Table {
     type State = u32;
 
-    type Data = u64;
+    type Data = u32;
 
-    type Content = u64;
+    type Content = u32;
 
     type Arg = u32;
 
-    ghost init_is = { λ table arg.
-        if arg == 0 then init.Ok 0 7 []
-        else (if arg == 1 then init.Ignore
-        else (if arg == 2 then init.Ok 0 7 (action.Hibernate ∷ action.Hibernate ∷ action.Hibernate ∷ action.Hibernate ∷ action.Hibernate ∷ [])
-        else init.Stop arg)) };
+    ghost init_is = { λ table arg. begun_by_table arg };
 
-    ghost handle_is = { λ table kind content state held.
-        if content == 3 then outcome.NextState 1 held []
-        else (if content == 4 then outcome.KeepState 9 []
-        else (if content == 5 then outcome.KeepStateAndData (action.Reply (record { machine = record { slot = 0; serial = 1 }; request = 1 }) 50 ∷ action.Hibernate ∷ [])
-        else (if content == 6 then outcome.KeepStateAndData (action.Hibernate ∷ action.Hibernate ∷ action.Hibernate ∷ action.Hibernate ∷ action.Hibernate ∷ [])
-        else outcome.KeepStateAndData []))) };
+    ghost handle_is = { λ table kind content state held. handled_by_table content state held };
 
-    fn init(&self, alloc: Global, arg: &u32) -> Result<Init<u32, u64, u64>, AllocError> {
+    ghost terminate_is = { λ table reason state held. held };
+
+    fn init(&self, alloc: Global, arg: &u32) -> Result<Init<u32, u32, u32>, AllocError> {
         match *arg {
             0 => Ok(Init::Ok(0, 7, Actions::new(alloc))),
             1 => Ok(Init::Ignore),
             2 => Ok(Init::Ok(0, 7, five(alloc)?)),
+            3 => Ok(Init::Ok(0, 7, postpone_and_inserts(alloc)?)),
             reason => Ok(Init::Stop(reason)),
         }
     }
@@ -84,24 +197,26 @@ impl Module for Table {
         &self,
         alloc: Global,
         _kind: Kind,
-        content: &u64,
-        _state: u32,
-        held: &u64,
-    ) -> Result<Outcome<u32, u64, u64>, AllocError> {
-        match *content {
-            3 => Ok(Outcome::NextState(1, *held, Actions::new(alloc))),
-            4 => Ok(Outcome::KeepState(9, Actions::new(alloc))),
-            5 => Ok(Outcome::KeepStateAndData(reply(alloc)?)),
-            6 => Ok(Outcome::KeepStateAndData(five(alloc)?)),
-            _ => Ok(Outcome::KeepStateAndData(Actions::new(alloc))),
+        content: &u32,
+        state: u32,
+        held: &u32,
+    ) -> Result<Outcome<u32, u32, u32>, AllocError> {
+        if state == 0 {
+            handle_at_first(alloc, *content, *held)
+        } else {
+            handle_anywhere(alloc, *content, *held)
         }
     }
 
-    fn copy_content(&self, _alloc: Global, content: &u64) -> Result<u64, AllocError> {
+    fn terminate(&self, _reason: Reason, _state: u32, held: &u32) -> u32 {
+        *held
+    }
+
+    fn copy_content(&self, _alloc: Global, content: &u32) -> Result<u32, AllocError> {
         Ok(*content)
     }
 
-    fn copy_data(&self, _alloc: Global, held: &u64) -> Result<u64, AllocError> {
+    fn copy_data(&self, _alloc: Global, held: &u32) -> Result<u32, AllocError> {
         Ok(*held)
     }
 
@@ -110,4 +225,12 @@ impl Module for Table {
     ghost outcome_fits = { Prim.search rules };
 
     ghost init_fits = { Prim.search rules };
+
+    ghost actions_fit = { Prim.search rules };
+
+    ghost replies_fit = { Prim.search rules };
+
+    ghost inserts_fit = { Prim.search rules };
+
+    ghost planned_fits = { Prim.search rules };
 }

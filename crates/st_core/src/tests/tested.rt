@@ -1,9 +1,12 @@
 //! A machine of a test: a call that finds no memory is looked at, and made again.
 ghost use Rattle.std.specs.Prelude.{◌≡◌, ◌≤◌, ◌<◌, ◌^◌};
 
-use super::answers::{found_no_memory, not_posted, not_turned, same_answer, same_report, started};
+use super::answers::{
+    found_no_memory, is_refused, not_posted, not_stopped, not_turned, room, same_answer,
+    same_report, started,
+};
 use crate::{Answer, Command, Core, Entry, Start, Turned};
-use st_events::{MachineId, Module, Refusal, Refused};
+use st_events::{MachineId, Module, Reason, Refusal, Refused};
 use std::alloc::Global;
 use std::fmt::Debug;
 use std::process::Abort;
@@ -15,6 +18,7 @@ pub const ID: MachineId = MachineId { slot: 0, serial: 1 };
 pub enum Told<C> {
     Post(Entry, C),
     Turn(u64),
+    Stop(Reason),
 }
 
 /// All that can be read of a machine.
@@ -25,15 +29,18 @@ pub struct Seen<S, D> {
     pub held: D,
     pub latest: u64,
     pub waiting: usize,
+    pub ended: Option<(Reason, u32)>,
 }
 
-/// How a machine starts. The number of the first event may be left out.
+/// How a machine starts, and the numbers of the events that its `init` inserts. The number of the first
+/// event may be left out, and then it is 1.
 #[derive(Clone, Copy, Debug)]
 pub struct Begin<M, A> {
     pub module: M,
     pub arg: A,
     pub now: u64,
     pub first: Option<u64>,
+    pub inserted: &'static [u64],
 }
 
 /// One machine that is told commands.
@@ -72,7 +79,7 @@ pub fn start<M: Module + Copy + Eq + Debug>(
         return Err(refused);
     }
     assert_eq!(rt; refused.value, begin.module);
-    // A start that is refused takes no memory.
+    // A start that is refused for its moment takes no memory.
     assert!(rt; begin.now < 1 << 63);
     call_start(rt, alloc, begin)
 }
@@ -87,11 +94,13 @@ where
     pub fn new(rt: &impl Abort, alloc: Global, begin: &Begin<M, M::Arg>) -> Tested<M> {
         match start(rt, alloc, begin) {
             Ok(Start::Running(core, report)) => {
-                same_report(rt, &report, &started(alloc, core.state()));
-                assert!(rt; !core.is_ready());
-                assert_eq!(rt; core.waiting(), 0);
+                let wanted = started(rt, alloc, core.state(), begin.inserted);
+                same_report(rt, &report, &wanted);
+                assert_eq!(rt; core.is_ready(), !begin.inserted.is_empty());
+                assert_eq!(rt; core.waiting(), begin.inserted.len());
                 assert_eq!(rt; core.latest(), begin.now);
                 assert_eq!(rt; core.id(), ID);
+                assert_eq!(rt; core.ended(), None);
                 Tested { core }
             }
             Ok(Start::Ignored) => panic!(rt; "the start was ignored"),
@@ -108,6 +117,7 @@ where
             held: *self.core.data(),
             latest: self.core.latest(),
             waiting: self.core.waiting(),
+            ended: self.core.ended(),
         }
     }
 
@@ -116,6 +126,7 @@ where
         match told {
             Told::Post(entry, content) => Answer::Post(self.core.post(entry, content)),
             Told::Turn(now) => Answer::Turn(self.core.turn(now)),
+            Told::Stop(reason) => Answer::Stop(self.core.stop(reason)),
         }
     }
 
@@ -128,21 +139,27 @@ where
     ) -> Answer<M::State, M::Content> {
         let before = self.seen();
         let answer = self.call(told);
-        if matches!(answer, Answer::Post(Err(_)) | Answer::Turn(Err(_))) {
+        if is_refused(&answer) {
             assert_eq!(rt; self.seen(), before);
         }
+        // A stop takes no memory.
+        assert!(rt; !matches!(answer, Answer::Stop(Err(Refusal::NoMemory))));
         if !found_no_memory(&answer) {
             return answer;
         }
         same_answer(rt, &answer, &without_memory(told));
-        // An idle turn takes no memory.
+        // Nor does an idle turn.
         assert!(rt; before.is_ready || matches!(told, Told::Post(..)));
         let again = self.call(told);
-        // Nor does a post that is refused, or a turn.
+        if is_refused(&again) {
+            assert_eq!(rt; self.seen(), before);
+        }
+        // Nor does a post that is refused, or a turn before its callback.
         assert!(rt;
             matches!(
                 again,
-                Answer::Post(Ok(_)) | Answer::Turn(Ok(Turned::Reported(_)))
+                Answer::Post(Ok(_))
+                    | Answer::Turn(Ok(Turned::Reported(_)) | Err(Refusal::Exhausted))
             )
         );
         again
@@ -179,6 +196,7 @@ pub fn without_memory<S, C>(told: Told<C>) -> Answer<S, C> {
     match told {
         Told::Post(_, content) => not_posted(Refusal::NoMemory, content),
         Told::Turn(_) => not_turned(Refusal::NoMemory),
+        Told::Stop(_) => not_stopped(Refusal::NoMemory),
     }
 }
 
@@ -189,22 +207,19 @@ fn is_command<C: Eq + Drop>(command: &Command<C>, told: Told<C>) -> bool {
             *entry == other_entry && *content == other
         }
         (Command::Turn(now), Told::Turn(other)) => *now == other,
+        (Command::Stop(reason), Told::Stop(other)) => *reason == other,
         _ => false,
     }
 }
 
 /// The commands of a run. Where memory was refused, room is got again.
 fn commands<C: Copy>(rt: &impl Abort, alloc: Global, told: &[Told<C>]) -> Vec<Command<C>> {
-    let mut commands = match Vec::with_capacity(alloc, told.len()) {
-        Ok(commands) => commands,
-        Err(_) => {
-            Vec::with_capacity(alloc, told.len()).expect(rt, "one allocation alone is refused")
-        }
-    };
+    let mut commands = room(rt, alloc, told.len());
     for one in told {
         let command = match *one {
             Told::Post(entry, content) => Command::Post(entry, content),
             Told::Turn(now) => Command::Turn(now),
+            Told::Stop(reason) => Command::Stop(reason),
         };
         assert!(rt; commands.push(command).is_ok());
     }

@@ -1,6 +1,5 @@
 //! Lists of digits, one call at a time.
 
-use super::streams::room;
 use super::tell_refusals;
 use crate::Digits;
 use std::alloc::Global;
@@ -29,12 +28,8 @@ fn digits_go_to_the_end(rt: HostRuntime) {
 }
 
 #[test]
-fn digits_are_copied_and_taken(rt: HostRuntime) {
+fn digits_are_copied(rt: HostRuntime) {
     let copy = digits(&rt, rt.alloc(), &[1, 2]);
     assert_eq!(rt; copy.as_slice(), [1, 2].as_slice());
-    let mut bytes = room(rt.alloc(), 2);
-    assert!(rt; bytes.extend_from_slice(&[3, 4]).is_ok());
-    let taken = Digits::from(bytes);
-    assert_eq!(rt; taken.as_slice(), [3, 4].as_slice());
     tell_refusals(rt);
 }

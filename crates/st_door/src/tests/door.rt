@@ -3,7 +3,7 @@
 use super::calls::digits;
 use super::tell_refusals;
 use crate::{Door, DoorContent, DoorData, DoorState};
-use st_events::{Action, Init, Kind, MachineId, Module, Outcome, Tag, Timer};
+use st_events::{Action, Init, Kind, MachineId, Module, Outcome, Reason, Tag, Timer};
 use std::alloc::{AllocError, Global};
 use std::process::Abort;
 
@@ -34,6 +34,11 @@ fn handled<M: Module>(
         Err(AllocError) => module.handle(alloc, kind, content, state, held),
         answer => answer,
     }
+}
+
+/// The last word.
+fn last_word<M: Module>(module: &M, reason: Reason, state: M::State, held: &M::Data) -> u32 {
+    module.terminate(reason, state, held)
 }
 
 /// A copy of a content.
@@ -92,7 +97,7 @@ fn goes_to(rt: &impl Abort, outcome: &Handled<Door>, state: DoorState, buttons: 
     assert_eq!(rt; *next, state);
     assert_eq!(rt; held.code.as_slice(), CODE);
     assert_eq!(rt; held.buttons.as_slice(), buttons);
-    assert!(rt; actions.as_slice().is_empty());
+    assert!(rt; actions.is_empty());
 }
 
 /// Sees that an outcome keeps state and data, with no action.
@@ -100,7 +105,16 @@ fn stays(rt: &impl Abort, outcome: &Handled<Door>) {
     let Outcome::KeepStateAndData(actions) = outcome else {
         panic!(rt; "state or data may change");
     };
-    assert!(rt; actions.as_slice().is_empty());
+    assert!(rt; actions.is_empty());
+}
+
+/// Sees that an outcome keeps state and data, and postpones the event.
+fn postpones(rt: &impl Abort, outcome: &Handled<Door>) {
+    let Outcome::KeepStateAndData(actions) = outcome else {
+        panic!(rt; "state or data may change");
+    };
+    assert_eq!(rt; actions.len(), 1);
+    assert!(rt; matches!(actions.get(0), Some(Action::Postpone(true))));
 }
 
 /// A request.
@@ -119,7 +133,7 @@ fn a_door_begins_locked(rt: HostRuntime) {
     assert_eq!(rt; state, DoorState::Locked);
     assert_eq!(rt; held.code.as_slice(), CODE);
     assert_eq!(rt; held.buttons.len(), 0);
-    assert!(rt; actions.as_slice().is_empty());
+    assert!(rt; actions.is_empty());
     tell_refusals(rt);
 }
 
@@ -144,9 +158,16 @@ fn a_button_counts_while_the_door_is_locked(rt: HostRuntime) {
         );
         goes_to(&rt, &outcome, state, after);
     }
-    let button = DoorContent::Button(1);
-    let outcome = answer(&rt, rt.alloc(), Kind::Cast, button, DoorState::Open, &[]);
-    stays(&rt, &outcome);
+    tell_refusals(rt);
+}
+
+#[test]
+fn a_button_of_an_open_door_is_postponed(rt: HostRuntime) {
+    for digit in [1, 2] {
+        let button = DoorContent::Button(digit);
+        let outcome = answer(&rt, rt.alloc(), Kind::Cast, button, DoorState::Open, &[]);
+        postpones(&rt, &outcome);
+    }
     tell_refusals(rt);
 }
 
@@ -199,7 +220,8 @@ fn a_call_is_told_how_long_the_code_is(rt: HostRuntime) {
         let Outcome::KeepStateAndData(actions) = outcome else {
             panic!(rt; "state or data may change");
         };
-        let [Action::Reply(tag, content)] = actions.as_slice() else {
+        assert_eq!(rt; actions.len(), 1);
+        let Some(Action::Reply(tag, content)) = actions.get(0) else {
             panic!(rt; "no reply");
         };
         assert_eq!(rt; *tag, TAG);
@@ -223,6 +245,20 @@ fn all_else_changes_nothing(rt: HostRuntime) {
         for state in [DoorState::Locked, DoorState::Open] {
             stays(&rt, &answer(&rt, rt.alloc(), kind, content, state, &[1]));
         }
+    }
+    tell_refusals(rt);
+}
+
+#[test]
+fn the_last_word_counts_the_buttons(rt: HostRuntime) {
+    for (reason, state, buttons, word) in [
+        (7, DoorState::Locked, [].as_slice(), 0),
+        (0, DoorState::Locked, [1].as_slice(), 1),
+        (Reason::MAX, DoorState::Locked, [9, 1].as_slice(), 2),
+        (7, DoorState::Open, [].as_slice(), 0),
+    ] {
+        let held = data_with(&rt, rt.alloc(), buttons);
+        assert_eq!(rt; last_word(&Door, reason, state, &held), word);
     }
     tell_refusals(rt);
 }

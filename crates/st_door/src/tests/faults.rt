@@ -65,8 +65,13 @@ fn a_write_that_takes_nothing_ends_the_script(rt: HostRuntime) {
 
 #[test]
 fn no_memory_ends_the_script(rt: HostRuntime) {
-    let script = b"new a 1\nbutton a 1\nnames\n";
-    let output = "a locked buttons 0 waiting 0\na open buttons 0 waiting 0\nnames a\n".as_bytes();
+    let script = b"new a 1\nbutton a 1\nbutton a 1\nstop a 7\nnames\n";
+    let output = "a locked buttons 0 waiting 0\n\
+        a open buttons 0 waiting 0\n\
+        a open buttons 0 waiting 1\n\
+        a stopped 7 word 0\n\
+        names a\n"
+        .as_bytes();
     let (answer, written) = run_once(rt.alloc(), script, PLAIN);
     match answer {
         Ok(status) => {

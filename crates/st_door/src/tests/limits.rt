@@ -45,6 +45,36 @@ fn a_name_has_32_bytes_and_a_code_16_digits_at_most(rt: HostRuntime) {
 }
 
 #[test]
+fn a_reason_has_10_digits_and_is_4294967295_at_most(rt: HostRuntime) {
+    prints(
+        &rt,
+        rt.alloc(),
+        b"new a 1\n\
+          new b 1\n\
+          new c 1\n\
+          stop a 4294967296\n\
+          stop a 9999999999\n\
+          stop a 00000000007\n\
+          stop a 18446744073709551623\n\
+          stop a 4294967295\n\
+          stop b 0000000007\n\
+          stop c 0000000000\n",
+        "a locked buttons 0 waiting 0\n\
+         b locked buttons 0 waiting 0\n\
+         c locked buttons 0 waiting 0\n\
+         line 4 malformed\n\
+         line 5 malformed\n\
+         line 6 malformed\n\
+         line 7 malformed\n\
+         a stopped 4294967295 word 0\n\
+         b stopped 7 word 0\n\
+         c stopped 0 word 0\n",
+        1,
+    );
+    tell_refusals(rt);
+}
+
+#[test]
 fn an_input_has_1048576_bytes_at_most(rt: HostRuntime) {
     if is_left_out(&rt) {
         return;

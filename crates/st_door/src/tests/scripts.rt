@@ -39,16 +39,78 @@ fn the_last_buttons_count(rt: HostRuntime) {
 }
 
 #[test]
-fn an_open_door_takes_no_button(rt: HostRuntime) {
+fn a_button_of_an_open_door_waits(rt: HostRuntime) {
     prints(
         &rt,
         rt.alloc(),
-        b"new a 1\nbutton a 1\nbutton a 1\nshow a\n",
+        b"new front 12\nbutton front 1\nbutton front 2\nbutton front 1\n",
+        "front locked buttons 0 waiting 0\n\
+         front locked buttons 1 waiting 0\n\
+         front open buttons 0 waiting 0\n\
+         front open buttons 0 waiting 1\n",
+        0,
+    );
+    prints(
+        &rt,
+        rt.alloc(),
+        b"new a 1\nbutton a 1\nbutton a 1\nbutton a 2\nshow a\n",
         "a locked buttons 0 waiting 0\n\
          a open buttons 0 waiting 0\n\
-         a open buttons 0 waiting 0\n\
-         a open buttons 0 waiting 0\n",
+         a open buttons 0 waiting 1\n\
+         a open buttons 0 waiting 2\n\
+         a open buttons 0 waiting 2\n",
         0,
+    );
+    tell_refusals(rt);
+}
+
+#[test]
+fn a_stop_drops_what_waits_and_ends_the_door(rt: HostRuntime) {
+    prints(
+        &rt,
+        rt.alloc(),
+        b"new a 1\nbutton a 1\nbutton a 1\nstop a 7\nshow a\nbutton a 1\n",
+        "a locked buttons 0 waiting 0\n\
+         a open buttons 0 waiting 0\n\
+         a open buttons 0 waiting 1\n\
+         a stopped 7 word 0\n\
+         a stopped 7 word 0\n\
+         line 6 refused 2\n",
+        1,
+    );
+    tell_refusals(rt);
+}
+
+#[test]
+fn a_stopped_door_tells_how_many_buttons_it_had(rt: HostRuntime) {
+    prints(
+        &rt,
+        rt.alloc(),
+        b"new a 12\nbutton a 1\nstop a 7\n",
+        "a locked buttons 0 waiting 0\n\
+         a locked buttons 1 waiting 0\n\
+         a stopped 7 word 1\n",
+        0,
+    );
+    tell_refusals(rt);
+}
+
+#[test]
+fn a_stopped_door_keeps_its_name_and_its_reason(rt: HostRuntime) {
+    prints(
+        &rt,
+        rt.alloc(),
+        b"new a 1\nnew b 1\nstop a 0000000007\nstop a 8\nnew a 1\nstop c 7\nnames\nbutton b 1\nshow a\n",
+        "a locked buttons 0 waiting 0\n\
+         b locked buttons 0 waiting 0\n\
+         a stopped 7 word 0\n\
+         line 4 refused 2\n\
+         line 5 refused 7\n\
+         line 6 refused 8\n\
+         names a b\n\
+         b open buttons 0 waiting 0\n\
+         a stopped 7 word 0\n",
+        1,
     );
     tell_refusals(rt);
 }
@@ -109,7 +171,7 @@ fn what_has_no_form_is_malformed(rt: HostRuntime) {
           show \xc3\xa4\n\
           show a\xff\n\
           at 5\n\
-          stop a 1\n\
+          stop a +7\n\
           length a\n\
           remove a\n\
           show a\r\r\n\
@@ -117,7 +179,13 @@ fn what_has_no_form_is_malformed(rt: HostRuntime) {
           show A\n\
           show 1\n\
           names a\n\
-          Names\n",
+          Names\n\
+          stop a\n\
+          stop 7\n\
+          stop a 7 7\n\
+          stop a 7x\n\
+          stop A 7\n\
+          stop a -7\n",
         "a locked buttons 0 waiting 0\n\
          line 2 malformed\n\
          line 3 malformed\n\
@@ -133,7 +201,13 @@ fn what_has_no_form_is_malformed(rt: HostRuntime) {
          line 13 malformed\n\
          line 14 malformed\n\
          line 15 malformed\n\
-         line 16 malformed\n",
+         line 16 malformed\n\
+         line 17 malformed\n\
+         line 18 malformed\n\
+         line 19 malformed\n\
+         line 20 malformed\n\
+         line 21 malformed\n\
+         line 22 malformed\n",
         1,
     );
     tell_refusals(rt);

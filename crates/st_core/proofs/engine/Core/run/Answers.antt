@@ -17,7 +17,7 @@ loop-command-preserved g c =
       count = grind (arith, common_steps);
       unchanged_module = grind (arith, common_steps);
       run = rw c.push_reserved.ensures.items (run_more
-          (callbacks_of g.M.Module c.args.self.now.module_) c.args.self.now.machine
+          (callbacks_of g.M.Module g.M.State.PartialEq.eq c.args.self.now.module_) c.args.self.now.machine
           c.loop-command.yielded c.loop-command.answers.items c.loop-command.self.machine
           c.in-Some.command c.step-answer.result c.step-answer.new.self.machine
           c.loop-command.invariant.run (rw same_module at c.step-answer.ensures.step));

@@ -13,5 +13,5 @@ invariant-loop-command g l =
       room : vec_capacity l.answers ≡ length l.fn.commands.items;
       count : vec_len l.answers ≡ length l.yielded;
       unchanged_module : l.self.module_ ≡ l.fn.self.module_;
-      run : Runs (callbacks_of g.M.Module l.fn.self.module_) l.fn.self.machine l.yielded l.answers.items l.self.machine;
+      run : Runs (callbacks_of g.M.Module g.M.State.PartialEq.eq l.fn.self.module_) l.fn.self.machine l.yielded l.answers.items l.self.machine;
     }

@@ -1,4 +1,5 @@
-use Rattle.std.proofs.Common.{◌≡◌, ◌<◌, length, ap, arith}
+use Rattle.std.proofs.Common.{◌≡◌, ◌<◌, length, get_or, ap, arith}
+use Rattle.st_door.specs.Doors.{NamedDoor, press_of}
 use Rattle.st_door.specs.Script.{ScriptState}
 use Rattle.st_door.proofs.ScriptStateLemmas.{kept-set, id-post}
 use Rattle.st_door.proofs.SettlingLemmas.{no_door}
@@ -15,8 +16,10 @@ pub invariant_of-self-2 : goal.invariant_of-self-2
 invariant_of-self-2 c =
     let doors : c.self.inside.doors ≡ c.args.self.now.doors = ap (λ (script : ScriptState). script.doors) c.self.view_is in
     let within : c.args.place < length c.self.inside.doors = rw doors c.requires in
+    let door : NamedDoor = get_or c.self.inside.doors c.args.place no_door in
     rw (c.in_ok-refusal.ensures.pressed no_door)
-    (kept-set c.self.inside.doors c.self.inside.from c.self.inside.until c.args.place _ _ _ c.self.invariant within (id-post _ c.args.digit)
+    (kept-set c.self.inside.doors c.self.inside.from c.self.inside.until c.args.place _ _ (press_of c.args.digit door).1 c.self.invariant within
+    (id-post door.machine c.args.digit)
     c.widened-from.ensures.place.0 c.widened-from.ensures.place.1
     (c.widened-from.ensures.narrow (length c.self.inside.doors) c.self.invariant.within within)
     c.widened-from.ensures.wider)

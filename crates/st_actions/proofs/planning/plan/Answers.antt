@@ -1,0 +1,101 @@
+use Rattle.std.proofs.Common.{◌∷◌, arith, refl, ap, ◌∙◌, length, reverse}
+use Rattle.std.proofs.lemmas.List.{reverse-reverse, length-reverse}
+use Rattle.st_actions.proofs.PlanLemmas.{last_is_first, one_fewer, goes_over, all_taken, planned_whole}
+use Rattle.st_actions.proofs.planning.plan.Goals as goal
+
+pub loop-action-init : goal.loop-action-init
+loop-action-init g c =
+    let turned = c.reverse.ensures.reversed in
+    let back = reverse-reverse c.args.actions in
+    let as_long = ap length turned ∙ length-reverse c.args.actions in
+    let replies = ap (λ b. b.items) c.in-Ok.ensures.room in
+    let inserts = ap (λ b. b.items) c.in-Ok-with_room.ensures.room in
+    let reply_room = ap (λ b. b.room) c.in-Ok.ensures.room in
+    let insert_room = ap (λ b. b.room) c.in-Ok-with_room.ensures.room in
+    record {
+      replies = rw (replies, turned, back) refl;
+      postpone = rw (turned, back) refl;
+      inserts = rw (inserts, turned, back) refl;
+      room_for_replies = omega (arith, as_long, reply_room, c.len-count.ensures.length);
+      room_for_inserts = omega (arith, as_long, insert_room, c.len-count.ensures.length);
+    }
+
+pub loop-action-smaller-in-Reply : goal.loop-action-smaller-in-Reply
+loop-action-smaller-in-Reply g c = omega (arith, one_fewer _ _ _ c.in-Some.ensures.popped)
+
+pub loop-action-smaller-in-Postpone : goal.loop-action-smaller-in-Postpone
+loop-action-smaller-in-Postpone g c = omega (arith, one_fewer _ _ _ c.in-Some.ensures.popped)
+
+pub loop-action-smaller-in-NextEvent : goal.loop-action-smaller-in-NextEvent
+loop-action-smaller-in-NextEvent g c = omega (arith, one_fewer _ _ _ c.in-Some.ensures.popped)
+
+pub loop-action-smaller : goal.loop-action-smaller
+loop-action-smaller g c = omega (arith, one_fewer _ _ _ c.in-Some.ensures.popped)
+
+pub loop-action-preserved-in-Reply : goal.loop-action-preserved-in-Reply
+loop-action-preserved-in-Reply g c =
+    let kept = c.loop-action.invariant in
+    let fewer = one_fewer _ _ _ c.in-Some.ensures.popped in
+    let next = last_is_first _ _ _ c.in-Some.ensures.popped ∙ ap (λ action. action ∷ reverse c.pop.new.self) c.in-Reply.is in
+    let room = ap (λ b. b.room) c.push.ensures.pushed in
+    record {
+      replies = goes_over _ _ _ _ (c.in-Reply.tag, c.in-Reply.content) (ap (λ b. b.items) c.push.ensures.pushed) (rw next at kept.replies);
+      postpone = rw next at kept.postpone;
+      inserts = rw next at kept.inserts;
+      room_for_replies = omega (arith, fewer, room, kept.room_for_replies);
+      room_for_inserts = omega (arith, fewer, kept.room_for_inserts);
+    }
+
+pub loop-action-preserved-in-Postpone : goal.loop-action-preserved-in-Postpone
+loop-action-preserved-in-Postpone g c =
+    let kept = c.loop-action.invariant in
+    let fewer = one_fewer _ _ _ c.in-Some.ensures.popped in
+    let next = last_is_first _ _ _ c.in-Some.ensures.popped ∙ ap (λ action. action ∷ reverse c.pop.new.self) c.in-Postpone.is in
+    record {
+      replies = rw next at kept.replies;
+      postpone = rw next at kept.postpone;
+      inserts = rw next at kept.inserts;
+      room_for_replies = omega (arith, fewer, kept.room_for_replies);
+      room_for_inserts = omega (arith, fewer, kept.room_for_inserts);
+    }
+
+pub push-requires-in-NextEvent : goal.push-requires-in-NextEvent
+push-requires-in-NextEvent g c =
+    let fewer = one_fewer _ _ _ c.in-Some.ensures.popped in
+    (c.requires.inserts_fit, omega (arith, fewer, c.loop-action.invariant.room_for_inserts))
+
+pub loop-action-preserved-in-NextEvent : goal.loop-action-preserved-in-NextEvent
+loop-action-preserved-in-NextEvent g c =
+    let kept = c.loop-action.invariant in
+    let fewer = one_fewer _ _ _ c.in-Some.ensures.popped in
+    let next = last_is_first _ _ _ c.in-Some.ensures.popped ∙ ap (λ action. action ∷ reverse c.pop.new.self) c.in-NextEvent.is in
+    let room = ap (λ b. b.room) c.push-in-NextEvent.ensures.pushed in
+    record {
+      replies = rw next at kept.replies;
+      postpone = rw next at kept.postpone;
+      inserts = goes_over _ _ _ _ _ (ap (λ b. b.items) c.push-in-NextEvent.ensures.pushed) (rw next at kept.inserts);
+      room_for_replies = omega (arith, fewer, kept.room_for_replies);
+      room_for_inserts = omega (arith, fewer, room, kept.room_for_inserts);
+    }
+
+pub loop-action-preserved : goal.loop-action-preserved
+loop-action-preserved g c =
+    let kept = c.loop-action.invariant in
+    let fewer = one_fewer _ _ _ c.in-Some.ensures.popped in
+    let next = last_is_first _ _ _ c.in-Some.ensures.popped ∙ ap (λ action. action ∷ reverse c.pop.new.self) c.in-Hibernate.is in
+    record {
+      replies = rw next at kept.replies;
+      postpone = rw next at kept.postpone;
+      inserts = rw next at kept.inserts;
+      room_for_replies = omega (arith, fewer, kept.room_for_replies);
+      room_for_inserts = omega (arith, fewer, kept.room_for_inserts);
+    }
+
+pub returns-clause-planned : goal.returns-clause-planned
+returns-clause-planned g c =
+    let kept = c.loop-action.invariant in
+    let empty = c.in_default-pop.ensures.end.0 refl in
+    planned_whole c.args.actions c.finish-replies.result c.loop-action.postpone c.finish-inserts.result
+    (c.finish-replies.ensures ∙ all_taken _ _ (rw empty at kept.replies))
+    (rw empty at kept.postpone)
+    (c.finish-inserts.ensures ∙ all_taken _ _ (rw empty at kept.inserts))

@@ -1,0 +1,2 @@
+-- What a list of actions asks for.
+pub mod Plan

@@ -1,0 +1,44 @@
+-- What a list of actions asks for: the manual's action(), one kind after another.
+use Rattle.std.specs.Prelude.{Bool, false, List, [], ◌∷◌}
+use Rattle.st_events.specs.declared.tag.Tag.{Tag}
+use Rattle.st_events.specs.declared.action.Action.{Action}
+use Rattle.st_events.specs.declared.action.Action.TheVariants.{Reply, Postpone, NextEvent, Hibernate}
+use Rattle.st_events.specs.declared.insert.Insert.{Insert}
+use Rattle.st_actions.specs.declared.planned.Planned.{Planned}
+
+-- the replies, in the order of the actions
+abbrev pub replies_of : {C : Type 0} → List (Action C) → List (Tag × C)
+replies_of [] = []
+replies_of (Reply tag content ∷ actions) = (tag, content) ∷ replies_of actions
+replies_of (Postpone last ∷ actions) = replies_of actions
+replies_of (NextEvent kind content ∷ actions) = replies_of actions
+replies_of (Hibernate ∷ actions) = replies_of actions
+
+-- the events to be inserted, in the order of the actions
+abbrev pub inserts_of : {C : Type 0} → List (Action C) → List (Insert C)
+inserts_of [] = []
+inserts_of (Reply tag content ∷ actions) = inserts_of actions
+inserts_of (Postpone last ∷ actions) = inserts_of actions
+inserts_of (NextEvent kind content ∷ actions) =
+    record { kind = kind; content = content } ∷ inserts_of actions
+inserts_of (Hibernate ∷ actions) = inserts_of actions
+
+-- what the last postpone says, or what is given where there is none
+abbrev pub postpone_or : {C : Type 0} → Bool → List (Action C) → Bool
+postpone_or given [] = given
+postpone_or given (Reply tag content ∷ actions) = postpone_or given actions
+postpone_or given (Postpone last ∷ actions) = postpone_or last actions
+postpone_or given (NextEvent kind content ∷ actions) = postpone_or given actions
+postpone_or given (Hibernate ∷ actions) = postpone_or given actions
+
+-- whether the event is postponed: the last postpone decides, and with none it is not
+abbrev pub postpone_of : {C : Type 0} → List (Action C) → Bool
+postpone_of actions = postpone_or false actions
+
+-- all that the actions ask for
+abbrev pub plan_of : {C : Type 0} → List (Action C) → Planned C
+plan_of actions = record {
+  replies = replies_of actions;
+  postpone = postpone_of actions;
+  inserts = inserts_of actions;
+}

@@ -1,0 +1,49 @@
+//! Actions taken apart.
+ghost use Rattle.std.specs.Prelude.{◌≡◌, ◌≤◌, length, IsOk, IfOk, IfErr};
+ghost use Rattle.st_events.specs.Rows.{RepliesFit, InsertsFit};
+ghost use Rattle.st_actions.specs.Plan.{plan_of};
+
+use crate::Planned;
+use st_events::{Action, Actions, Insert, SmallListBuilder};
+use std::alloc::{AllocFailed, Global};
+
+/// Takes a list of actions apart, into what is asked for. Of a list of at most four it takes no memory.
+/// Where memory is wanted and there is none, the list comes back.
+///
+/// Manual: `action()`: `reply_action()`, `postpone()`, `next_event`, `hibernate()`.
+pub fn plan<C: Drop>(
+    alloc: Global,
+    mut actions: Actions<C>,
+) -> Result<Planned<C>, AllocFailed<Actions<C>>>
+    requires replies_fit { RepliesFit C.row }
+    requires inserts_fit { InsertsFit C.row }
+    ensures planned { IfOk result (λ planned. planned ≡ plan_of actions) }
+
+    ensures inline { length actions ≤ 4 → IsOk result }
+    ensures value_returned { IfErr result (λ failed. failed.value ≡ actions) }
+{
+    let count = actions.len();
+    let Ok(mut replies) = SmallListBuilder::with_room(alloc, count) else {
+        return Err(AllocFailed { value: actions });
+    };
+    let Ok(mut inserts) = SmallListBuilder::with_room(alloc, count) else {
+        return Err(AllocFailed { value: actions });
+    };
+    let mut postpone = false;
+    actions.reverse();
+    while let Some(action) = actions.pop() {
+        match action {
+            Action::Reply(tag, content) => replies.push((tag, content)),
+            Action::Postpone(last) => postpone = last,
+            Action::NextEvent(kind, content) => inserts.push(Insert { kind, content }),
+            Action::Hibernate => {}
+        }
+    }
+    let replies = replies.finish();
+    let inserts = inserts.finish();
+    Ok(Planned {
+        replies,
+        postpone,
+        inserts,
+    })
+}

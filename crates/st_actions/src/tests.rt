@@ -1,0 +1,172 @@
+//! What lists ask for, with memory and while an allocation is refused.
+use crate::{Planned, plan};
+use st_events::{Action, Actions, Kind, MachineId, Tag, Timer};
+use std::alloc::Global;
+use std::process::Abort;
+
+/// Says so where no allocation of this test was refused: then one of those that follow is.
+fn tell_refusals(rt: HostRuntime) {
+    for _ in 0..10_000 {
+        if Box::new(rt.alloc(), 'x').is_err() {
+            let _ = println!(rt; "nothing was refused");
+            return;
+        }
+    }
+}
+
+/// The tag of a request.
+fn tag(request: u64) -> Tag {
+    Tag {
+        machine: MachineId { slot: 2, serial: 5 },
+        request,
+    }
+}
+
+/// The action that a letter names: `r` and `s` reply 10 and 20 to the requests 1 and 2, `p` and `k`
+/// say that the event is postponed and that it is not, `i` and `t` insert 30 and 40, and every
+/// other hibernates.
+fn action(letter: char) -> Action<u64> {
+    match letter {
+        'r' => Action::Reply(tag(1), 10),
+        's' => Action::Reply(tag(2), 20),
+        'p' => Action::Postpone(true),
+        'k' => Action::Postpone(false),
+        'i' => Action::NextEvent(Kind::Internal, 30),
+        't' => Action::NextEvent(Kind::Timeout(Timer::State), 40),
+        _ => Action::Hibernate,
+    }
+}
+
+/// Says whether an action is the one that a letter names.
+fn is_action(found: &Action<u64>, letter: char) -> bool {
+    match (found, action(letter)) {
+        (Action::Reply(tag, content), Action::Reply(other, wanted)) => {
+            *tag == other && *content == wanted
+        }
+        (Action::Postpone(last), Action::Postpone(wanted)) => *last == wanted,
+        (Action::NextEvent(kind, content), Action::NextEvent(other, wanted)) => {
+            *kind == other && *content == wanted
+        }
+        (Action::Hibernate, Action::Hibernate) => true,
+        _ => false,
+    }
+}
+
+/// A list of the actions that letters name. Where memory was refused, it is asked for again.
+fn list(rt: &impl Abort, alloc: Global, letters: &[char]) -> Actions<u64> {
+    let mut actions = Actions::new(alloc);
+    for letter in letters {
+        if let Err(failed) = actions.push(action(*letter)) {
+            assert!(rt;
+                actions.push(failed.value).is_ok(),
+                "one allocation alone is refused"
+            );
+        }
+    }
+    actions
+}
+
+/// Looks that a list has the actions that letters name, and no others.
+fn has(rt: &impl Abort, actions: &Actions<u64>, letters: &[char]) {
+    assert_eq!(rt; actions.len(), letters.len());
+    for (index, letter) in letters.iter().enumerate() {
+        let found = actions.get(index).expect(rt, "there are so many");
+        assert!(rt; is_action(found, *letter), "at {index}");
+    }
+}
+
+/// What letters ask for. A call that finds no memory gives the list back, and is made again.
+fn planned(rt: &impl Abort, alloc: Global, letters: &[char]) -> Planned<u64> {
+    match plan(alloc, list(rt, alloc, letters)) {
+        Ok(planned) => planned,
+        Err(failed) => {
+            assert!(rt; letters.len() > 4);
+            has(rt, &failed.value, letters);
+            match plan(alloc, failed.value) {
+                Ok(planned) => planned,
+                Err(_) => panic!(rt; "one allocation alone is refused"),
+            }
+        }
+    }
+}
+
+/// Looks that these replies are asked for, and no others.
+fn replies(rt: &impl Abort, planned: &Planned<u64>, wanted: &[(Tag, u64)]) {
+    assert_eq!(rt; planned.replies.len(), wanted.len());
+    for (index, (tag, content)) in wanted.iter().enumerate() {
+        let reply = planned.replies.get(index).expect(rt, "there are so many");
+        assert!(rt; reply.0 == *tag && reply.1 == *content, "at {index}");
+    }
+}
+
+/// Looks that these inserts are asked for, and no others.
+fn inserts(rt: &impl Abort, planned: &Planned<u64>, wanted: &[(Kind, u64)]) {
+    assert_eq!(rt; planned.inserts.len(), wanted.len());
+    for (index, (kind, content)) in wanted.iter().enumerate() {
+        let insert = planned.inserts.get(index).expect(rt, "there are so many");
+        assert!(rt;
+            insert.kind == *kind && insert.content == *content,
+            "at {index}"
+        );
+    }
+}
+
+#[test]
+fn each_call_answers(rt: HostRuntime) {
+    let nothing = planned(&rt, rt.alloc(), &[]);
+    replies(&rt, &nothing, &[]);
+    assert!(rt; !nothing.postpone);
+    inserts(&rt, &nothing, &[]);
+
+    // The last postpone decides.
+    assert!(rt; planned(&rt, rt.alloc(), &['p']).postpone);
+    assert!(rt; !planned(&rt, rt.alloc(), &['p', 'k']).postpone);
+    assert!(rt; planned(&rt, rt.alloc(), &['k', 'p', 'h']).postpone);
+
+    // Replies and inserts keep their order.
+    let both = planned(&rt, rt.alloc(), &['s', 't', 'r', 'i']);
+    replies(&rt, &both, &[(tag(2), 20), (tag(1), 10)]);
+    assert!(rt; !both.postpone);
+    inserts(
+        &rt,
+        &both,
+        &[(Kind::Timeout(Timer::State), 40), (Kind::Internal, 30)],
+    );
+
+    let mut seven = planned(&rt, rt.alloc(), &['i', 'r', 'p', 'h', 't', 's', 'i']);
+    replies(&rt, &seven, &[(tag(1), 10), (tag(2), 20)]);
+    assert!(rt; seven.postpone);
+    inserts(
+        &rt,
+        &seven,
+        &[
+            (Kind::Internal, 30),
+            (Kind::Timeout(Timer::State), 40),
+            (Kind::Internal, 30),
+        ],
+    );
+
+    // They may be taken from the back.
+    let last = seven.inserts.pop().expect(&rt, "there are three");
+    assert!(rt; last.kind == Kind::Internal && last.content == 30);
+    inserts(
+        &rt,
+        &seven,
+        &[(Kind::Internal, 30), (Kind::Timeout(Timer::State), 40)],
+    );
+    tell_refusals(rt);
+}
+
+#[test]
+fn refused_memory_changes_nothing(rt: HostRuntime) {
+    let letters = ['r', 'i', 's', 'k', 'h', 't', 'p'];
+    let seven = planned(&rt, rt.alloc(), &letters);
+    replies(&rt, &seven, &[(tag(1), 10), (tag(2), 20)]);
+    assert!(rt; seven.postpone);
+    inserts(
+        &rt,
+        &seven,
+        &[(Kind::Internal, 30), (Kind::Timeout(Timer::State), 40)],
+    );
+    tell_refusals(rt);
+}

@@ -1,0 +1,61 @@
+-- The module of the examples and of the tests, by a table: states, data and contents are numbers.
+use Rattle.std.specs.Prelude.{ℕ, ◌==◌, if◌then◌else◌, true, false, Some, None, List, [], ◌∷◌}
+use Rattle.st_events.specs.declared.action.Action.{Action}
+use Rattle.st_events.specs.declared.action.Action.TheVariants.{Reply, Postpone, NextEvent, Hibernate}
+use Rattle.st_events.specs.declared.init.Init.{Init}
+use Rattle.st_events.specs.declared.init.Init.TheVariants as init
+use Rattle.st_events.specs.declared.kind.Kind.TheVariants.{Cast, Internal}
+use Rattle.st_events.specs.declared.outcome.Outcome.{Outcome}
+use Rattle.st_events.specs.declared.outcome.Outcome.TheVariants.{NextState, KeepState, KeepStateAndData, Stop, StopAndReply}
+use Rattle.st_events.specs.declared.tag.Tag.{Tag}
+
+-- the request to which the table replies
+abbrev pub first_tag : Tag
+first_tag = record { machine = record { slot = 0; serial = 1 }; request = 1 }
+
+-- five actions, one more than a list holds without memory
+abbrev pub five_actions : List (Action ℕ)
+five_actions = Hibernate ∷ Hibernate ∷ Hibernate ∷ Hibernate ∷ Hibernate ∷ []
+
+-- two events are inserted, which the table keeps
+abbrev pub two_inserts : List (Action ℕ)
+two_inserts = NextEvent Internal 20 ∷ NextEvent Cast 21 ∷ []
+
+-- what `handle` answers in any state, where the content is not one of those of the first state
+abbrev pub handled_anywhere : ℕ → ℕ → Outcome ℕ ℕ ℕ
+handled_anywhere content held =
+    if content == 3 then NextState 1 held []
+    else (if content == 4 then KeepState 9 []
+    else (if content == 5 then KeepStateAndData (Reply first_tag 50 ∷ Hibernate ∷ [])
+    else (if content == 6 then KeepStateAndData five_actions
+    else (if content == 7 then KeepStateAndData two_inserts
+    else (if content == 8 then KeepStateAndData (NextEvent Internal 7 ∷ NextEvent Cast 21 ∷ [])
+    else (if content == 9 then NextState 0 held []
+    else (if content == 15 then Stop 9 None
+    else (if content == 16 then Stop 9 (Some 8)
+    else (if content == 17 then StopAndReply 9 ((first_tag, 40) ∷ []) (Some 8)
+    else KeepStateAndData [])))))))))
+
+-- what `handle` answers in the first state
+abbrev pub handled_at_first : ℕ → ℕ → Outcome ℕ ℕ ℕ
+handled_at_first content held =
+    if content == 10 then KeepStateAndData (Postpone true ∷ [])
+    else (if content == 11 then NextState 1 held (Postpone true ∷ two_inserts)
+    else (if content == 12 then KeepStateAndData (Postpone true ∷ two_inserts)
+    else (if content == 13 then KeepStateAndData (Postpone false ∷ Postpone true ∷ [])
+    else (if content == 14 then KeepStateAndData (Postpone true ∷ Postpone false ∷ [])
+    else handled_anywhere content held))))
+
+-- what `handle` answers to a content, in a state, with data
+abbrev pub handled_by_table : ℕ → ℕ → ℕ → Outcome ℕ ℕ ℕ
+handled_by_table content state held =
+    if state == 0 then handled_at_first content held else handled_anywhere content held
+
+-- what `init` answers to an argument
+abbrev pub begun_by_table : ℕ → Init ℕ ℕ ℕ
+begun_by_table arg =
+    if arg == 0 then init.Ok 0 7 []
+    else (if arg == 1 then init.Ignore
+    else (if arg == 2 then init.Ok 0 7 five_actions
+    else (if arg == 3 then init.Ok 0 7 (Postpone true ∷ two_inserts)
+    else init.Stop arg)))

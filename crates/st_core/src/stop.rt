@@ -1,0 +1,38 @@
+//! A machine is stopped from outside.
+ghost use Rattle.std.specs.Prelude.{◌≡◌};
+ghost use Rattle.st_core.specs.Callbacks.{callbacks_of};
+ghost use Rattle.st_core.specs.Stop.{stop_of, with_ended};
+
+use crate::Core;
+use crate::pending::Pending;
+use st_events::{Module, Reason, Refusal};
+
+impl<M: Module> Core<M> {
+    /// Ends the machine at once, before the events that wait: calls the module's `terminate`, keeps
+    /// its word, and answers it. What waits is dropped. The state and the data stay.
+    ///
+    /// Refused with `Stopped` once the machine has ended, which changes nothing. It takes no memory.
+    ///
+    /// Manual: `stop/3`, `Module:terminate/3`; ours: docs/DECISIONS.md, A stop from outside.
+    pub fn stop(&mut self, reason: Reason) -> Result<u32, Refusal>
+        ensures word { result ≡ (stop_of (callbacks_of M.Module M.State.eq self.old.module_) self.old.machine reason).0 }
+        ensures stopped { self.new.machine ≡ (stop_of (callbacks_of M.Module M.State.eq self.old.module_) self.old.machine reason).1 }
+        ensures unchanged_module { self.new.module_ ≡ self.old.module_ }
+    {
+        if let Some((reason, _)) = self.ended {
+            return Err(Refusal::Stopped(reason));
+        }
+        let word = self.module.terminate(reason, self.state, &self.data);
+        self.end(reason, word);
+        Ok(word)
+    }
+
+    /// The machine has ended for a reason, with this last word: nothing waits any more.
+    pub(crate) fn end(&mut self, reason: Reason, word: u32)
+        ensures ended { self.new.machine ≡ with_ended self.old.machine reason word }
+        ensures unchanged_module { self.new.module_ ≡ self.old.module_ }
+    {
+        self.pending = Pending::new(self.alloc, self.pending.next());
+        self.ended = Some((reason, word));
+    }
+}

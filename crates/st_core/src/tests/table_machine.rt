@@ -1,0 +1,50 @@
+//! A table's machine: what it is told, how it begins, and what is read of it.
+use super::table::Table;
+use super::tested::{Begin, Seen, Told};
+use crate::Entry;
+use st_events::Reason;
+
+pub fn cast(content: u32) -> Told<u32> {
+    Told::Post(Entry::Cast, content)
+}
+
+pub fn info(content: u32) -> Told<u32> {
+    Told::Post(Entry::Info, content)
+}
+
+/// A table's machine at the moment 0.
+pub const BEGIN: Begin<Table, u32> = Begin {
+    module: Table { number: 50 },
+    arg: 0,
+    now: 0,
+    first: None,
+    inserted: &[],
+};
+
+/// What can be read of a table's machine in which nothing waits.
+pub fn at_rest(state: u32, held: u32, latest: u64) -> Seen<u32, u32> {
+    Seen {
+        is_ready: false,
+        state,
+        held,
+        latest,
+        waiting: 0,
+        ended: None,
+    }
+}
+
+/// What can be read of a table's machine in which so many events are postponed, and no other waits.
+pub fn postponing(waiting: usize, state: u32, held: u32, latest: u64) -> Seen<u32, u32> {
+    Seen {
+        waiting,
+        ..at_rest(state, held, latest)
+    }
+}
+
+/// What can be read of a table's machine that has ended.
+pub fn at_end(reason: Reason, word: u32, held: u32, latest: u64) -> Seen<u32, u32> {
+    Seen {
+        ended: Some((reason, word)),
+        ..at_rest(0, held, latest)
+    }
+}

@@ -1,0 +1,57 @@
+//! Short lists in the making.
+ghost use Rattle.std.specs.Prelude.{◌≡◌, ◌<◌, ◌≤◌, [], max, IsOk, IfOk};
+ghost use Rattle.st_events.specs.Building.{with_element};
+
+use crate::SmallList;
+use smallvec::SmallVec;
+use std::alloc::{AllocError, Global};
+use std::marker::Model;
+
+/// A list in the making, for which the room is got first: after that no call can fail.
+#[derive(Debug, Drop)]
+pub struct SmallListBuilder<T> {
+    // Each is `Some`, as in the list that they become. The room is the capacity that is left.
+    elements: SmallVec<Option<T>, 4>,
+}
+
+impl<T> Model for SmallListBuilder<T> {
+    ghost use Rattle.std.specs.Prelude.{◌-◌, ◌≤◌, length};
+    ghost use Rattle.st_events.specs.Building.{Building};
+
+    ghost Value = { Building T };
+
+    ghost use Rattle.st_events.specs.Places.{present, IsFull};
+
+    ghost view = { λ builder. record { items = present builder.elements.items; room = builder.elements.capacity - length builder.elements.items } };
+
+    ghost invariant = { λ builder. (4 ≤ builder.elements.capacity) × IsFull builder.elements.items };
+}
+
+impl<T: Drop> SmallListBuilder<T> {
+    /// No element yet, and room for so many, at least four. For up to four this takes no memory.
+    pub fn with_room(alloc: Global, count: usize) -> Result<SmallListBuilder<T>, AllocError>
+        ensures room { IfOk result (λ builder. builder ≡ record { items = []; room = max 4 count }) }
+
+        ensures inline { count ≤ 4 → IsOk result }
+    {
+        Ok(SmallListBuilder {
+            elements: SmallVec::with_capacity(alloc, count)?,
+        })
+    }
+
+    /// Adds an element at the end, in room that was got before. It cannot fail.
+    pub fn push(&mut self, element: T)
+        requires { 0 < self.old.room }
+        ensures pushed { self.new ≡ with_element self.old element }
+    {
+        self.elements.push_reserved(Some(element));
+    }
+
+    /// The list of the elements, in the order in which they came. It takes no memory.
+    pub fn finish(self) -> SmallList<T>
+        ensures { result ≡ self.items }
+    {
+        let SmallListBuilder { elements } = self;
+        SmallList { elements }
+    }
+}
