@@ -1,16 +1,16 @@
 -- A list of events with a cursor, read as the events that wait and the numbers that are postponed.
-use Rattle.std.proofs.Common.{◌≡◌, ℕ, zero, suc, ◌<◌, ◌≤◌, ◌^◌, Bool, true, false, ◌==◌, List, [], ◌∷◌, ◌++◌, Option, Some, None, map, take, drop, refl, sym, ◌∙◌, ap, subst, ◌-◌, ◌+◌, add-one, length, arith, inl, inr, if◌then◌else◌}
+use Rattle.std.proofs.Common.{◌≡◌, ℕ, zero, suc, ◌<◌, ◌≤◌, ◌^◌, Bool, true, false, ◌==◌, List, [], ◌∷◌, ◌++◌, Option, Some, None, map, drop, refl, sym, ◌∙◌, ap, subst, ◌-◌, ◌+◌, add-one, length, arith, inl, inr, if◌then◌else◌}
 use Rattle.std.specs.List.{slice_get, remove, insert}
 use Rattle.std.specs.Option.{option_map}
 use Rattle.std.proofs.lemmas.List.{length-append, append-nil, append_assoc}
 use Rattle.st_queue.specs.Queue.{Queue, with_pushed, with_skipped, without_current, with_inserted}
 use Rattle.std.specs.Prelude.{is_some, max, OnSome, IsNone, ◌↔◌}
 use Rattle.std.proofs.lemmas.Bool.{cases_lt}
-use Rattle.std.proofs.lemmas.List.Edits.{length-remove, length-insert}
+use Rattle.std.proofs.lemmas.List.Edits.{length-remove}
 use Rattle.st_events.specs.declared.event.Event.{Event}
 use Rattle.st_events.specs.declared.insert.Insert.{Insert}
-use Rattle.st_core.specs.MachineState.{Item, Received, Posted}
-use Rattle.st_core.specs.Items.{has, or_else, event_of, numbers_of, first_received, first_posted, with_posted_received, with_next_received, next_of, next_number_of, without, placed, numbered}
+use Rattle.st_core.specs.MachineState.{Received, Posted}
+use Rattle.st_core.specs.Items.{has, numbers_of, first_received, first_posted, with_posted_received, with_next_received, next_of, next_number_of, without, placed, numbered}
 use Rattle.st_core.specs.Waiting.{Distinct, AreBelow, items_of, postponed_of, inserted_at, Waiting, IsSound}
 
 -- ---- numbers: each of the second list is among the first; none is; none is this number

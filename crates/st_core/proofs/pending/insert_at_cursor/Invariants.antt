@@ -1,7 +1,4 @@
-use Rattle.std.proofs.Common.{◌≡◌, ◌≤◌, ◌+◌, List, ◌++◌, length}
-use Rattle.st_events.specs.declared.insert.Insert.{Insert}
-use Rattle.st_core.specs.Items.{numbered}
-use Rattle.st_core.specs.Waiting.{inserted_at}
+use Rattle.std.proofs.Common.{length}
 use Rattle.st_core.proofs.PendingLemmas.{IsBehind}
 use Rattle.st_core.proofs.pending.insert_at_cursor.Given as goal
 

@@ -1,4 +1,4 @@
-use Rattle.std.proofs.Common.{◌≡◌, ◌≤◌, ◌<◌, ◌+◌, ◌^◌, ◌∷◌, [], length, max, refl, inr, arith}
+use Rattle.std.proofs.Common.{◌≡◌, ◌≤◌, ◌<◌, ◌+◌, ◌^◌, length, max, refl, inr, arith}
 use Rattle.st_actions.specs.Plan.{inserts_of}
 use Rattle.st_core.specs.Items.{numbered, numbers_of}
 use Rattle.st_core.specs.Start.{first_state}

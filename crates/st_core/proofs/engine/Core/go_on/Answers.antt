@@ -1,8 +1,8 @@
-use Rattle.std.proofs.Common.{◌≡◌, ◌≤◌, ◌<◌, ◌+◌, ◌^◌, ◌∷◌, [], Some, length, max, refl, ap, sym, ◌∙◌, inr, arith}
+use Rattle.std.proofs.Common.{◌≡◌, ◌≤◌, ◌<◌, ◌+◌, ◌^◌, ◌∷◌, [], length, max, refl, inr, arith}
 use Rattle.st_actions.specs.Plan.{inserts_of}
 use Rattle.st_core.specs.declared.call.Call.TheVariants.{Handle}
 use Rattle.st_core.specs.Callbacks.{called_with, actions_of}
-use Rattle.st_core.specs.Items.{numbered, numbers_of, next_number_of}
+use Rattle.st_core.specs.Items.{numbered, numbers_of}
 use Rattle.st_core.specs.Transition.{with_moment, with_received}
 use Rattle.st_core.proofs.TransitionLemmas.{went_on_is, went_on_exhausted, went_on_takes_memory, numbers-numbered}
 use Rattle.st_core.proofs.engine.Core.go_on.Goals as goal

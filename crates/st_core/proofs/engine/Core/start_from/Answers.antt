@@ -1,4 +1,4 @@
-use Rattle.std.proofs.Common.{◌<◌, ◌^◌, arith}
+use Rattle.std.proofs.Common.{arith}
 use Rattle.st_core.proofs.engine.Core.start_from.Goals as goal
 
 pub begin-requires-send-M-State : goal.begin-requires-send-M-State

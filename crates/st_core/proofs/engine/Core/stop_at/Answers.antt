@@ -1,4 +1,4 @@
-use Rattle.std.proofs.Common.{refl, ◌≡◌, ◌∷◌, []}
+use Rattle.std.proofs.Common.{refl, ◌∷◌, []}
 use Rattle.st_core.specs.declared.call.Call.TheVariants.{Handle}
 use Rattle.st_core.specs.Callbacks.{callbacks_of, called_with}
 use Rattle.st_core.specs.Transition.{with_moment, with_received}

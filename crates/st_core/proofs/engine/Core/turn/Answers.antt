@@ -1,4 +1,4 @@
-use Rattle.std.proofs.Common.{◌≡◌, ◌<◌, ◌^◌, Some, None, refl, sym, arith}
+use Rattle.std.proofs.Common.{◌<◌, ◌^◌, refl, sym, arith}
 use Rattle.st_core.specs.Callbacks.{callbacks_of}
 use Rattle.st_core.proofs.TransitionLemmas.{turn_is}
 use Rattle.st_core.proofs.engine.Core.turn.Goals as goal

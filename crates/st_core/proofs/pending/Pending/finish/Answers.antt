@@ -1,4 +1,4 @@
-use Rattle.std.proofs.Common.{◌≡◌, ◌≤◌, ◌<◌, ◌+◌, ◌-◌, max, arith}
+use Rattle.std.proofs.Common.{◌≤◌, ◌<◌, ◌-◌, arith}
 use Rattle.st_core.proofs.PendingLemmas.{on_some_before, before_end, sound_finished, finished_is}
 use Rattle.st_core.proofs.pending.Pending.finish.Goals as goal
 
