@@ -2,3 +2,4 @@ pub mod Building
 pub mod Places
 pub mod Refusal
 pub mod Rows
+pub mod Timers

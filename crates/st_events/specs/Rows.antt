@@ -5,6 +5,7 @@ use Rattle.std.specs.Mem.{FitsInMemory}
 use Rattle.st_events.specs.contracts.tag.Tag.{the_row as tag_row}
 use Rattle.st_events.specs.contracts.action.Action.{the_row as action_row}
 use Rattle.st_events.specs.contracts.insert.Insert.{the_row as insert_row}
+use Rattle.st_events.specs.contracts.setting.Setting.{the_row as setting_row}
 use Rattle.st_events.specs.contracts.small_list.SmallList.{the_row as list_row}
 use denote.Struct.Tuple.{Tuple}
 
@@ -19,6 +20,10 @@ RepliesFit C = FitsInMemory (list_row (Tuple (tag_row ∷ C ∷ [])))
 -- so is a list of events to be inserted
 abbrev pub InsertsFit : RattleType → Type 0
 InsertsFit C = FitsInMemory (list_row (insert_row C))
+
+-- so is a list of timers to be set
+abbrev pub SettingsFit : RattleType → Type 0
+SettingsFit C = FitsInMemory (list_row (setting_row C))
 
 -- so is all that a list of actions asks for: replies, a truth value, and events to be inserted
 abbrev pub PlannedFits : RattleType → Type 0

@@ -1,0 +1,10 @@
+-- Lemmas on what waits, on the time-outs that run, and on both as one.
+pub mod PendingLemmas
+pub mod ItemsLemmas
+pub mod AgreesLemmas
+pub mod AgendaLemmas
+pub mod ChoiceLemmas
+pub mod SweepLemmas
+pub mod ReceiveLemmas
+pub mod ExpireLemmas
+pub mod LoopLemmas

@@ -1,0 +1,41 @@
+-- Requests to set timers, and time-outs that expire.
+use Rattle.std.specs.Prelude.{ℕ, ◌+◌, Bool, false, not, ◌||◌, ◌&&◌, List, [], ◌∷◌, filter}
+use Rattle.st_events.specs.declared.setting.Setting.{Setting}
+use Rattle.st_events.specs.declared.time.Time.{Time}
+use Rattle.st_events.specs.declared.time.Time.TheVariants.{After, Infinity}
+use Rattle.st_events.specs.declared.timer.Timer.{Timer}
+use Rattle.st_events.specs.Timers.{same_timer}
+use Rattle.st_timeouts.specs.Running.{Running, is_due_by, in_order}
+use Rattle.st_agenda.specs.Item.{Item, Received, Posted, Expiry}
+
+-- how many numbers a request takes: one where a time-out begins
+abbrev pub number_taken : Time → ℕ
+number_taken Infinity = 0
+number_taken (After time) = 1
+
+module _ {C : Type 0} where
+  -- whether it is the expiry of a timer
+  abbrev pub is_expiry : Timer → Item C → Bool
+  is_expiry timer (Received event) = false
+  is_expiry timer (Posted event) = false
+  is_expiry timer (Expiry other) = same_timer timer other
+
+  -- without the expiry of a timer
+  abbrev pub without_expiry : Timer → List (Item C) → List (Item C)
+  without_expiry timer items = filter (λ (item : Item C). not (is_expiry timer item)) items
+
+  -- whether the expiry of a timer waits
+  abbrev pub expiry_waits : Timer → List (Item C) → Bool
+  expiry_waits timer [] = false
+  expiry_waits timer (item ∷ items) = is_expiry timer item || expiry_waits timer items
+
+  -- how many numbers requests take
+  abbrev pub numbers_taken : List (Setting C) → ℕ
+  numbers_taken [] = 0
+  numbers_taken (setting ∷ settings) = number_taken setting.time + numbers_taken settings
+
+  -- the time-outs that expire by a moment: they are due, and their expiry does not wait yet; by the
+  -- moment at which they are due, and then by number
+  abbrev pub expiring_by : ℕ → List (Item C) → List (Running C) → List (Running C)
+  expiring_by now items running =
+      in_order (filter (λ (one : Running C). is_due_by now one.due && not (expiry_waits one.timer items)) running)

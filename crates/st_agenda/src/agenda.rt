@@ -1,0 +1,460 @@
+//! What waits and the time-outs that run, as one: which event comes next, and what a transition makes
+//! of them.
+ghost use Rattle.std.specs.Prelude.{◌≡◌, ℕ, ◌+◌, ◌-◌, ◌<◌, ◌≤◌, ◌^◌, [], ◌∷◌, ◌++◌, Some, None, IfOk, IfErr, OnOk, OnErr, length, map, max, option_copied};
+ghost use Rattle.std.specs.Option.{option_map};
+ghost use Rattle.st_events.specs.Rows.{InsertsFit, SettingsFit};
+ghost use Rattle.st_timeouts.specs.Running.{running_of};
+ghost use Rattle.st_timeouts.specs.Timeouts.{name_of};
+ghost use Rattle.st_agenda.specs.Items.{events_in, first_received};
+ghost use Rattle.st_agenda.specs.Item.{Posted};
+ghost use Rattle.st_events.specs.declared.kind.Kind.TheVariants.{Timeout};
+ghost use Rattle.st_events.specs.declared.time.Time.TheVariants.{After};
+ghost use Rattle.st_agenda.specs.Timing.{expiring_by, number_taken, numbers_taken};
+ghost use Rattle.st_agenda.specs.Waiting.{next_of};
+ghost use Rattle.st_agenda.specs.Agenda.{Agrees, IsAlive, items_in, next_in, zero_in, received_in, cancelled_in, disposed_in, retried_in, inserted_in, begun_in, set_in, all_set_in, settled_in, name_of_event, shown_timers, dead_at, with_first_expiry, all_but_first, with_all_expired};
+
+use crate::pending::Pending;
+use crate::slot::Slot;
+use st_events::{Event, Inserts, Kind, PlainList, Setting, Settings, Time, Timer};
+use st_timeouts::{Due, Timeouts};
+use std::alloc::{AllocError, AllocFailed, Global};
+use std::marker::Model;
+
+/// What waits, in a queue, and the time-outs that run. An expiry whose time-out runs no more stays in
+/// the queue until it comes to the front; it is never the next slot.
+#[derive(Drop)]
+pub struct Agenda<C> {
+    pending: Pending<C>,
+    timeouts: Timeouts<C>,
+    // How many expiries stand in the queue, also of time-outs that run no more.
+    expiries: usize,
+}
+
+impl<C> Model for Agenda<C> {
+    ghost use Rattle.st_agenda.specs.Agenda.{Agenda, schedule_of, IsKept};
+
+    ghost Value = { Agenda C };
+
+    ghost view = { λ agenda. record {
+      schedule = schedule_of agenda.pending agenda.timeouts.listed;
+      staged = agenda.pending.staged;
+      room = agenda.timeouts.room;
+    } };
+
+    ghost invariant = { λ agenda. IsKept agenda.pending agenda.timeouts.listed agenda.expiries };
+}
+
+impl<C> Agenda<C> {
+    /// Nothing waits and no time-out runs, and the number that the first event gets. It takes no memory.
+    ///
+    /// Manual: the introduction, on the event queue.
+    pub fn new(alloc: Global, first: u64) -> Agenda<C>
+        requires { first ≤ 2 ^ 63 }
+        ensures { result ≡ record {
+          schedule = record { pending = []; postponed = []; running = []; next = first };
+          staged = 0;
+          room = 0;
+        } }
+    {
+        Agenda {
+            pending: Pending::new(alloc, first),
+            timeouts: Timeouts::new(alloc),
+            expiries: 0,
+        }
+    }
+
+    /// The number and the kind of the event that a turn handles next.
+    ///
+    /// Manual: `transition_option()`, the steps on enqueued events, on zero time-outs and on receiving.
+    pub fn next_event(&self) -> Option<(u64, Kind)>
+        ensures { result ≡ option_map name_of_event (next_in self.now.schedule) }
+    {
+        if let Some((timer, number)) = self.next_zero() {
+            return Some((number, Kind::Timeout(timer)));
+        }
+        match self.pending.peek() {
+            None => None,
+            Some(Slot::Event(event)) => Some((event.number, event.kind)),
+            Some(Slot::Expiry(timer, number)) => Some((*number, Kind::Timeout(*timer))),
+        }
+    }
+
+    /// Its content.
+    ///
+    /// Manual: `event_content()`.
+    pub fn next_content(&self) -> Option<&C>
+        ensures { option_copied result ≡ option_map (λ event. event.content) (next_in self.now.schedule) }
+    {
+        if let Some((timer, number)) = self.next_zero() {
+            return self.timeouts.content(timer, number);
+        }
+        match self.pending.peek() {
+            None => None,
+            Some(Slot::Event(event)) => Some(&event.content),
+            Some(Slot::Expiry(timer, number)) => self.timeouts.content(*timer, *number),
+        }
+    }
+
+    /// The time-out that comes next because it is due at once: where no received event is left, the first
+    /// one.
+    fn next_zero(&self) -> Option<(Timer, u64)>
+        ensures { result ≡ option_map name_of (zero_in self.now.schedule) }
+    {
+        if self.pending.was_received() {
+            None
+        } else {
+            self.timeouts.first_zero()
+        }
+    }
+
+    /// How many events wait.
+    ///
+    /// Ours: docs/TRANSITIONS.md, Next event.
+    pub fn waiting(&self) -> usize
+        ensures { result ≡ events_in self.now.schedule.pending }
+    {
+        self.pending.len() - self.expiries
+    }
+
+    /// The number that the next event gets.
+    ///
+    /// Ours: docs/DECISIONS.md, Numbers of events.
+    pub fn next(&self) -> u64
+        ensures next { result ≡ self.now.schedule.next }
+        ensures bounded { result ≤ 2 ^ 63 }
+    {
+        self.pending.next()
+    }
+
+    /// The running time-outs in the order of their requests: timer, number of the event, when it is due.
+    ///
+    /// Where memory is wanted and there is none, nothing is listed. Manual: `timeout_action()`.
+    pub fn timers(&self) -> Result<PlainList<(Timer, u64, Due)>, AllocError>
+        ensures { IfOk result (λ timers. timers ≡ shown_timers self.now.schedule) }
+    {
+        self.timeouts.list()
+    }
+
+    /// How many time-outs expire by a moment, in milliseconds.
+    ///
+    /// Ours: docs/TRANSITIONS.md, Time-outs.
+    pub fn count_due(&self, now: u64) -> usize
+        ensures { result ≡ length (expiring_by now self.now.schedule.pending self.now.schedule.running) }
+    {
+        self.timeouts.count_due(now)
+    }
+}
+
+impl<C: Drop> Agenda<C> {
+    /// Puts a posted event behind all that waits, and answers its number.
+    ///
+    /// Where memory is wanted and there is none, nothing changes and the content comes back.
+    /// Manual: `event_type()`, `cast/2`.
+    pub fn push(&mut self, kind: Kind, content: C) -> Result<u64, AllocFailed<C>>
+        requires { self.old.schedule.next < 2 ^ 63 }
+        ensures number { IfOk result (λ number. number ≡ self.old.schedule.next) }
+        ensures pushed { OnOk result (self.new.schedule ≡ record self.old.schedule {
+          pending = self.old.schedule.pending ++ Posted (record { number = self.old.schedule.next; kind = kind; content = content }) ∷ [];
+          next = self.old.schedule.next + 1;
+        }) }
+
+        ensures unchanged { OnErr result (self.new ≡ self.old) }
+        ensures value_returned { IfErr result (λ failed. failed.value ≡ content) }
+    {
+        let pushed = self.pending.push(kind, content);
+        self.pending.in_order();
+        pushed
+    }
+
+    /// Makes room, so that `count` events can come in without memory.
+    ///
+    /// Where memory is wanted and there is none, nothing changes. Ours: docs/DECISIONS.md, Choices in the code.
+    pub fn stage(&mut self, count: usize) -> Result<(), AllocError>
+        ensures staged { OnOk result (self.new ≡ record self.old { staged = max self.old.staged count }) }
+
+        ensures unchanged { OnErr result (self.new ≡ self.old) }
+    {
+        self.pending.stage(count)
+    }
+
+    /// Makes room, so that `count` timers can be set without memory.
+    ///
+    /// Where memory is wanted and there is none, nothing changes. Ours: docs/DECISIONS.md, Choices in the code.
+    pub fn reserve(&mut self, count: usize) -> Result<(), AllocError>
+        ensures reserved { OnOk result (self.new ≡ record self.old { room = max self.old.room count }) }
+
+        ensures unchanged { OnErr result (self.new ≡ self.old) }
+    {
+        self.timeouts.reserve(count)
+    }
+
+    /// Makes room for what a transition may need: so many inserted events and the event of a time-out
+    /// that is taken up, and so many timers.
+    ///
+    /// Where memory is wanted and there is none, nothing that waits or runs changes. Ours:
+    /// docs/DECISIONS.md, Choices in the code.
+    pub fn make_room(&mut self, inserts: usize, timers: usize) -> Result<(), AllocError>
+        requires { inserts ≤ 2 ^ 63 }
+        ensures staged { OnOk result (inserts + 1 ≤ self.new.staged) }
+        ensures room { OnOk result (timers ≤ self.new.room) }
+        ensures unchanged { self.new.schedule ≡ self.old.schedule }
+    {
+        self.stage(inserts + 1)?;
+        self.reserve(timers)
+    }
+
+    /// Each time-out that is due by a moment, in milliseconds, expires: its expiry goes behind all that
+    /// waits. It takes no memory.
+    ///
+    /// Ours: docs/TRANSITIONS.md, Time-outs.
+    pub fn expire(&mut self, now: u64)
+        requires { length (expiring_by now self.old.schedule.pending self.old.schedule.running) ≤ self.old.staged }
+        ensures { self.new.schedule ≡ with_all_expired (expiring_by now self.old.schedule.pending self.old.schedule.running) self.old.schedule }
+    {
+        for _place in 0..self.count_due(now) {
+            self.expire_next(now);
+        }
+    }
+
+    /// What a transition at a moment, in milliseconds, does with what waits and what runs, where the next
+    /// event has this number: it is received, and the event time-out cancelled; it is postponed or
+    /// finished; at a state change none is postponed any more, and the state time-out is cancelled; then
+    /// others come in, and timers are set. It takes no memory.
+    ///
+    /// Manual: `transition_option()`, the steps of a state transition.
+    pub fn settle(
+        &mut self,
+        now: u64,
+        number: u64,
+        postpone: bool,
+        changed: bool,
+        inserts: Inserts<C>,
+        requests: Settings<C>,
+    )
+        requires inserts_fit { InsertsFit C.row }
+        requires settings_fit { SettingsFit C.row }
+        requires moment { now < 2 ^ 63 }
+        requires number_is { option_map (λ event. event.number) (next_in self.old.schedule) ≡ Some number }
+        requires staged { length inserts + 1 ≤ self.old.staged }
+        requires room { length requests ≤ self.old.room }
+        requires numbers { self.old.schedule.next + (length inserts + numbers_taken requests) ≤ 2 ^ 63 }
+        ensures { self.new.schedule ≡ settled_in now self.old.schedule number postpone changed inserts requests }
+    {
+        self.receive();
+        self.cancel(Timer::Event);
+        self.dispose(number, postpone);
+        self.retry(changed);
+        self.insert(inserts);
+        self.set_all(now, requests);
+    }
+
+    /// The next time-out that is due by a moment, in milliseconds, expires.
+    fn expire_next(&mut self, now: u64)
+        requires due { 0 < length (expiring_by now self.old.schedule.pending self.old.schedule.running) }
+        requires room { 0 < self.old.staged }
+        ensures schedule { self.new.schedule ≡ with_first_expiry (expiring_by now self.old.schedule.pending self.old.schedule.running) self.old.schedule }
+        ensures rest { expiring_by now self.new.schedule.pending self.new.schedule.running ≡ all_but_first (expiring_by now self.old.schedule.pending self.old.schedule.running) }
+        ensures staged { self.new.staged + 1 ≡ self.old.staged }
+    {
+        let Some((timer, number)) = self.timeouts.next_expiry(now) else {
+            unreachable!()
+        };
+        self.pending.push_expiry(timer, number);
+        self.pending.in_order();
+        prove!(self.expiries < self.pending.len());
+        self.expiries += 1;
+    }
+
+    /// What a turn takes up is received, in its place.
+    fn receive(&mut self)
+        requires { 0 < self.old.staged }
+        ensures schedule { self.new.schedule ≡ received_in self.old.schedule }
+        ensures first { option_map (λ event. event.number) (first_received self.new.schedule.postponed self.new.schedule.pending) ≡ option_map (λ event. event.number) (next_in self.old.schedule) }
+        ensures staged { self.old.staged ≤ self.new.staged + 1 }
+        ensures room { self.new.room ≡ self.old.room }
+    {
+        if self.pending.was_received() {
+            return;
+        }
+        if let Some((timer, number)) = self.timeouts.first_zero() {
+            let Some(content) = self.timeouts.take(timer, number) else {
+                unreachable!()
+            };
+            self.pending.put_in(timeout_event(timer, number, content));
+            self.pending.in_order();
+            return;
+        }
+        match self.pending.peek() {
+            None => {}
+            Some(Slot::Event(event)) => {
+                let number = event.number;
+                self.pending.receive(number);
+                self.pending.in_order();
+            }
+            Some(Slot::Expiry(timer, number)) => {
+                let (timer, number) = (*timer, *number);
+                let Some(content) = self.timeouts.take(timer, number) else {
+                    unreachable!()
+                };
+                self.pending.finish(number);
+                self.pending.in_order();
+                self.expiries -= 1;
+                self.pending.put_in(timeout_event(timer, number, content));
+                self.pending.in_order();
+            }
+        }
+    }
+
+    /// The time-out of a timer is cancelled.
+    fn cancel(&mut self, timer: Timer)
+        ensures { self.new ≡ record self.old { schedule = cancelled_in self.old.schedule timer } }
+    {
+        let _content = self.timeouts.cancel(timer);
+        self.expiries = pass_dead(&mut self.pending, &self.timeouts, self.expiries);
+    }
+
+    /// The event of a number, which was received and comes next, is postponed and keeps its place, or it
+    /// is finished and leaves.
+    fn dispose(&mut self, number: u64, postpone: bool)
+        requires { option_map (λ event. event.number) (first_received self.old.schedule.postponed self.old.schedule.pending) ≡ Some number }
+        ensures { self.new ≡ record self.old { schedule = disposed_in self.old.schedule number postpone } }
+    {
+        if postpone {
+            self.pending.put_off(number);
+        } else {
+            self.pending.finish(number);
+        }
+        self.pending.in_order();
+        self.expiries = pass_dead(&mut self.pending, &self.timeouts, self.expiries);
+    }
+
+    /// At a state change no event is postponed any more, and the state time-out is cancelled.
+    fn retry(&mut self, changed: bool)
+        ensures { self.new ≡ record self.old { schedule = retried_in self.old.schedule changed } }
+    {
+        if changed {
+            self.forget_postponed();
+            self.cancel(Timer::State);
+        }
+    }
+
+    /// No event is postponed any more.
+    fn forget_postponed(&mut self)
+        ensures { self.new ≡ record self.old { schedule = record self.old.schedule { postponed = [] } } }
+    {
+        self.pending.retry();
+        self.pending.in_order();
+    }
+
+    /// Puts events in before the first one that is not postponed, in order, with the next numbers.
+    /// They are received. It takes no memory.
+    ///
+    /// Manual: `action()`, the bullet on `next_event`.
+    pub fn insert(&mut self, inserts: Inserts<C>)
+        requires room { length inserts ≤ self.old.staged }
+        requires numbers { self.old.schedule.next + length inserts ≤ 2 ^ 63 }
+        ensures { self.new ≡ record self.old {
+          schedule = inserted_in self.old.schedule inserts;
+          staged = self.old.staged - length inserts;
+        } }
+    {
+        self.pending.insert(inserts);
+        self.pending.in_order();
+    }
+
+    /// Sets or stops timers at a moment, in milliseconds, in their order. It takes no memory.
+    ///
+    /// Manual: `timeout_action()`.
+    pub fn set_all(&mut self, now: u64, requests: Settings<C>)
+        requires settings_fit { SettingsFit C.row }
+        requires moment { now < 2 ^ 63 }
+        requires room { length requests ≤ self.old.room }
+        requires numbers { self.old.schedule.next + numbers_taken requests ≤ 2 ^ 63 }
+        ensures { self.new.schedule ≡ all_set_in now self.old.schedule requests }
+    {
+        let mut left = requests;
+        left.reverse();
+        while let Some(setting) = left.pop() {
+            self.set(now, setting);
+        }
+    }
+
+    /// Sets or stops a timer at a moment, in milliseconds: what ran of it is cancelled first.
+    fn set(&mut self, now: u64, setting: Setting<C>)
+        requires moment { now < 2 ^ 63 }
+        requires room { 0 < self.old.room }
+        requires numbers { self.old.schedule.next + number_taken setting.time ≤ 2 ^ 63 }
+        ensures schedule { self.new.schedule ≡ set_in now self.old.schedule setting }
+        ensures room { self.old.room ≤ self.new.room + 1 }
+    {
+        let Setting {
+            timer,
+            time,
+            content,
+        } = setting;
+        self.cancel(timer);
+        match time {
+            Time::Infinity => {}
+            Time::After(time) => self.begin(now, timer, time, content),
+        }
+    }
+
+    /// A time-out of a timer that does not run begins at a moment, in milliseconds.
+    fn begin(&mut self, now: u64, timer: Timer, time: u32, content: C)
+        requires moment { now < 2 ^ 63 }
+        requires stopped { running_of timer self.old.schedule.running ≡ None }
+        requires room { 0 < self.old.room }
+        requires numbers { self.old.schedule.next < 2 ^ 63 }
+        ensures schedule { self.new.schedule ≡ begun_in now self.old.schedule timer (After time) content }
+        ensures room { self.old.room ≤ self.new.room + 1 }
+    {
+        let number = self.pending.take_number();
+        self.pending.in_order();
+        let _none = self.timeouts.set(timer, time, content, number, now);
+    }
+}
+
+/// The number of the next slot, where it is an expiry whose time-out runs no more.
+fn dead_number<C>(pending: &Pending<C>, timeouts: &Timeouts<C>) -> Option<u64>
+    ensures { result ≡ dead_at timeouts.now.listed (next_of pending.now.postponed pending.now.items) }
+{
+    match pending.peek() {
+        None | Some(Slot::Event(_)) => None,
+        Some(Slot::Expiry(timer, number)) => {
+            if timeouts.is_live(*timer, *number) {
+                None
+            } else {
+                Some(*number)
+            }
+        }
+    }
+}
+
+/// Takes expiries out of the front whose time-outs run no more, and answers how many expiries stay.
+/// Nothing that waits is changed by it.
+fn pass_dead<C: Drop>(pending: &mut Pending<C>, timeouts: &Timeouts<C>, expiries: usize) -> usize
+    requires { Agrees pending.old timeouts.now.listed expiries }
+    ensures agrees { Agrees pending.new timeouts.now.listed result }
+    ensures alive { IsAlive timeouts.now.listed (next_of pending.new.postponed pending.new.items) }
+    ensures same_items { items_in timeouts.now.listed pending.new.items ≡ items_in timeouts.now.listed pending.old.items }
+    ensures rest { pending.new ≡ record pending.old { items = pending.new.items } }
+{
+    let mut left = expiries;
+    while let Some(number) = dead_number(pending, timeouts) {
+        pending.finish(number);
+        pending.in_order();
+        left -= 1;
+    }
+    left
+}
+
+/// The event of a time-out.
+fn timeout_event<C>(timer: Timer, number: u64, content: C) -> Event<C>
+    ensures { result ≡ record { number = number; kind = Timeout timer; content = content } }
+{
+    Event {
+        number,
+        kind: Kind::Timeout(timer),
+        content,
+    }
+}

@@ -1,0 +1,11 @@
+//! What waits at one machine and the time-outs that run, as one: which event comes next, and what a
+//! transition makes of them. It knows nothing of callbacks, of states or of any clock.
+#![tactic(auto)]
+
+mod agenda;
+mod pending;
+mod slot;
+#[cfg(test)]
+mod tests;
+
+pub use agenda::Agenda;

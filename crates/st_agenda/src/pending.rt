@@ -1,0 +1,267 @@
+//! The events that wait: which comes next, what becomes of it, and where others come in.
+ghost use Rattle.std.specs.Prelude.{◌≡◌, ℕ, ◌+◌, ◌-◌, ◌<◌, ◌≤◌, ◌^◌, true, false, [], ◌∷◌, ◌++◌, Some, IfOk, IfErr, OnOk, OnErr, is_some, length, map, max, option_copied};
+ghost use Rattle.st_agenda.specs.declared.slot.Slot.TheVariants as slot;
+ghost use Rattle.st_agenda.specs.Items.{has};
+ghost use Rattle.st_agenda.specs.Slots.{inserted_slots, is_event, content_in};
+ghost use Rattle.st_agenda.specs.Waiting.{Seen, Unseen, IsOrdered, first_seen, next_of, next_number_of, with_next_seen, without_slot, put_in, inserted_at, place_numbers};
+
+use crate::slot::Slot;
+use st_events::{Event, Insert, Inserts, Kind, Timer};
+use st_queue::EventQueue;
+use std::alloc::{AllocError, AllocFailed, Global};
+use std::marker::Model;
+
+/// What waits, in a queue. The events before its cursor are postponed, and the first so many slots
+/// were received. Numbers are given here.
+#[derive(Drop)]
+pub(crate) struct Pending<C> {
+    queue: EventQueue<Slot<C>>,
+    // How many slots were received. The cursor stands among them or behind the last one.
+    received: usize,
+    // The number that the next event gets.
+    next: u64,
+}
+
+impl<C> Model for Pending<C> {
+    ghost use Rattle.st_agenda.specs.Waiting.{Waiting, places_of, postponed_of, IsSound};
+
+    ghost Value = { Waiting C };
+
+    ghost view = { λ pending. record {
+      items = places_of pending.received pending.queue.items;
+      postponed = postponed_of pending.queue.cursor pending.queue.items;
+      next = pending.next;
+      staged = pending.queue.staged;
+    } };
+
+    ghost invariant = { λ pending. IsSound pending.queue pending.received pending.next };
+}
+
+impl<C> Pending<C> {
+    /// No event, and the number that the first one gets. It takes no memory.
+    pub(crate) fn new(alloc: Global, first: u64) -> Pending<C>
+        requires { first ≤ 2 ^ 63 }
+        ensures { result ≡ record { items = []; postponed = []; next = first; staged = 0 } }
+    {
+        Pending {
+            queue: EventQueue::new(alloc),
+            received: 0,
+            next: first,
+        }
+    }
+
+    /// The next slot: an event, or an expiry.
+    pub(crate) fn peek(&self) -> Option<&Slot<C>>
+        ensures { option_copied result ≡ next_of self.now.postponed self.now.items }
+    {
+        self.queue.peek()
+    }
+
+    /// Says whether the next slot was received already.
+    pub(crate) fn was_received(&self) -> bool
+        ensures { result ≡ is_some (first_seen self.now.postponed self.now.items) }
+    {
+        self.queue.before() < self.received
+    }
+
+    /// How many slots there are.
+    pub(crate) fn len(&self) -> usize
+        ensures { result ≡ length self.now.items }
+    {
+        self.queue.len()
+    }
+
+    /// The number that the next event gets.
+    pub(crate) fn next(&self) -> u64
+        ensures next { result ≡ self.now.next }
+        ensures bounded { result ≤ 2 ^ 63 }
+    {
+        self.next
+    }
+
+    /// A law, which does nothing: what waits is in order.
+    pub(crate) fn in_order(&self)
+        ensures { IsOrdered self.now }
+    {
+        let _ = &self.queue;
+    }
+
+    /// No event is postponed any more.
+    pub(crate) fn retry(&mut self)
+        ensures { self.new ≡ record self.old { postponed = [] } }
+    {
+        self.queue.rewind();
+    }
+
+    /// The next slot is received.
+    pub(crate) fn receive(&mut self, number: u64)
+        requires { next_number_of self.old.postponed self.old.items ≡ Some number }
+        ensures { self.new ≡ record self.old { items = with_next_seen self.old.postponed self.old.items } }
+    {
+        let _number = number;
+        prove!(self.queue.before() < self.queue.len());
+        self.received = self.received.max(self.queue.before() + 1);
+    }
+
+    /// A number is taken by the event of a time-out.
+    pub(crate) fn take_number(&mut self) -> u64
+        requires { self.old.next < 2 ^ 63 }
+        ensures number { result ≡ self.old.next }
+        ensures taken { self.new ≡ record self.old { next = self.old.next + 1 } }
+    {
+        let number = self.next;
+        self.next += 1;
+        number
+    }
+}
+
+impl<C: Drop> Pending<C> {
+    /// Puts a posted event behind all others, and answers its number.
+    pub(crate) fn push(&mut self, kind: Kind, content: C) -> Result<u64, AllocFailed<C>>
+        requires { self.old.next < 2 ^ 63 }
+        ensures number { IfOk result (λ number. number ≡ self.old.next) }
+        ensures pushed { OnOk result (self.new ≡ record self.old {
+          items = self.old.items ++ Unseen (slot.Event (record { number = self.old.next; kind = kind; content = content })) ∷ [];
+          next = self.old.next + 1;
+        }) }
+
+        ensures unchanged { OnErr result (self.new ≡ self.old) }
+        ensures value_returned { IfErr result (λ failed. failed.value ≡ content) }
+    {
+        let number = self.next;
+        let event = Event {
+            number,
+            kind,
+            content,
+        };
+        match self.queue.push_back(Slot::Event(event)) {
+            Ok(()) => {
+                self.next += 1;
+                Ok(number)
+            }
+            Err(failed) => Err(AllocFailed {
+                value: content_of(failed.value),
+            }),
+        }
+    }
+
+    /// Makes room, so that `count` slots can come in without memory.
+    pub(crate) fn stage(&mut self, count: usize) -> Result<(), AllocError>
+        ensures staged { OnOk result (self.new ≡ record self.old { staged = max self.old.staged count }) }
+
+        ensures unchanged { OnErr result (self.new ≡ self.old) }
+    {
+        self.queue.stage(count)
+    }
+
+    /// Puts events in before the first one that is not postponed, in order, with the next numbers.
+    /// They are received. It takes no memory.
+    pub(crate) fn insert(&mut self, inserts: Inserts<C>)
+        requires room { length inserts ≤ self.old.staged }
+        requires numbers { self.old.next + length inserts ≤ 2 ^ 63 }
+        ensures { self.new ≡ record self.old {
+          items = put_in self.old.postponed (map Seen (inserted_slots self.old.next inserts)) self.old.items;
+          next = self.old.next + length inserts;
+          staged = self.old.staged - length inserts;
+        } }
+    {
+        let count = inserts.len();
+        prove!(self.queue.before() <= self.queue.len());
+        insert_at_cursor(&mut self.queue, inserts, self.next);
+        prove!(count <= self.queue.len() - self.received);
+        self.received += count;
+        self.next += count as u64;
+    }
+
+    /// Puts the event of a time-out in before the first one that is not postponed. It is received, and
+    /// has its number already. It takes no memory.
+    pub(crate) fn put_in(&mut self, event: Event<C>)
+        requires room { 0 < self.old.staged }
+        requires free { has (place_numbers self.old.items) event.number ≡ false }
+        requires below { event.number < self.old.next }
+        ensures { self.new ≡ record self.old {
+          items = put_in self.old.postponed (Seen (slot.Event event) ∷ []) self.old.items;
+          staged = self.old.staged - 1;
+        } }
+    {
+        self.queue.insert_staged(Slot::Event(event));
+        prove!(self.received < self.queue.len());
+        self.received += 1;
+    }
+
+    /// Puts an expiry behind all others. It takes no memory.
+    pub(crate) fn push_expiry(&mut self, timer: Timer, number: u64)
+        requires room { 0 < self.old.staged }
+        requires free { has (place_numbers self.old.items) number ≡ false }
+        requires below { number < self.old.next }
+        ensures { self.new ≡ record self.old {
+          items = self.old.items ++ Unseen (slot.Expiry timer number) ∷ [];
+          staged = self.old.staged - 1;
+        } }
+    {
+        self.queue.push_staged(Slot::Expiry(timer, number));
+    }
+
+    /// The next slot is received, and its event postponed.
+    pub(crate) fn put_off(&mut self, number: u64)
+        requires { next_number_of self.old.postponed self.old.items ≡ Some number }
+        ensures { self.new ≡ record self.old {
+          items = with_next_seen self.old.postponed self.old.items;
+          postponed = self.old.postponed ++ number ∷ [];
+        } }
+    {
+        let _passed = self.queue.skip();
+        self.received = self.received.max(self.queue.before());
+    }
+
+    /// The next slot leaves.
+    pub(crate) fn finish(&mut self, number: u64)
+        requires { next_number_of self.old.postponed self.old.items ≡ Some number }
+        ensures { self.new ≡ record self.old { items = without_slot number (with_next_seen self.old.postponed self.old.items) } }
+    {
+        let _finished = self.queue.remove();
+        if self.queue.before() < self.received {
+            self.received -= 1;
+        }
+    }
+}
+
+/// Puts events in at the cursor, in order, with numbers from this one on.
+fn insert_at_cursor<C: Drop>(queue: &mut EventQueue<Slot<C>>, inserts: Inserts<C>, first: u64)
+    requires within { queue.old.cursor ≤ length queue.old.items }
+    requires room { length inserts ≤ queue.old.staged }
+    requires numbers { first + length inserts ≤ 2 ^ 63 }
+    ensures { queue.new ≡ record queue.old {
+      items = inserted_at queue.old.items queue.old.cursor (inserted_slots first inserts);
+      staged = queue.old.staged - length inserts;
+    } }
+{
+    let mut left = inserts;
+    while let Some(insert) = left.pop() {
+        let Insert { kind, content } = insert;
+        let number = first + left.len() as u64;
+        queue.insert_staged(Slot::Event(Event {
+            number,
+            kind,
+            content,
+        }));
+    }
+}
+
+/// The content of an event that could not be kept.
+fn content_of<C: Drop>(kept: Slot<C>) -> C
+    requires { is_event kept ≡ true }
+    ensures { Some result ≡ content_in kept }
+{
+    match kept {
+        Slot::Event(event) => {
+            let Event {
+                number: _,
+                kind: _,
+                content,
+            } = event;
+            content
+        }
+        Slot::Expiry(..) => unreachable!(),
+    }
+}

@@ -1,0 +1,370 @@
+//! Each call once with memory at hand, and all of them where one allocation is refused.
+ghost use Rattle.std.specs.Prelude.{◌≡◌, ◌+◌, ◌≤◌, ◌<◌, length};
+
+use crate::Agenda;
+use st_events::{Insert, Inserts, Kind, PlainList, Setting, Settings, Time, Timer};
+use st_timeouts::Due;
+use std::alloc::Global;
+use std::process::Abort;
+
+/// Says so where no allocation of this test was refused: then one of those that follow is.
+fn tell_refusals(rt: HostRuntime) {
+    for _ in 0..10_000 {
+        if Box::new(rt.alloc(), 'x').is_err() {
+            let _ = println!(rt; "nothing was refused");
+            return;
+        }
+    }
+}
+
+/// All that can be read of an agenda without memory: the next event with its kind and its content, how
+/// many events wait, and the next number.
+fn readable(agenda: &Agenda<u64>) -> (Option<(u64, Kind)>, Option<u64>, usize, u64) {
+    (
+        agenda.next_event(),
+        agenda.next_content().copied(),
+        agenda.waiting(),
+        agenda.next(),
+    )
+}
+
+/// The time-outs that run. Where memory was refused, they are read again.
+fn timers(rt: &impl Abort, agenda: &Agenda<u64>) -> PlainList<(Timer, u64, Due)> {
+    match agenda.timers() {
+        Ok(timers) => timers,
+        Err(_) => agenda
+            .timers()
+            .expect(rt, "one allocation alone is refused"),
+    }
+}
+
+/// Looks that these time-outs run, in this order, and no others.
+fn run(rt: &impl Abort, agenda: &Agenda<u64>, wanted: &[(Timer, u64, Due)]) {
+    let found = timers(rt, agenda);
+    let found = found.as_slice();
+    assert_eq!(rt; found.len(), wanted.len());
+    for (index, timer) in wanted.iter().enumerate() {
+        assert!(rt; found[index] == *timer, "at {index}");
+    }
+}
+
+/// Looks that this event comes next: its number, its kind and its content; and that so many wait.
+fn comes(rt: &impl Abort, agenda: &Agenda<u64>, next: (u64, Kind, u64), waiting: usize) {
+    let (event, content, count, _) = readable(agenda);
+    assert!(rt; event == Some((next.0, next.1)), "the event");
+    assert!(rt; content == Some(next.2), "its content");
+    assert_eq!(rt; count, waiting);
+}
+
+/// Looks that nothing comes next, and that so many wait.
+fn nothing_comes(rt: &impl Abort, agenda: &Agenda<u64>, waiting: usize) {
+    let (event, content, count, _) = readable(agenda);
+    assert!(rt; event == None, "an event");
+    assert!(rt; content == None, "a content");
+    assert_eq!(rt; count, waiting);
+}
+
+/// Posts a cast. Where memory was refused, nothing has changed, the content comes back, and it is
+/// posted again.
+fn push(rt: &impl Abort, agenda: &mut Agenda<u64>, content: u64, number: u64) {
+    assert!(rt; agenda.next() < 1_000);
+    let before = readable(agenda);
+    match agenda.push(Kind::Cast, content) {
+        Ok(given) => assert_eq!(rt; given, number),
+        Err(failed) => {
+            assert_eq!(rt; failed.value, content);
+            assert!(rt; readable(agenda) == before, "a refused push");
+            match agenda.push(Kind::Cast, content) {
+                Ok(given) => assert_eq!(rt; given, number),
+                Err(_) => panic!(rt; "one allocation alone is refused"),
+            }
+        }
+    }
+}
+
+/// Makes room for inserted events and timers. Where memory was refused, nothing has changed, and it is
+/// made again.
+fn make_room(rt: &impl Abort, agenda: &mut Agenda<u64>, inserts: usize, timers: usize)
+    requires { inserts ≤ 100 }
+    ensures staged { inserts + 1 ≤ agenda.new.staged }
+    ensures room { timers ≤ agenda.new.room }
+    ensures unchanged { agenda.new.schedule ≡ agenda.old.schedule }
+{
+    let before = readable(agenda);
+    if agenda.make_room(inserts, timers).is_ok() {
+        return;
+    }
+    assert!(rt; readable(agenda) == before, "refused room");
+    if agenda.make_room(inserts, timers).is_err() {
+        panic!(rt; "one allocation alone is refused");
+    }
+}
+
+/// The next event, which has this number, is handled at a moment: it is postponed or not, the state
+/// changes or not, events are inserted and timers set.
+fn settle(
+    rt: &impl Abort,
+    agenda: &mut Agenda<u64>,
+    now: u32,
+    number: u64,
+    postpone: bool,
+    changed: bool,
+    inserts: Inserts<u64>,
+    requests: Settings<u64>,
+) {
+    let Some((next, _)) = agenda.next_event() else {
+        panic!(rt; "an event comes next")
+    };
+    assert_eq!(rt; next, number);
+    let (events, timers) = (inserts.len(), requests.len());
+    let first = agenda.next();
+    if events > 100 {
+        panic!(rt; "there are few events");
+    }
+    if timers > 100 {
+        panic!(rt; "there are few timers");
+    }
+    if first > 1_000 {
+        panic!(rt; "the numbers are low");
+    }
+    make_room(rt, agenda, events, timers);
+    agenda.settle(now as u64, next, postpone, changed, inserts, requests);
+}
+
+/// Time passes to a moment, and so many time-outs expire.
+fn tick(rt: &impl Abort, agenda: &mut Agenda<u64>, now: u32, expired: usize) {
+    let count = agenda.count_due(now as u64);
+    assert_eq!(rt; count, expired);
+    assert!(rt; count <= 100);
+    make_room(rt, agenda, count, 0);
+    agenda.expire(now as u64);
+}
+
+/// One event that is inserted. Where memory was refused, it is asked for again.
+fn insert(rt: &impl Abort, alloc: Global, content: u64) -> Inserts<u64> {
+    let mut inserts = Inserts::new(alloc);
+    let one = Insert {
+        kind: Kind::Internal,
+        content,
+    };
+    if inserts.push(one).is_err() {
+        panic!(rt; "one element takes no memory");
+    }
+    inserts
+}
+
+/// One timer that is set.
+fn one(rt: &impl Abort, alloc: Global, timer: Timer, time: Time, content: u64) -> Settings<u64> {
+    let mut requests = Settings::new(alloc);
+    let setting = Setting {
+        timer,
+        time,
+        content,
+    };
+    if requests.push(setting).is_err() {
+        panic!(rt; "one element takes no memory");
+    }
+    requests
+}
+
+/// Two timers that are set.
+fn two(
+    rt: &impl Abort,
+    alloc: Global,
+    first: (Timer, Time, u64),
+    second: (Timer, Time, u64),
+) -> Settings<u64> {
+    let mut requests = one(rt, alloc, first.0, first.1, first.2);
+    let setting = Setting {
+        timer: second.0,
+        time: second.1,
+        content: second.2,
+    };
+    if requests.push(setting).is_err() {
+        panic!(rt; "two elements take no memory");
+    }
+    requests
+}
+
+/// A postponed event keeps its place, an inserted one comes before those posted, a time-out expires
+/// behind them, and a state change retries.
+#[test]
+fn events_come_in_their_order(rt: HostRuntime) {
+    let mut agenda = Agenda::new(rt.alloc(), 1);
+    nothing_comes(&rt, &agenda, 0);
+    assert_eq!(rt; agenda.next(), 1);
+    push(&rt, &mut agenda, 10, 1);
+    push(&rt, &mut agenda, 20, 2);
+    comes(&rt, &agenda, (1, Kind::Cast, 10), 2);
+    let inserts = insert(&rt, rt.alloc(), 30);
+    let requests = one(&rt, rt.alloc(), Timer::Named(1), Time::After(5), 40);
+    settle(&rt, &mut agenda, 0, 1, true, false, inserts, requests);
+    run(&rt, &agenda, &[(Timer::Named(1), 4, Due::At(5))]);
+    comes(&rt, &agenda, (3, Kind::Internal, 30), 3);
+    settle(
+        &rt,
+        &mut agenda,
+        0,
+        3,
+        false,
+        false,
+        Inserts::new(rt.alloc()),
+        Settings::new(rt.alloc()),
+    );
+    comes(&rt, &agenda, (2, Kind::Cast, 20), 2);
+    tick(&rt, &mut agenda, 4, 0);
+    tick(&rt, &mut agenda, 5, 1);
+    tick(&rt, &mut agenda, 6, 0);
+    comes(&rt, &agenda, (2, Kind::Cast, 20), 2);
+    settle(
+        &rt,
+        &mut agenda,
+        6,
+        2,
+        false,
+        true,
+        Inserts::new(rt.alloc()),
+        Settings::new(rt.alloc()),
+    );
+    comes(&rt, &agenda, (1, Kind::Cast, 10), 1);
+    settle(
+        &rt,
+        &mut agenda,
+        6,
+        1,
+        false,
+        false,
+        Inserts::new(rt.alloc()),
+        Settings::new(rt.alloc()),
+    );
+    comes(&rt, &agenda, (4, Kind::Timeout(Timer::Named(1)), 40), 0);
+    settle(
+        &rt,
+        &mut agenda,
+        6,
+        4,
+        false,
+        false,
+        Inserts::new(rt.alloc()),
+        Settings::new(rt.alloc()),
+    );
+    nothing_comes(&rt, &agenda, 0);
+    run(&rt, &agenda, &[]);
+    assert_eq!(rt; agenda.next(), 5);
+    tell_refusals(rt);
+}
+
+/// Two time-outs of no length: the first one that was requested comes, and the event time-out is
+/// cancelled by it.
+#[test]
+fn a_zero_timeout_comes_before_what_was_not_received(rt: HostRuntime) {
+    let mut agenda = Agenda::new(rt.alloc(), 1);
+    push(&rt, &mut agenda, 10, 1);
+    push(&rt, &mut agenda, 20, 2);
+    let requests = two(
+        &rt,
+        rt.alloc(),
+        (Timer::State, Time::After(0), 30),
+        (Timer::Event, Time::After(0), 40),
+    );
+    settle(
+        &rt,
+        &mut agenda,
+        0,
+        1,
+        false,
+        false,
+        Inserts::new(rt.alloc()),
+        requests,
+    );
+    run(
+        &rt,
+        &agenda,
+        &[(Timer::State, 3, Due::Zero), (Timer::Event, 4, Due::Zero)],
+    );
+    comes(&rt, &agenda, (3, Kind::Timeout(Timer::State), 30), 1);
+    settle(
+        &rt,
+        &mut agenda,
+        0,
+        3,
+        false,
+        false,
+        Inserts::new(rt.alloc()),
+        Settings::new(rt.alloc()),
+    );
+    comes(&rt, &agenda, (2, Kind::Cast, 20), 1);
+    run(&rt, &agenda, &[]);
+    tell_refusals(rt);
+}
+
+/// An expiry waits, and its time-out is stopped: it never comes, and nothing is left that a turn could
+/// handle.
+#[test]
+fn an_expiry_of_a_stopped_timer_is_passed_over(rt: HostRuntime) {
+    let mut agenda = Agenda::new(rt.alloc(), 1);
+    push(&rt, &mut agenda, 10, 1);
+    let requests = one(&rt, rt.alloc(), Timer::Named(5), Time::After(5), 30);
+    settle(
+        &rt,
+        &mut agenda,
+        0,
+        1,
+        false,
+        false,
+        Inserts::new(rt.alloc()),
+        requests,
+    );
+    push(&rt, &mut agenda, 20, 3);
+    tick(&rt, &mut agenda, 5, 1);
+    let requests = one(&rt, rt.alloc(), Timer::Named(5), Time::Infinity, 0);
+    settle(
+        &rt,
+        &mut agenda,
+        5,
+        3,
+        false,
+        false,
+        Inserts::new(rt.alloc()),
+        requests,
+    );
+    nothing_comes(&rt, &agenda, 0);
+    run(&rt, &agenda, &[]);
+    tell_refusals(rt);
+}
+
+/// At a start events are inserted and timers set, though no event is handled.
+#[test]
+fn a_start_inserts_and_sets(rt: HostRuntime) {
+    let mut agenda = Agenda::new(rt.alloc(), 7);
+    if agenda.stage(1).is_err() {
+        nothing_comes(&rt, &agenda, 0);
+    }
+    if agenda.reserve(1).is_err() {
+        nothing_comes(&rt, &agenda, 0);
+    }
+    begin(&rt, &mut agenda, rt.alloc());
+    comes(&rt, &agenda, (7, Kind::Internal, 30), 1);
+    run(&rt, &agenda, &[(Timer::State, 8, Due::At(13))]);
+    tell_refusals(rt);
+}
+
+/// Inserts one event, and sets the state timer at the moment 3 for 10 milliseconds.
+fn begin(rt: &impl Abort, agenda: &mut Agenda<u64>, alloc: Global) {
+    let inserts = insert(rt, alloc, 30);
+    let requests = one(rt, alloc, Timer::State, Time::After(10), 40);
+    let (events, timers) = (inserts.len(), requests.len());
+    let first = agenda.next();
+    if events > 100 {
+        panic!(rt; "there are few events");
+    }
+    if timers > 100 {
+        panic!(rt; "there are few timers");
+    }
+    if first > 1_000 {
+        panic!(rt; "the numbers are low");
+    }
+    make_room(rt, agenda, events, timers);
+    agenda.insert(inserts);
+    agenda.set_all(3, requests);
+}

@@ -1,0 +1,4 @@
+-- What the running time-outs of a machine are.
+pub mod Entries
+pub mod Running
+pub mod Timeouts

@@ -1,0 +1,11 @@
+//! The running time-outs of one machine. It knows nothing of any clock: moments are handed in.
+#![tactic(auto)]
+
+mod due;
+mod entry;
+#[cfg(test)]
+mod tests;
+mod timeouts;
+
+pub use due::Due;
+pub use timeouts::Timeouts;

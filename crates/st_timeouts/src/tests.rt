@@ -1,0 +1,288 @@
+//! Each call once with memory at hand, and all of them where one allocation is refused.
+ghost use Rattle.std.specs.Prelude.{◌≤◌, ◌<◌, ◌^◌};
+
+use crate::{Due, Timeouts};
+use st_events::{PlainList, Timer};
+use std::process::Abort;
+
+/// All that can be read of time-outs without a change to them, of up to eight with their contents.
+#[derive(Drop)]
+struct Seen {
+    list: PlainList<(Timer, u64, Due)>,
+    contents: [Option<char>; 8],
+    first_zero: Option<(Timer, u64)>,
+    next_due: Option<u64>,
+    due: [usize; 3],
+}
+
+/// The list. Where it finds no memory, it is asked for again.
+fn listed(rt: &impl Abort, timeouts: &Timeouts<char>) -> PlainList<(Timer, u64, Due)> {
+    if let Ok(list) = timeouts.list() {
+        return list;
+    }
+    timeouts
+        .list()
+        .expect(rt, "one allocation alone is refused")
+}
+
+fn readable(rt: &impl Abort, timeouts: &Timeouts<char>) -> Seen {
+    let list = listed(rt, timeouts);
+    let mut contents = [None; 8];
+    for (content, (timer, number, _)) in contents.iter_mut().zip(list.as_slice()) {
+        assert!(rt; timeouts.is_live(*timer, *number));
+        *content = timeouts.content(*timer, *number).copied();
+    }
+    Seen {
+        list,
+        contents,
+        first_zero: timeouts.first_zero(),
+        next_due: timeouts.next_due(),
+        due: [
+            timeouts.count_due(0),
+            timeouts.count_due(20),
+            timeouts.count_due(u64::MAX),
+        ],
+    }
+}
+
+/// Makes room. A call that finds no memory changes nothing that can be read, and is made again.
+fn make_room(rt: &impl Abort, timeouts: &mut Timeouts<char>, count: usize)
+    ensures { count ≤ timeouts.new.room }
+{
+    let before = readable(rt, timeouts);
+    if timeouts.reserve(count).is_err() {
+        let after = readable(rt, timeouts);
+        assert_eq!(rt; after.list.as_slice(), before.list.as_slice());
+        assert_eq!(rt; after.contents, before.contents);
+        assert_eq!(rt; after.first_zero, before.first_zero);
+        assert_eq!(rt; after.next_due, before.next_due);
+        assert_eq!(rt; after.due, before.due);
+        assert!(rt; timeouts.reserve(count).is_ok());
+    }
+}
+
+/// Sets a timer, and makes room for it before.
+fn set(
+    rt: &impl Abort,
+    timeouts: &mut Timeouts<char>,
+    timer: Timer,
+    time: u32,
+    content: char,
+    number: u64,
+    now: u64,
+) -> Option<char>
+    requires { now < 2 ^ 63 }
+{
+    make_room(rt, timeouts, 1);
+    timeouts.set(timer, time, content, number, now)
+}
+
+/// Prints a line where no allocation of the test was refused: then one of those made here is.
+/// `tools/refuse-each` reads it.
+fn tell_refusals(rt: HostRuntime) {
+    for _ in 0..10_000 {
+        if Box::new(rt.alloc(), 'x').is_err() {
+            let _ = println!(rt; "nothing was refused");
+            return;
+        }
+    }
+}
+
+#[test]
+fn each_call_answers(rt: HostRuntime) {
+    let mut timeouts = Timeouts::new(rt.alloc());
+    assert_eq!(rt; timeouts.first_zero(), None);
+    assert_eq!(rt; timeouts.next_due(), None);
+    make_room(&rt, &mut timeouts, 3);
+    assert_eq!(rt; set(&rt, &mut timeouts, Timer::Event, 0, 'a', 1, 5), None);
+    assert_eq!(rt; set(&rt, &mut timeouts, Timer::State, 10, 'b', 2, 5), None);
+    assert_eq!(rt;
+        set(&rt, &mut timeouts, Timer::Named(7), 20, 'c', 3, 5),
+        None
+    );
+    assert_eq!(rt; timeouts.first_zero(), Some((Timer::Event, 1)));
+    assert_eq!(rt; timeouts.count_due(14), 0);
+    assert_eq!(rt; timeouts.count_due(15), 1);
+    assert_eq!(rt; timeouts.count_due(25), 2);
+    assert_eq!(rt; timeouts.next_due(), Some(15));
+    assert_eq!(rt; timeouts.content(Timer::State, 2).copied(), Some('b'));
+    assert_eq!(rt; timeouts.content(Timer::State, 3).copied(), None);
+    assert!(rt; timeouts.is_live(Timer::Event, 1));
+    assert!(rt; !timeouts.is_live(Timer::Event, 2));
+    assert!(rt; !timeouts.is_live(Timer::Named(8), 3));
+    assert_eq!(rt; timeouts.next_expiry(14), None);
+    assert_eq!(rt; timeouts.next_expiry(15), Some((Timer::State, 2)));
+    assert_eq!(rt; timeouts.next_expiry(15), None);
+    assert_eq!(rt; timeouts.next_due(), Some(25));
+    assert_eq!(rt;
+        listed(&rt, &timeouts).as_slice(),
+        [
+            (Timer::Event, 1, Due::Zero),
+            (Timer::State, 2, Due::At(15)),
+            (Timer::Named(7), 3, Due::At(25)),
+        ]
+        .as_slice()
+    );
+    assert_eq!(rt; timeouts.take(Timer::Event, 2), None);
+    assert_eq!(rt; timeouts.take(Timer::Event, 1), Some('a'));
+    assert!(rt; !timeouts.is_live(Timer::Event, 1));
+    assert_eq!(rt; timeouts.cancel(Timer::State), Some('b'));
+    assert_eq!(rt; timeouts.cancel(Timer::State), None);
+    assert_eq!(rt;
+        set(&rt, &mut timeouts, Timer::Named(7), 1, 'd', 4, 6),
+        Some('c')
+    );
+    assert_eq!(rt;
+        listed(&rt, &timeouts).as_slice(),
+        [(Timer::Named(7), 4, Due::At(7))].as_slice()
+    );
+    tell_refusals(rt);
+}
+
+#[test]
+fn two_time_outs_for_one_moment_come_by_number(rt: HostRuntime) {
+    let mut timeouts = Timeouts::new(rt.alloc());
+    assert_eq!(rt;
+        set(&rt, &mut timeouts, Timer::Named(1), 20, 'a', 1, 0),
+        None
+    );
+    assert_eq!(rt;
+        set(&rt, &mut timeouts, Timer::Named(2), 10, 'b', 2, 0),
+        None
+    );
+    assert_eq!(rt;
+        set(&rt, &mut timeouts, Timer::Named(3), 20, 'c', 3, 0),
+        None
+    );
+    assert_eq!(rt; timeouts.count_due(20), 3);
+    assert_eq!(rt; timeouts.next_expiry(20), Some((Timer::Named(2), 2)));
+    assert_eq!(rt; timeouts.next_expiry(20), Some((Timer::Named(1), 1)));
+    assert_eq!(rt; timeouts.next_expiry(20), Some((Timer::Named(3), 3)));
+    assert_eq!(rt; timeouts.next_expiry(20), None);
+    tell_refusals(rt);
+}
+
+#[test]
+fn a_timer_set_anew_goes_last(rt: HostRuntime) {
+    let mut timeouts = Timeouts::new(rt.alloc());
+    assert_eq!(rt;
+        set(&rt, &mut timeouts, Timer::Named(1), 20, 'a', 1, 0),
+        None
+    );
+    assert_eq!(rt;
+        set(&rt, &mut timeouts, Timer::Named(2), 20, 'b', 2, 0),
+        None
+    );
+    assert_eq!(rt;
+        set(&rt, &mut timeouts, Timer::Named(1), 20, 'c', 3, 0),
+        Some('a')
+    );
+    assert_eq!(rt;
+        listed(&rt, &timeouts).as_slice(),
+        [
+            (Timer::Named(2), 2, Due::At(20)),
+            (Timer::Named(1), 3, Due::At(20)),
+        ]
+        .as_slice()
+    );
+    assert!(rt; !timeouts.is_live(Timer::Named(1), 1));
+    assert!(rt; timeouts.is_live(Timer::Named(1), 3));
+    assert_eq!(rt; timeouts.content(Timer::Named(1), 1).copied(), None);
+    assert_eq!(rt; timeouts.content(Timer::Named(1), 3).copied(), Some('c'));
+    assert_eq!(rt; timeouts.take(Timer::Named(1), 1), None);
+    assert_eq!(rt; timeouts.take(Timer::Named(1), 3), Some('c'));
+    tell_refusals(rt);
+}
+
+#[test]
+fn a_zero_time_out_waits_for_no_moment(rt: HostRuntime) {
+    let mut timeouts = Timeouts::new(rt.alloc());
+    assert_eq!(rt;
+        set(&rt, &mut timeouts, Timer::Named(5), 0, 'a', 8, 4),
+        None
+    );
+    assert_eq!(rt; set(&rt, &mut timeouts, Timer::Event, 0, 'b', 9, 4), None);
+    assert_eq!(rt; timeouts.count_due(u64::MAX), 0);
+    assert_eq!(rt; timeouts.next_due(), None);
+    assert_eq!(rt; timeouts.next_expiry(u64::MAX), None);
+    assert_eq!(rt; timeouts.first_zero(), Some((Timer::Named(5), 8)));
+    assert_eq!(rt; timeouts.take(Timer::Named(5), 8), Some('a'));
+    assert_eq!(rt; timeouts.first_zero(), Some((Timer::Event, 9)));
+    tell_refusals(rt);
+}
+
+#[test]
+fn an_expiry_comes_once(rt: HostRuntime) {
+    let mut timeouts = Timeouts::new(rt.alloc());
+    assert_eq!(rt; set(&rt, &mut timeouts, Timer::State, 10, 'a', 1, 0), None);
+    assert_eq!(rt; timeouts.next_expiry(10), Some((Timer::State, 1)));
+    assert_eq!(rt; timeouts.count_due(10), 0);
+    assert_eq!(rt; timeouts.next_due(), None);
+    assert_eq!(rt; timeouts.next_expiry(10), None);
+    assert_eq!(rt;
+        listed(&rt, &timeouts).as_slice(),
+        [(Timer::State, 1, Due::At(10))].as_slice()
+    );
+    assert!(rt; timeouts.is_live(Timer::State, 1));
+    assert_eq!(rt; timeouts.content(Timer::State, 1).copied(), Some('a'));
+    assert_eq!(rt;
+        set(&rt, &mut timeouts, Timer::State, 10, 'b', 2, 10),
+        Some('a')
+    );
+    assert_eq!(rt; timeouts.next_expiry(20), Some((Timer::State, 2)));
+    tell_refusals(rt);
+}
+
+#[test]
+fn the_last_moment_and_the_longest_time(rt: HostRuntime) {
+    let mut timeouts = Timeouts::new(rt.alloc());
+    let now = 9_223_372_036_854_775_807;
+    assert_eq!(rt;
+        set(&rt, &mut timeouts, Timer::Event, 4_294_967_295, 'a', 1, now),
+        None
+    );
+    assert_eq!(rt;
+        listed(&rt, &timeouts).as_slice(),
+        [(Timer::Event, 1, Due::At(9_223_372_041_149_743_102))].as_slice()
+    );
+    assert_eq!(rt; timeouts.next_due(), Some(9_223_372_041_149_743_102));
+    assert_eq!(rt; timeouts.next_expiry(9_223_372_041_149_743_101), None);
+    assert_eq!(rt;
+        timeouts.next_expiry(9_223_372_041_149_743_102),
+        Some((Timer::Event, 1))
+    );
+    tell_refusals(rt);
+}
+
+#[test]
+fn a_refused_call_changes_nothing(rt: HostRuntime) {
+    let mut timeouts = Timeouts::new(rt.alloc());
+    assert_eq!(rt; set(&rt, &mut timeouts, Timer::Event, 0, 'a', 1, 0), None);
+    assert_eq!(rt; set(&rt, &mut timeouts, Timer::State, 10, 'b', 2, 0), None);
+    assert_eq!(rt;
+        set(&rt, &mut timeouts, Timer::Named(1), 20, 'c', 3, 0),
+        None
+    );
+    assert_eq!(rt; timeouts.next_expiry(10), Some((Timer::State, 2)));
+    make_room(&rt, &mut timeouts, 20);
+    assert_eq!(rt; timeouts.count_due(20), 1);
+    assert_eq!(rt;
+        set(&rt, &mut timeouts, Timer::Named(2), 5, 'd', 4, 0),
+        None
+    );
+    make_room(&rt, &mut timeouts, 100);
+    assert_eq!(rt;
+        listed(&rt, &timeouts).as_slice(),
+        [
+            (Timer::Event, 1, Due::Zero),
+            (Timer::State, 2, Due::At(10)),
+            (Timer::Named(1), 3, Due::At(20)),
+            (Timer::Named(2), 4, Due::At(5)),
+        ]
+        .as_slice()
+    );
+    assert_eq!(rt; timeouts.next_expiry(20), Some((Timer::Named(2), 4)));
+    assert_eq!(rt; timeouts.next_expiry(20), Some((Timer::Named(1), 3)));
+    assert_eq!(rt; timeouts.next_expiry(20), None);
+    tell_refusals(rt);
+}
