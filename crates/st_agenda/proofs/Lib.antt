@@ -1,4 +1,4 @@
--- Lemmas on what waits, on the time-outs that run, and on both as one.
+-- Lemmas on what waits, on the time-outs that run, and on both as one; and the definitions computed on examples.
 pub mod PendingLemmas
 pub mod ItemsLemmas
 pub mod AgreesLemmas
@@ -8,3 +8,4 @@ pub mod SweepLemmas
 pub mod ReceiveLemmas
 pub mod ExpireLemmas
 pub mod LoopLemmas
+pub mod WorkedSchedules
