@@ -1,6 +1,6 @@
 -- The definitions computed on examples: whole schedules, with the time-outs in order, their numbers and
 -- the moments at which they are due.
-use Rattle.std.proofs.Common.{◌≡◌, ℕ, Some, None, Option, List, [], ◌∷◌, true, false, refl}
+use Rattle.std.proofs.Common.{◌≡◌, ℕ, Some, None, List, [], ◌∷◌, true, false, refl}
 use Rattle.st_events.specs.declared.event.Event.{Event}
 use Rattle.st_events.specs.declared.insert.Insert.{Insert}
 use Rattle.st_events.specs.declared.kind.Kind.TheVariants.{Cast, Internal, Timeout}
