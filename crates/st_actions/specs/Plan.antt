@@ -1,9 +1,13 @@
 -- What a list of actions asks for: the manual's action(), one kind after another.
-use Rattle.std.specs.Prelude.{Bool, false, List, [], ◌∷◌}
+use Rattle.std.specs.Prelude.{Bool, false, if◌then◌else◌, List, [], ◌∷◌}
+use Rattle.std.specs.List.{list_any}
 use Rattle.st_events.specs.declared.tag.Tag.{Tag}
 use Rattle.st_events.specs.declared.action.Action.{Action}
-use Rattle.st_events.specs.declared.action.Action.TheVariants.{Reply, Postpone, NextEvent, Hibernate}
+use Rattle.st_events.specs.declared.action.Action.TheVariants.{Reply, Postpone, NextEvent, Set, Hibernate}
 use Rattle.st_events.specs.declared.insert.Insert.{Insert}
+use Rattle.st_events.specs.declared.setting.Setting.{Setting}
+use Rattle.st_events.specs.declared.timer.Timer.{Timer}
+use Rattle.st_events.specs.Timers.{same_timer}
 use Rattle.st_actions.specs.declared.planned.Planned.{Planned}
 
 -- the replies, in the order of the actions
@@ -12,6 +16,7 @@ replies_of [] = []
 replies_of (Reply tag content ∷ actions) = (tag, content) ∷ replies_of actions
 replies_of (Postpone last ∷ actions) = replies_of actions
 replies_of (NextEvent kind content ∷ actions) = replies_of actions
+replies_of (Set timer time content ∷ actions) = replies_of actions
 replies_of (Hibernate ∷ actions) = replies_of actions
 
 -- the events to be inserted, in the order of the actions
@@ -21,6 +26,7 @@ inserts_of (Reply tag content ∷ actions) = inserts_of actions
 inserts_of (Postpone last ∷ actions) = inserts_of actions
 inserts_of (NextEvent kind content ∷ actions) =
     record { kind = kind; content = content } ∷ inserts_of actions
+inserts_of (Set timer time content ∷ actions) = inserts_of actions
 inserts_of (Hibernate ∷ actions) = inserts_of actions
 
 -- what the last postpone says, or what is given where there is none
@@ -29,11 +35,33 @@ postpone_or given [] = given
 postpone_or given (Reply tag content ∷ actions) = postpone_or given actions
 postpone_or given (Postpone last ∷ actions) = postpone_or last actions
 postpone_or given (NextEvent kind content ∷ actions) = postpone_or given actions
+postpone_or given (Set timer time content ∷ actions) = postpone_or given actions
 postpone_or given (Hibernate ∷ actions) = postpone_or given actions
 
 -- whether the event is postponed: the last postpone decides, and with none it is not
 abbrev pub postpone_of : {C : Type 0} → List (Action C) → Bool
 postpone_of actions = postpone_or false actions
+
+-- whether an action sets a timer
+abbrev pub is_set : {C : Type 0} → Timer → Action C → Bool
+is_set timer (Set other time content) = same_timer timer other
+is_set timer _ = false
+
+-- whether one of the actions does
+abbrev pub sets : {C : Type 0} → Timer → List (Action C) → Bool
+sets {C} timer actions = list_any (λ (action : Action C). is_set timer action) actions
+
+-- the timers to be set: of each its last request, in the order of these
+abbrev pub requests_of : {C : Type 0} → List (Action C) → List (Setting C)
+requests_of [] = []
+requests_of (Reply tag content ∷ actions) = requests_of actions
+requests_of (Postpone last ∷ actions) = requests_of actions
+requests_of (NextEvent kind content ∷ actions) = requests_of actions
+requests_of (Set timer time content ∷ actions) =
+    if sets timer actions
+    then requests_of actions
+    else record { timer = timer; time = time; content = content } ∷ requests_of actions
+requests_of (Hibernate ∷ actions) = requests_of actions
 
 -- all that the actions ask for
 abbrev pub plan_of : {C : Type 0} → List (Action C) → Planned C
@@ -41,4 +69,5 @@ plan_of actions = record {
   replies = replies_of actions;
   postpone = postpone_of actions;
   inserts = inserts_of actions;
+  requests = requests_of actions;
 }

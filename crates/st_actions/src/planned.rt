@@ -1,9 +1,9 @@
 //! What a list of actions asks for.
 
-use st_events::{Inserts, Replies};
+use st_events::{Inserts, Replies, Settings};
 
-/// What a list of actions asks for, by kinds: the replies, whether the event is postponed, and the
-/// events to be inserted.
+/// What a list of actions asks for, by kinds: the replies, whether the event is postponed, the events to
+/// be inserted, and the timers to be set.
 ///
 /// Manual: `action()`.
 #[derive(Drop)]
@@ -13,4 +13,6 @@ pub struct Planned<C> {
     pub postpone: bool,
     /// In the order in which they are handled.
     pub inserts: Inserts<C>,
+    /// Of each timer its last request, in the order of these.
+    pub requests: Settings<C>,
 }

@@ -1,6 +1,6 @@
 //! What lists ask for, with memory and while an allocation is refused.
 use crate::{Planned, plan};
-use st_events::{Action, Actions, Kind, MachineId, Tag, Timer};
+use st_events::{Action, Actions, Kind, MachineId, Tag, Time, Timer};
 use std::alloc::Global;
 use std::process::Abort;
 
@@ -23,8 +23,9 @@ fn tag(request: u64) -> Tag {
 }
 
 /// The action that a letter names: `r` and `s` reply 10 and 20 to the requests 1 and 2, `p` and `k`
-/// say that the event is postponed and that it is not, `i` and `t` insert 30 and 40, and every
-/// other hibernates.
+/// say that the event is postponed and that it is not, `i` and `t` insert 30 and 40, `1` and `2` set the
+/// named timers 1 and 2 for as many milliseconds, `9` sets the timer 1 for 9, `0` stops it, `e` and `x`
+/// set the event and the state time-out, and every other hibernates.
 fn action(letter: char) -> Action<u64> {
     match letter {
         'r' => Action::Reply(tag(1), 10),
@@ -33,6 +34,12 @@ fn action(letter: char) -> Action<u64> {
         'k' => Action::Postpone(false),
         'i' => Action::NextEvent(Kind::Internal, 30),
         't' => Action::NextEvent(Kind::Timeout(Timer::State), 40),
+        '1' => Action::Set(Timer::Named(1), Time::After(1), 50),
+        '2' => Action::Set(Timer::Named(2), Time::After(2), 60),
+        '9' => Action::Set(Timer::Named(1), Time::After(9), 70),
+        '0' => Action::Set(Timer::Named(1), Time::Infinity, 80),
+        'e' => Action::Set(Timer::Event, Time::After(0), 90),
+        'x' => Action::Set(Timer::State, Time::After(3), 100),
         _ => Action::Hibernate,
     }
 }
@@ -46,6 +53,9 @@ fn is_action(found: &Action<u64>, letter: char) -> bool {
         (Action::Postpone(last), Action::Postpone(wanted)) => *last == wanted,
         (Action::NextEvent(kind, content), Action::NextEvent(other, wanted)) => {
             *kind == other && *content == wanted
+        }
+        (Action::Set(timer, time, content), Action::Set(other, other_time, wanted)) => {
+            *timer == other && *time == other_time && *content == wanted
         }
         (Action::Hibernate, Action::Hibernate) => true,
         _ => false,
@@ -111,12 +121,25 @@ fn inserts(rt: &impl Abort, planned: &Planned<u64>, wanted: &[(Kind, u64)]) {
     }
 }
 
+/// Looks that these timers are to be set, and no others.
+fn requests(rt: &impl Abort, planned: &Planned<u64>, wanted: &[(Timer, Time, u64)]) {
+    assert_eq!(rt; planned.requests.len(), wanted.len());
+    for (index, (timer, time, content)) in wanted.iter().enumerate() {
+        let setting = planned.requests.get(index).expect(rt, "there are so many");
+        assert!(rt;
+            setting.timer == *timer && setting.time == *time && setting.content == *content,
+            "at {index}"
+        );
+    }
+}
+
 #[test]
 fn each_call_answers(rt: HostRuntime) {
     let nothing = planned(&rt, rt.alloc(), &[]);
     replies(&rt, &nothing, &[]);
     assert!(rt; !nothing.postpone);
     inserts(&rt, &nothing, &[]);
+    requests(&rt, &nothing, &[]);
 
     // The last postpone decides.
     assert!(rt; planned(&rt, rt.alloc(), &['p']).postpone);
@@ -158,15 +181,59 @@ fn each_call_answers(rt: HostRuntime) {
 }
 
 #[test]
+fn the_last_request_of_each_timer_decides(rt: HostRuntime) {
+    let both = planned(&rt, rt.alloc(), &['1', '2']);
+    requests(
+        &rt,
+        &both,
+        &[
+            (Timer::Named(1), Time::After(1), 50),
+            (Timer::Named(2), Time::After(2), 60),
+        ],
+    );
+
+    // It stands where the last one stood, also where it stops the timer.
+    let again = planned(&rt, rt.alloc(), &['1', '2', '9']);
+    requests(
+        &rt,
+        &again,
+        &[
+            (Timer::Named(2), Time::After(2), 60),
+            (Timer::Named(1), Time::After(9), 70),
+        ],
+    );
+    let stopped = planned(&rt, rt.alloc(), &['9', 'e', '0', 'x', 'p', 'e']);
+    assert!(rt; stopped.postpone);
+    requests(
+        &rt,
+        &stopped,
+        &[
+            (Timer::Named(1), Time::Infinity, 80),
+            (Timer::State, Time::After(3), 100),
+            (Timer::Event, Time::After(0), 90),
+        ],
+    );
+    tell_refusals(rt);
+}
+
+#[test]
 fn refused_memory_changes_nothing(rt: HostRuntime) {
-    let letters = ['r', 'i', 's', 'k', 'h', 't', 'p'];
-    let seven = planned(&rt, rt.alloc(), &letters);
-    replies(&rt, &seven, &[(tag(1), 10), (tag(2), 20)]);
-    assert!(rt; seven.postpone);
+    let letters = ['r', 'i', 's', 'k', '1', 't', 'p', 'x', '9'];
+    let nine = planned(&rt, rt.alloc(), &letters);
+    replies(&rt, &nine, &[(tag(1), 10), (tag(2), 20)]);
+    assert!(rt; nine.postpone);
     inserts(
         &rt,
-        &seven,
+        &nine,
         &[(Kind::Internal, 30), (Kind::Timeout(Timer::State), 40)],
+    );
+    requests(
+        &rt,
+        &nine,
+        &[
+            (Timer::State, Time::After(3), 100),
+            (Timer::Named(1), Time::After(9), 70),
+        ],
     );
     tell_refusals(rt);
 }

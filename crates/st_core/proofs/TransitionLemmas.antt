@@ -1,24 +1,33 @@
 -- What turns and starts answer, and when they take memory.
-use Rattle.std.proofs.Common.{◌≡◌, ℕ, zero, suc, ◌+◌, ◌<◌, ◌≤◌, ◌^◌, Bool, true, false, Option, Some, None, List, [], ◌∷◌, ◌++◌, length, refl, ap, sym, ◌∙◌, arith, inl, if◌then◌else◌}
-use Rattle.std.specs.Prelude.{Result, Ok, Err, nat_le}
+use Rattle.std.proofs.Common.{◌≡◌, ℕ, zero, suc, ◌+◌, ◌<◌, ◌≤◌, ◌^◌, Bool, true, false, Option, Some, None, List, [], ◌∷◌, ◌++◌, length, take, get_or, refl, ap, sym, ◌∙◌, arith, ◌⊎◌, inl, inr, if◌then◌else◌}
+use Rattle.std.specs.Prelude.{Result, Ok, Err, nat_le, slice_get}
+use Rattle.std.proofs.Math.Seq.{take-suc}
+use Rattle.std.proofs.lemmas.Option.{slice_get_cases}
+use Rattle.std.specs.Option.{option_map}
 use Rattle.std.specs.List.{range_with_len}
 use Rattle.std.proofs.lemmas.Bool.{lt-ltb}
 use Rattle.st_events.specs.declared.event.Event.{Event}
+use Rattle.st_events.specs.declared.kind.Kind.{Kind}
+use Rattle.st_events.specs.declared.machine_id.MachineId.{MachineId}
 use Rattle.st_events.specs.declared.insert.Insert.{Insert}
 use Rattle.st_events.specs.declared.refusal.Refusal.{Refusal}
-use Rattle.st_events.specs.declared.refusal.Refusal.TheVariants.{Exhausted}
-use Rattle.st_actions.specs.Plan.{inserts_of}
+use Rattle.st_events.specs.declared.refusal.Refusal.TheVariants.{Exhausted, NoMemory}
+use Rattle.st_events.specs.declared.setting.Setting.{Setting}
+use Rattle.st_events.specs.declared.time.Time.{Time}
+use Rattle.st_events.specs.declared.time.Time.TheVariants.{After, Infinity}
+use Rattle.st_agenda.specs.Agenda.{Schedule, name_of_event, settled_in}
+use Rattle.st_agenda.specs.Items.{numbered, numbers_of}
+use Rattle.st_agenda.specs.Timing.{number_taken, numbers_taken}
 use Rattle.st_events.specs.declared.outcome.Outcome.{Outcome}
 use Rattle.st_core.specs.declared.call.Call.TheVariants.{Handle}
 use Rattle.st_core.specs.declared.report.Report.{Report}
 use Rattle.st_core.specs.declared.turned.Turned.{Turned}
-use Rattle.st_core.specs.declared.turned.Turned.TheVariants.{Reported}
+use Rattle.st_core.specs.declared.turned.Turned.TheVariants.{Reported, Idle}
 use Rattle.st_core.specs.MachineState.{MachineState}
-use Rattle.st_core.specs.Items.{numbered, numbers_of}
 use Rattle.st_core.specs.Callbacks.{Callbacks, Called, called_with, reason_of}
 use Rattle.st_core.specs.Choice.{next_event_of}
 use Rattle.st_core.specs.Stop.{with_ended, unless_ended}
-use Rattle.st_core.specs.Transition.{with_moment, with_received, with_called, with_handled, has_numbers, report_of, stop_report_of, went_on, stopped, settled, turn_running, turn_of}
+use Rattle.st_core.specs.Transition.{with_moment, with_called, with_settled, has_numbers, times_of, report_of, stop_report_of, went_on, stopped, settled, turn_running, turn_of}
 use Rattle.st_core.specs.Run.{Meets, turn_takes_memory, turn_without_memory}
 
 -- ---- numbers
@@ -33,6 +42,12 @@ range_with_len_more first (suc count) =
 pub one_number_more : (first count number : ℕ) {numbers after : List ℕ} → numbers ≡ range_with_len first count → number ≡ first + count
     → after ≡ numbers ++ number ∷ [] → after ≡ range_with_len first (count + 1)
 one_number_more first count number same is_number change = rw (change, same, is_number) (sym (range_with_len_more first count))
+
+none_not_some : {A : Type 0} (found : Option A) (a : A) → found ≡ None → found ≡ Some a → ⊥
+none_not_some found a none some = cc
+
+some_injective : {A : Type 0} {a b : A} → Some a ≡ Some b → a ≡ b
+some_injective h = cc
 
 module _ {C : Type 0} where
   -- inserted events have the numbers from the first one on
@@ -60,23 +75,24 @@ module _ {S D C : Type 0} where
   settled_takes_memory callbacks old machine number called (Some reason) = refl
 
 -- ---- answers
-pub le_yes : (a b : ℕ) → a ≤ b → nat_le a b ≡ true
-le_yes a b h = grind (arith, h)
-
-pub le_no : (a b : ℕ) → b < a → nat_le a b ≡ false
-le_no a b h = grind (arith, h)
-
 module _ {S D C : Type 0} (old machine after : MachineState S D C) (number : ℕ) (called : Called S D C) where
   -- too few numbers are left
-  pub went_on_exhausted : 2 ^ 63 < machine.next + length (inserts_of called.actions)
+  pub went_on_exhausted : has_numbers machine called.actions ≡ false
       → Meets turn_takes_memory turn_without_memory (Err Exhausted) old old (went_on old machine number called)
-  went_on_exhausted h = rw (le_no (machine.next + length (inserts_of called.actions)) (2 ^ 63) h) (inl (refl, refl))
+  went_on_exhausted h = rw h (inl (refl, refl))
+
+  -- it was refused, for want of memory or of numbers
+  pub went_on_refused : (refusal : Refusal) → after ≡ old
+      → ((refusal ≡ NoMemory) ⊎ ((refusal ≡ Exhausted) × (has_numbers machine called.actions ≡ false)))
+      → Meets turn_takes_memory turn_without_memory (Err refusal) old after (went_on old machine number called)
+  went_on_refused refusal same (inl memory) = inr (went_on_takes_memory old machine number called, ap Err memory, same)
+  went_on_refused refusal same (inr numbers) = rw (numbers.0, same) (went_on_exhausted numbers.1)
 
   -- the machine went on
-  pub went_on_is : machine.next + length (inserts_of called.actions) ≤ 2 ^ 63 → {report : Report S} → report ≡ report_of machine number called
-      → after ≡ with_handled machine number called
+  pub went_on_is : has_numbers machine called.actions ≡ true → {report : Report S} → report ≡ report_of machine number called
+      → after ≡ with_settled (with_called machine called) number called
       → Meets turn_takes_memory turn_without_memory (Ok (Reported report)) old after (went_on old machine number called)
-  went_on_is h same_report same_after = rw (le_yes (machine.next + length (inserts_of called.actions)) (2 ^ 63) h, same_report, same_after) (inl (refl, refl))
+  went_on_is h same_report same_after = rw (h, same_report, same_after) (inl (refl, refl))
 
   -- the machine stopped
   pub stopped_is : (callbacks : Callbacks S D C) (reason word : ℕ) → word ≡ callbacks.terminate_is reason called.state called.data
@@ -84,14 +100,129 @@ module _ {S D C : Type 0} (old machine after : MachineState S D C) (number : ℕ
       → Meets turn_takes_memory turn_without_memory (Ok (Reported report)) old after (stopped callbacks machine number called reason)
   stopped_is callbacks reason word same_word same_report same_after = rw (same_report, same_after, same_word) (inl (refl, refl))
 
-module _ {S D C : Type 0} (callbacks : Callbacks S D C) (machine : MachineState S D C) (now : ℕ) (event : Event C) (outcome : Outcome S D C) where
+module _ {S D C : Type 0} (callbacks : Callbacks S D C) (machine : MachineState S D C) (now : ℕ) where
   -- a turn of a machine that runs is what comes of the outcome of `handle`
-  pub turn_is : machine.ended ≡ None → now < 2 ^ 63 → next_event_of machine ≡ Some event
-      → outcome ≡ callbacks.handle_is event.kind event.content machine.state machine.data
-      → turn_of callbacks machine now ≡ settled callbacks machine (with_received (with_moment machine now)) event.number
-      (called_with callbacks.same_state (Handle event.number event.kind machine.state ∷ []) machine.state machine.data outcome) (reason_of outcome)
-  turn_is ended early next outcome_is =
-      let running : turn_running callbacks machine now ≡ settled callbacks machine (with_received (with_moment machine now)) event.number
-      (called_with callbacks.same_state (Handle event.number event.kind machine.state ∷ []) machine.state machine.data outcome) (reason_of outcome) =
+  pub turn_is : (number : ℕ) (kind : Kind) (content : C) (outcome : Outcome S D C) → machine.ended ≡ None → now < 2 ^ 63
+      → next_event_of machine ≡ Some (record { number = number; kind = kind; content = content })
+      → outcome ≡ callbacks.handle_is kind content machine.state machine.data
+      → turn_of callbacks machine now ≡ settled callbacks machine (with_moment machine now) number
+      (called_with callbacks.same_state (Handle number kind machine.state ∷ []) machine.state machine.data outcome) (reason_of outcome)
+  turn_is number kind content outcome ended early next outcome_is =
+      let running : turn_running callbacks machine now ≡ settled callbacks machine (with_moment machine now) number
+      (called_with callbacks.same_state (Handle number kind machine.state ∷ []) machine.state machine.data outcome) (reason_of outcome) =
       rw (lt-ltb now (2 ^ 63) early, next, outcome_is) refl in
       ap (λ (end : Option (ℕ × ℕ)). unless_ended end (λ refusal. Err refusal) machine (turn_running callbacks machine now)) ended ∙ running
+
+  -- without an event it is idle
+  pub idle_is : machine.ended ≡ None → now < 2 ^ 63 → next_event_of machine ≡ None
+      → turn_of callbacks machine now ≡ (Ok Idle, with_moment machine now)
+  idle_is ended early next =
+      let running : turn_running callbacks machine now ≡ (Ok Idle, with_moment machine now) = rw (lt-ltb now (2 ^ 63) early, next) refl in
+      ap (λ (end : Option (ℕ × ℕ)). unless_ended end (λ refusal. Err refusal) machine (turn_running callbacks machine now)) ended ∙ running
+
+-- ---- what is left, by its parts
+module _ {S D C : Type 0} where
+  abbrev machine_of : MachineId → S → D → Schedule C → ℕ → Option (ℕ × ℕ) → MachineState S D C
+  machine_of id state held schedule latest ended =
+      record { id = id; state = state; «data» = held; schedule = schedule; latest = latest; ended = ended }
+
+  pub machine_is : {id id2 : MachineId} {state state2 : S} {held held2 : D} {schedule schedule2 : Schedule C} {latest latest2 : ℕ} {ended ended2 : Option (ℕ × ℕ)}
+      → id ≡ id2 → state ≡ state2 → held ≡ held2 → schedule ≡ schedule2 → latest ≡ latest2 → ended ≡ ended2
+      → machine_of id state held schedule latest ended ≡ machine_of id2 state2 held2 schedule2 latest2 ended2
+  machine_is same_id same_state same_data same_schedule same_latest same_end =
+      rw (same_id, same_state, same_data, same_schedule, same_latest, same_end) refl
+
+module _ {C : Type 0} (number : ℕ) where
+  pub settled_is : {latest latest2 : ℕ} {schedule schedule2 : Schedule C} {postpone postpone2 changed changed2 : Bool} {inserts inserts2 : List (Insert C)} {requests requests2 : List (Setting C)}
+      → latest ≡ latest2 → schedule ≡ schedule2 → postpone ≡ postpone2 → changed ≡ changed2 → inserts ≡ inserts2 → requests ≡ requests2
+      → settled_in latest schedule number postpone changed inserts requests ≡ settled_in latest2 schedule2 number postpone2 changed2 inserts2 requests2
+  settled_is {latest2 = latest2} {schedule = schedule} {schedule2 = schedule2} {postpone = postpone} {postpone2 = postpone2} {changed = changed} {changed2 = changed2} {inserts = inserts} {inserts2 = inserts2} {requests = requests} same_latest same_schedule same_postpone same_change same_inserts same_requests =
+      ap (λ (l : ℕ). settled_in l schedule number postpone changed inserts requests) same_latest
+      ∙ ap (λ (s : Schedule C). settled_in latest2 s number postpone changed inserts requests) same_schedule
+      ∙ ap (λ (p : Bool). settled_in latest2 schedule2 number p changed inserts requests) same_postpone
+      ∙ ap (λ (d : Bool). settled_in latest2 schedule2 number postpone2 d inserts requests) same_change
+      ∙ ap (λ (i : List (Insert C)). settled_in latest2 schedule2 number postpone2 changed2 i requests) same_inserts
+      ∙ ap (λ (r : List (Setting C)). settled_in latest2 schedule2 number postpone2 changed2 inserts2 r) same_requests
+
+-- ---- the next event, by its parts
+module _ {C : Type 0} where
+  -- it has the number and the kind that are shown of it, and the content
+  pub event_is : (next : Option (Event C)) (name : ℕ × Kind) (content : C) → option_map name_of_event next ≡ Some name
+      → option_map (λ (event : Event C). event.content) next ≡ Some content
+      → next ≡ Some (record { number = name.0; kind = name.1; content = content })
+  event_is None name content same_name same_content = absurd (none_not_some None name refl same_name)
+  event_is (Some event) name content same_name same_content =
+      let named : name_of_event event ≡ name = some_injective same_name in
+      let held : event.content ≡ content = some_injective same_content in
+      rw (← named, ← held) refl
+
+  -- where it has a name, it has a content
+  pub has_content : (next : Option (Event C)) (name : ℕ × Kind) → option_map name_of_event next ≡ Some name
+      → option_map (λ (event : Event C). event.content) next ≡ None → ⊥
+  has_content None name same_name none = none_not_some None name refl same_name
+  has_content (Some event) name same_name none = none_not_some (Some event.content) event.content none refl
+
+  -- no name, no event
+  pub no_event : (next : Option (Event C)) → option_map name_of_event next ≡ None → next ≡ None
+  no_event None h = refl
+  no_event (Some event) h = absurd (none_not_some (Some (name_of_event event)) (name_of_event event) h refl)
+
+  -- its number is that of its name
+  pub number_named : (next : Option (Event C)) (name : ℕ × Kind) → option_map name_of_event next ≡ Some name
+      → option_map (λ (event : Event C). event.number) next ≡ Some name.0
+  number_named None name h = absurd (none_not_some None name refl h)
+  number_named (Some event) name h = ap (λ (n : ℕ × Kind). Some n.0) (some_injective h)
+
+-- ---- numbers
+-- there are enough for the events alone
+pub enough_for_inserts : (next inserts timers : ℕ) → nat_le (next + (inserts + timers)) (2 ^ 63) ≡ true → next + inserts ≤ 2 ^ 63
+enough_for_inserts next inserts timers h = grind (arith, h)
+
+pub enough_for_all : (next inserts timers : ℕ) → nat_le (next + (inserts + timers)) (2 ^ 63) ≡ true → next + (inserts + timers) ≤ 2 ^ 63
+enough_for_all next inserts timers h = grind (arith, h)
+
+pub fewer_inserts : (next inserts timers : ℕ) → nat_le (next + (inserts + timers)) (2 ^ 63) ≡ true → inserts ≤ 2 ^ 63
+fewer_inserts next inserts timers h = grind (arith, h)
+
+-- ---- timers that are set
+module _ {C : Type 0} where
+  pub numbers_taken-append : (settings : List (Setting C)) (setting : Setting C)
+      → numbers_taken (settings ++ setting ∷ []) ≡ numbers_taken settings + number_taken setting.time
+  numbers_taken-append [] setting = omega arith
+  numbers_taken-append (first ∷ settings) setting =
+      let more = numbers_taken-append settings setting in
+      rw more (omega arith)
+
+-- a request takes one number at most
+pub one_number_at_most : (time : Time) → number_taken time ≤ 1
+one_number_at_most Infinity = omega arith
+one_number_at_most (After time) = omega arith
+
+module _ {C : Type 0} (settings : List (Setting C)) (index : ℕ) where
+  -- one more request
+  pub more_settings : (setting : Setting C) → slice_get settings index ≡ Some setting
+      → take (index + 1) settings ≡ take index settings ++ setting ∷ []
+  more_settings setting found = more (slice_get_cases settings index).1 where
+    more : ((x : Setting C) × (index < length settings) × (slice_get settings index ≡ Some x) × (get_or settings index x ≡ x))
+        ⊎ ((length settings ≤ index) × (slice_get settings index ≡ None))
+        → take (index + 1) settings ≡ take index settings ++ setting ∷ []
+    more (inl (x, within, there, read)) =
+        let same : x ≡ setting = some_injective (sym there ∙ found) in
+        let one_more : index + 1 ≡ suc index = omega arith in
+        rw one_more (take-suc settings index x within ∙ ap (λ (one : Setting C). take index settings ++ one ∷ []) (read ∙ same))
+    more (inr (past, nothing)) = absurd (none_not_some (slice_get settings index) setting nothing found)
+
+  -- there are so many
+  pub one_more_there : index < length settings → slice_get settings index ≡ None → ⊥
+  one_more_there within nothing = there (slice_get_cases settings index).1 where
+    there : ((x : Setting C) × (index < length settings) × (slice_get settings index ≡ Some x) × (get_or settings index x ≡ x))
+        ⊎ ((length settings ≤ index) × (slice_get settings index ≡ None))
+        → ⊥
+    there (inl (x, inside, found, read)) = none_not_some (slice_get settings index) x nothing found
+    there (inr (past, none)) = omega (arith, within, past)
+
+-- the times of one more request
+pub times_of-append : {C : Type 0} (settings : List (Setting C)) (setting : Setting C)
+    → times_of (settings ++ setting ∷ []) ≡ times_of settings ++ (setting.timer, setting.time) ∷ []
+times_of-append [] setting = refl
+times_of-append (first ∷ settings) setting = ap (λ times. (first.timer, first.time) ∷ times) (times_of-append settings setting)

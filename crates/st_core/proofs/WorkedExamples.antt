@@ -5,6 +5,10 @@ use Rattle.st_events.specs.declared.kind.Kind.{Kind}
 use Rattle.st_events.specs.declared.kind.Kind.TheVariants as kind
 use Rattle.st_events.specs.declared.machine_id.MachineId.{MachineId}
 use Rattle.st_events.specs.declared.refusal.Refusal.{Refusal}
+use Rattle.st_events.specs.declared.time.Time.{Time}
+use Rattle.st_events.specs.declared.time.Time.TheVariants.{After, Infinity}
+use Rattle.st_events.specs.declared.timer.Timer.{Timer}
+use Rattle.st_events.specs.declared.timer.Timer.TheVariants as timer
 use Rattle.st_events.specs.declared.refusal.Refusal.TheVariants.{NoMemory, Exhausted, Moment}
 use Rattle.st_events.specs.declared.refusal.Refusal.TheVariants as refusal
 use Rattle.st_events.specs.declared.refused.Refused.{Refused}
@@ -20,9 +24,13 @@ use Rattle.st_core.specs.declared.command.Command.{Command}
 use Rattle.st_core.specs.declared.command.Command.TheVariants as command
 use Rattle.st_core.specs.declared.answer.Answer.{Answer}
 use Rattle.st_core.specs.declared.answer.Answer.TheVariants as answer
-use Rattle.st_core.specs.MachineState.{Item, Received, Posted, MachineState}
+use Rattle.st_timeouts.specs.declared.due.Due.{Due}
+use Rattle.st_timeouts.specs.declared.due.Due.TheVariants.{Zero, At}
+use Rattle.st_timeouts.specs.Running.{Running as RunningTimeout}
+use Rattle.st_agenda.specs.Item.{Item, Received, Posted, Expiry}
+use Rattle.st_core.specs.MachineState.{MachineState}
 use Rattle.st_core.specs.Callbacks.{Callbacks}
-use Rattle.st_core.specs.Choice.{is_ready_of, waiting_of}
+use Rattle.st_core.specs.Choice.{is_ready_of, waiting_of, timers_of}
 use Rattle.st_core.specs.Start.{start_of, start_refused, Starts}
 use Rattle.st_core.specs.Stop.{stop_of}
 use Rattle.st_core.specs.Run.{takes_memory, step_of, Runs}
@@ -45,12 +53,18 @@ at_rest state held latest next = record {
   id = id;
   state = state;
   «data» = held;
-  pending = [];
-  postponed = [];
+  schedule = record { pending = []; postponed = []; running = []; next = next };
   latest = latest;
-  next = next;
   ended = None;
 }
+
+-- a machine at which these items wait, and these numbers are postponed
+abbrev with_items : MachineState ℕ ℕ ℕ → List (Item ℕ) → List ℕ → MachineState ℕ ℕ ℕ
+with_items machine items postponed = record machine { schedule = record machine.schedule { pending = items; postponed = postponed } }
+
+-- a machine at which these time-outs run
+abbrev with_timers : MachineState ℕ ℕ ℕ → List (RunningTimeout ℕ) → MachineState ℕ ℕ ℕ
+with_timers machine running = record machine { schedule = record machine.schedule { running = running } }
 
 -- the machine of most examples, before its first event
 abbrev fresh : MachineState ℕ ℕ ℕ
@@ -160,7 +174,7 @@ moments_end = runs_with_memory table fresh late_turns
 no_memory : Runs table fresh
     (cast 5 ∷ cast 6 ∷ [])
     (not_posted NoMemory 5 ∷ posted 1 ∷ [])
-    (record (at_rest 0 7 0 2) { pending = Posted (cast_event 1 6) ∷ [] })
+    (with_items (at_rest 0 7 0 2) (Posted (cast_event 1 6) ∷ []) [])
 no_memory = (fresh, inr (refl, refl, refl), runs_with_memory table fresh (cast 6 ∷ []))
 
 idle_takes_no_memory : takes_memory (step_of table fresh (turn 0)).0 ≡ false
@@ -186,18 +200,12 @@ first_turns = cast 10 ∷ cast 10 ∷ cast 3 ∷ cast 0 ∷ turn 0 ∷ turn 0 �
 
 casts_are_postponed : Runs table fresh first_turns
     (posted 1 ∷ posted 2 ∷ posted 3 ∷ posted 4 ∷ put_off 1 0 0 [] ∷ put_off 2 0 0 [] ∷ [])
-    (record (at_rest 0 7 0 5) {
-      pending = Received (cast_event 1 10) ∷ Received (cast_event 2 10) ∷ Posted (cast_event 3 3) ∷ Posted (cast_event 4 0) ∷ [];
-      postponed = 1 ∷ 2 ∷ [];
-    })
+    (with_items (at_rest 0 7 0 5) (Received (cast_event 1 10) ∷ Received (cast_event 2 10) ∷ Posted (cast_event 3 3) ∷ Posted (cast_event 4 0) ∷ []) (1 ∷ 2 ∷ []))
 casts_are_postponed = runs_with_memory table fresh first_turns
 
 -- a machine with one event postponed, and another that was posted
 abbrev one_postponed : ℕ → MachineState ℕ ℕ ℕ
-one_postponed content = record (at_rest 0 7 0 3) {
-  pending = Received (cast_event 1 10) ∷ Posted (cast_event 2 content) ∷ [];
-  postponed = 1 ∷ [];
-}
+one_postponed content = with_items (at_rest 0 7 0 3) (Received (cast_event 1 10) ∷ Posted (cast_event 2 content) ∷ []) (1 ∷ [])
 
 abbrev first_of_two : ℕ → List (Command ℕ)
 first_of_two content = cast 10 ∷ cast content ∷ turn 0 ∷ []
@@ -225,10 +233,8 @@ inserted_come_before_retried = runs_with_memory table fresh (cast 10 ∷ cast 11
 -- right after the second turn
 inserted_are_placed : Runs table (one_postponed 11) (turn 0 ∷ [])
     (put_off 2 0 1 (3 ∷ 4 ∷ []) ∷ [])
-    (record (at_rest 1 7 0 5) {
-      pending = Received (record { number = 3; kind = kind.Internal; content = 20 }) ∷ Received (cast_event 4 21)
-          ∷ Received (cast_event 1 10) ∷ Received (cast_event 2 11) ∷ [];
-    })
+    (with_items (at_rest 1 7 0 5) (Received (record { number = 3; kind = kind.Internal; content = 20 }) ∷ Received (cast_event 4 21)
+    ∷ Received (cast_event 1 10) ∷ Received (cast_event 2 11) ∷ []) [])
 inserted_are_placed = runs_with_memory table (one_postponed 11) (turn 0 ∷ [])
 
 -- a growth of the second turn is refused: the machine is as it was, and the turn tried again
@@ -245,27 +251,21 @@ five_turns = turn 0 ∷ turn 0 ∷ turn 0 ∷ turn 0 ∷ turn 0 ∷ []
 postponed_stay_without_a_change : Runs table fresh (cast 10 ∷ cast 12 ∷ five_turns)
     (posted 1 ∷ posted 2 ∷ put_off 1 0 0 [] ∷ put_off 2 0 0 (3 ∷ 4 ∷ [])
     ∷ finished_as kind.Internal 3 0 0 ∷ finished 4 0 0 ∷ idle ∷ [])
-    (record (at_rest 0 7 0 5) {
-      pending = Received (cast_event 1 10) ∷ Received (cast_event 2 12) ∷ [];
-      postponed = 1 ∷ 2 ∷ [];
-    })
+    (with_items (at_rest 0 7 0 5) (Received (cast_event 1 10) ∷ Received (cast_event 2 12) ∷ []) (1 ∷ 2 ∷ []))
 postponed_stay_without_a_change = runs_with_memory table fresh (cast 10 ∷ cast 12 ∷ five_turns)
 
 -- events are inserted behind the postponed ones and before those that were posted
 inserted_stand_behind_postponed : Runs table (one_postponed 12) (cast 0 ∷ turn 0 ∷ [])
     (posted 3 ∷ put_off 2 0 0 (4 ∷ 5 ∷ []) ∷ [])
-    (record (at_rest 0 7 0 6) {
-      pending = Received (cast_event 1 10) ∷ Received (cast_event 2 12)
-          ∷ Received (record { number = 4; kind = kind.Internal; content = 20 }) ∷ Received (cast_event 5 21)
-          ∷ Posted (cast_event 3 0) ∷ [];
-      postponed = 1 ∷ 2 ∷ [];
-    })
+    (with_items (at_rest 0 7 0 6) (Received (cast_event 1 10) ∷ Received (cast_event 2 12)
+    ∷ Received (record { number = 4; kind = kind.Internal; content = 20 }) ∷ Received (cast_event 5 21)
+    ∷ Posted (cast_event 3 0) ∷ []) (1 ∷ 2 ∷ []))
 inserted_stand_behind_postponed = runs_with_memory table (one_postponed 12) (cast 0 ∷ turn 0 ∷ [])
 
 -- a NextState with the same state is no state change, and retries nothing
 the_same_state_retries_nothing : Runs table (one_postponed 9) (turn 0 ∷ turn 0 ∷ [])
     (finished 2 0 0 ∷ idle ∷ [])
-    (record (at_rest 0 7 0 3) { pending = Received (cast_event 1 10) ∷ []; postponed = 1 ∷ [] })
+    (with_items (at_rest 0 7 0 3) (Received (cast_event 1 10) ∷ []) (1 ∷ []))
 the_same_state_retries_nothing = runs_with_memory table (one_postponed 9) (turn 0 ∷ turn 0 ∷ [])
 
 -- of several Postpone actions the last decides, both ways
@@ -274,7 +274,7 @@ two_lists = cast 13 ∷ cast 14 ∷ turn 0 ∷ turn 0 ∷ turn 0 ∷ []
 
 the_last_postpone_decides : Runs table fresh two_lists
     (posted 1 ∷ posted 2 ∷ put_off 1 0 0 [] ∷ finished 2 0 0 ∷ idle ∷ [])
-    (record (at_rest 0 7 0 3) { pending = Received (cast_event 1 13) ∷ []; postponed = 1 ∷ [] })
+    (with_items (at_rest 0 7 0 3) (Received (cast_event 1 13) ∷ []) (1 ∷ []))
 the_last_postpone_decides = runs_with_memory table fresh two_lists
 
 -- inserted events come before posted ones, whether these were posted before the insertion or after it
@@ -318,7 +318,7 @@ posted_is_ready : is_ready_of (one_postponed 0) ≡ true
 posted_is_ready = refl
 
 abbrev only_postponed : MachineState ℕ ℕ ℕ
-only_postponed = record (at_rest 0 7 0 2) { pending = Received (cast_event 1 10) ∷ []; postponed = 1 ∷ [] }
+only_postponed = with_items (at_rest 0 7 0 2) (Received (cast_event 1 10) ∷ []) (1 ∷ [])
 
 postponed_is_not_ready : is_ready_of only_postponed ≡ false
 postponed_is_not_ready = refl
@@ -375,9 +375,7 @@ too_many_inserts = cast 7 ∷ turn 20 ∷ turn 9223372036854775808 ∷ turn 30 �
 inserts_need_numbers : Runs table one_number_too_few too_many_inserts
     (posted 9223372036854775806 ∷ not_turned Exhausted ∷ not_turned Moment ∷ not_turned Exhausted
     ∷ posted 9223372036854775807 ∷ not_turned Exhausted ∷ [])
-    (record (at_rest 0 7 3 9223372036854775808) {
-      pending = Posted (cast_event 9223372036854775806 7) ∷ Posted (cast_event 9223372036854775807 0) ∷ [];
-    })
+    (with_items (at_rest 0 7 3 9223372036854775808) (Posted (cast_event 9223372036854775806 7) ∷ Posted (cast_event 9223372036854775807 0) ∷ []) [])
 inserts_need_numbers = runs_with_memory table one_number_too_few too_many_inserts
 
 -- where two are left, they are the last
@@ -399,8 +397,8 @@ the_last_numbers_are_inserted = runs_with_memory table numbers_enough last_inser
 abbrev started : ℕ → ℕ → ℕ → Result (Start ℕ ℕ ℕ ℕ ℕ) (Refused ℕ)
 started arg now first = start_of 50 id (begun_by_table arg) now first
 
-abbrev start_report : List ℕ → Report ℕ
-start_report inserted = record {
+abbrev start_report : List ℕ → List (Timer × Time) → Report ℕ
+start_report inserted set = record {
   event = None;
   done = Started;
   calls = [];
@@ -408,10 +406,10 @@ start_report inserted = record {
   after = 0;
   replied = [];
   inserted = inserted;
-  set = [];
+  set = set;
 }
 
-start_runs : started 0 12 1 ≡ Ok (Running (record { module_ = 50; machine = at_rest 0 7 12 1 }) (start_report []))
+start_runs : started 0 12 1 ≡ Ok (Running (record { module_ = 50; machine = at_rest 0 7 12 1 }) (start_report [] []))
 start_runs = refl
 
 start_stops : started 4 9223372036854775807 1 ≡ Ok (Stopped 4)
@@ -430,23 +428,23 @@ two_received first =
     Received (record { number = first; kind = kind.Internal; content = 20 }) ∷ Received (cast_event (first + 1) 21) ∷ []
 
 start_inserts : started 3 12 5
-    ≡ Ok (Running (record { module_ = 50; machine = record (at_rest 0 7 12 7) { pending = two_received 5 } }) (start_report (5 ∷ 6 ∷ [])))
+    ≡ Ok (Running (record { module_ = 50; machine = with_items (at_rest 0 7 12 7) (two_received 5) [] }) (start_report (5 ∷ 6 ∷ []) []))
 start_inserts = refl
 
 -- they come before what is posted
 abbrev after_start : List (Command ℕ)
 after_start = cast 0 ∷ turn 0 ∷ turn 0 ∷ turn 0 ∷ turn 0 ∷ []
 
-inserted_at_the_start_come_first : Runs table (record (at_rest 0 7 12 7) { pending = two_received 5 }) after_start
+inserted_at_the_start_come_first : Runs table (with_items (at_rest 0 7 12 7) (two_received 5) []) after_start
     (posted 7 ∷ finished_as kind.Internal 5 0 0 ∷ finished 6 0 0 ∷ finished 7 0 0 ∷ idle ∷ [])
     (at_rest 0 7 12 8)
-inserted_at_the_start_come_first = runs_with_memory table (record (at_rest 0 7 12 7) { pending = two_received 5 }) after_start
+inserted_at_the_start_come_first = runs_with_memory table (with_items (at_rest 0 7 12 7) (two_received 5) []) after_start
 
 -- such a start needs two numbers; a moment out of range is told first
 start_takes_the_last_numbers : started 3 12 9223372036854775806
     ≡ Ok (Running
-    (record { module_ = 50; machine = record (at_rest 0 7 12 9223372036854775808) { pending = two_received 9223372036854775806 } })
-    (start_report (9223372036854775806 ∷ 9223372036854775807 ∷ [])))
+    (record { module_ = 50; machine = with_items (at_rest 0 7 12 9223372036854775808) (two_received 9223372036854775806) [] })
+    (start_report (9223372036854775806 ∷ 9223372036854775807 ∷ []) []))
 start_takes_the_last_numbers = refl
 
 start_without_numbers : started 3 12 9223372036854775807 ≡ Err (record { refusal = Exhausted; value = 50 })
@@ -458,3 +456,139 @@ start_too_late_without_numbers = refl
 -- want of memory may come before want of numbers, for `init` is called first
 start_without_memory : Starts 50 (start_refused 50 NoMemory) (started 3 12 9223372036854775807)
 start_without_memory = inr (refl, refl)
+
+-- ---- time-outs
+-- a time-out that runs, whose event has the content 0
+abbrev runs : Timer → ℕ → Due → RunningTimeout ℕ
+runs timer number due = record { timer = timer; number = number; due = due; content = 0 }
+
+abbrev tick : ℕ → Command ℕ
+tick now = command.Tick now
+
+abbrev ticked : ℕ → Answer ℕ ℕ
+ticked count = answer.Tick (Ok count)
+
+-- a cast in the first state is finished, and timers are set
+abbrev setting : ℕ → List (Timer × Time) → Answer ℕ ℕ
+setting number set = reported (record (report number kind.Cast 0 0 Finished []) { set = set })
+
+-- the event of a timer is finished
+abbrev lapsed : Timer → ℕ → ℕ → Answer ℕ ℕ
+lapsed timer number state = finished_as (kind.Timeout timer) number state state
+
+-- two time-outs that are due at once: the first that was requested comes, and it cancels that of the
+-- event; the other way round both come
+abbrev two_zero_set : List (Timer × Time)
+two_zero_set = (timer.State, After 0) ∷ (timer.Event, After 0) ∷ []
+
+the_first_zero_cancels : Runs table fresh (cast 22 ∷ turn 0 ∷ turn 0 ∷ turn 0 ∷ [])
+    (posted 1 ∷ setting 1 two_zero_set ∷ lapsed timer.State 2 0 ∷ idle ∷ [])
+    (at_rest 0 7 0 4)
+the_first_zero_cancels = runs_with_memory table fresh (cast 22 ∷ turn 0 ∷ turn 0 ∷ turn 0 ∷ [])
+
+both_zero_come : Runs table fresh (cast 23 ∷ turn 0 ∷ turn 0 ∷ turn 0 ∷ turn 0 ∷ [])
+    (posted 1 ∷ setting 1 ((timer.Event, After 0) ∷ (timer.State, After 0) ∷ []) ∷ lapsed timer.Event 2 0 ∷ lapsed timer.State 3 0 ∷ idle ∷ [])
+    (at_rest 0 7 0 4)
+both_zero_come = runs_with_memory table fresh (cast 23 ∷ turn 0 ∷ turn 0 ∷ turn 0 ∷ turn 0 ∷ [])
+
+-- they run until they come, in the order of their requests, and no moment makes them expire
+two_zero_run : Runs table fresh (cast 22 ∷ turn 4 ∷ tick 9 ∷ [])
+    (posted 1 ∷ setting 1 two_zero_set ∷ ticked 0 ∷ [])
+    (with_timers (at_rest 0 7 9 4) (runs timer.State 2 Zero ∷ runs timer.Event 3 Zero ∷ []))
+two_zero_run = runs_with_memory table fresh (cast 22 ∷ turn 4 ∷ tick 9 ∷ [])
+
+-- a time-out that was set at the start has expired, and is stopped by an event before its expiry: the
+-- expiry is gone, and the machine is not ready
+abbrev one_timer : MachineState ℕ ℕ ℕ
+one_timer = with_timers (at_rest 0 7 0 2) (runs (timer.Named 5) 1 (At 5) ∷ [])
+
+start_sets : started 5 0 1
+    ≡ Ok (Running (record { module_ = 50; machine = one_timer }) (start_report [] ((timer.Named 5, After 5) ∷ [])))
+start_sets = refl
+
+expired_waits : Runs table one_timer (cast 24 ∷ tick 5 ∷ [])
+    (posted 2 ∷ ticked 1 ∷ [])
+    (with_timers (with_items (at_rest 0 7 5 3) (Posted (cast_event 2 24) ∷ Expiry (timer.Named 5) ∷ []) []) (runs (timer.Named 5) 1 (At 5) ∷ []))
+expired_waits = runs_with_memory table one_timer (cast 24 ∷ tick 5 ∷ [])
+
+expired_is_stopped : Runs table one_timer (cast 24 ∷ tick 5 ∷ turn 5 ∷ turn 5 ∷ [])
+    (posted 2 ∷ ticked 1 ∷ setting 2 ((timer.Named 5, Infinity) ∷ []) ∷ idle ∷ [])
+    (at_rest 0 7 5 3)
+expired_is_stopped = runs_with_memory table one_timer (cast 24 ∷ tick 5 ∷ turn 5 ∷ turn 5 ∷ [])
+
+-- an expiry does not count as waiting
+expiry_is_no_event : waiting_of (with_items one_timer (Expiry (timer.Named 5) ∷ []) []) ≡ 0
+expiry_is_no_event = refl
+
+expiry_is_ready : is_ready_of (with_items one_timer (Expiry (timer.Named 5) ∷ []) []) ≡ true
+expiry_is_ready = refl
+
+-- the latest moment and the greatest time: the time-out is due beyond the last moment; the moment after
+-- the last is refused
+abbrev last_moment : MachineState ℕ ℕ ℕ
+last_moment = with_timers (at_rest 0 7 9223372036854775807 2) (runs (timer.Named 1) 1 (At 9223372041149743102) ∷ [])
+
+start_sets_late : started 6 9223372036854775807 1
+    ≡ Ok (Running (record { module_ = 50; machine = last_moment }) (start_report [] ((timer.Named 1, After 4294967295) ∷ [])))
+start_sets_late = refl
+
+timers_are_shown : timers_of last_moment ≡ (timer.Named 1, 1, At 9223372041149743102) ∷ []
+timers_are_shown = refl
+
+last_ticks : Runs table last_moment (tick 9223372036854775807 ∷ tick 9223372036854775808 ∷ [])
+    (ticked 0 ∷ answer.Tick (Err Moment) ∷ [])
+    last_moment
+last_ticks = runs_with_memory table last_moment (tick 9223372036854775807 ∷ tick 9223372036854775808 ∷ [])
+
+-- three time-outs, two of them due at one moment: they come by moment and then by number
+abbrev three_timers : MachineState ℕ ℕ ℕ
+three_timers = with_timers (at_rest 0 7 0 4)
+    (runs (timer.Named 1) 1 (At 20) ∷ runs (timer.Named 2) 2 (At 10) ∷ runs (timer.Named 3) 3 (At 20) ∷ [])
+
+abbrev three_turns : List (Command ℕ)
+three_turns = tick 20 ∷ turn 20 ∷ turn 20 ∷ turn 20 ∷ []
+
+by_moment_and_number : Runs table three_timers three_turns
+    (ticked 3 ∷ lapsed (timer.Named 2) 2 0 ∷ lapsed (timer.Named 1) 1 0 ∷ lapsed (timer.Named 3) 3 0 ∷ [])
+    (at_rest 0 7 20 4)
+by_moment_and_number = runs_with_memory table three_timers three_turns
+
+-- a state change cancels the old state time-out, and the one of the same actions runs
+abbrev change_and_set : List (Command ℕ)
+change_and_set = cast 28 ∷ cast 27 ∷ turn 0 ∷ turn 0 ∷ tick 5 ∷ []
+
+the_new_state_time_out_runs : Runs table fresh change_and_set
+    (posted 1 ∷ posted 2 ∷ setting 1 ((timer.State, After 5) ∷ [])
+    ∷ reported (record (report 2 kind.Cast 0 1 Finished []) { set = (timer.State, After 10) ∷ [] }) ∷ ticked 0 ∷ [])
+    (with_timers (at_rest 1 7 5 5) (runs timer.State 4 (At 10) ∷ []))
+the_new_state_time_out_runs = runs_with_memory table fresh change_and_set
+
+-- the event of a zero time-out is postponed: it is an event from then on, in its place
+abbrev lapsed_event : Event ℕ
+lapsed_event = record { number = 2; kind = kind.Timeout (timer.Named 2); content = 10 }
+
+a_zero_time_out_is_postponed : Runs table fresh (cast 30 ∷ cast 0 ∷ turn 0 ∷ turn 0 ∷ [])
+    (posted 1 ∷ posted 2 ∷ setting 1 ((timer.Named 2, After 0) ∷ []) ∷ reported (report 3 (kind.Timeout (timer.Named 2)) 0 0 PutOff []) ∷ [])
+    (with_items (at_rest 0 7 0 4) (Received (record lapsed_event { number = 3 }) ∷ Posted (cast_event 2 0) ∷ []) (3 ∷ []))
+a_zero_time_out_is_postponed = runs_with_memory table fresh (cast 30 ∷ cast 0 ∷ turn 0 ∷ turn 0 ∷ [])
+
+-- want of memory at a tick changes nothing; where nothing expires a tick takes none
+tick_without_memory : Runs table one_timer (tick 5 ∷ tick 5 ∷ [])
+    (answer.Tick (Err NoMemory) ∷ ticked 1 ∷ [])
+    (with_items (with_timers (at_rest 0 7 5 2) (runs (timer.Named 5) 1 (At 5) ∷ [])) (Expiry (timer.Named 5) ∷ []) [])
+tick_without_memory = (one_timer, inr (refl, refl, refl), runs_with_memory table one_timer (tick 5 ∷ []))
+
+tick_takes_no_memory : takes_memory (step_of table one_timer (tick 4)).0 ≡ false
+tick_takes_no_memory = refl
+
+-- once it has ended, no time-out runs, and a tick is refused
+tick_after_the_end : Runs table one_timer (command.Stop 9 ∷ tick 5 ∷ [])
+    (answer.Stop (Ok 7) ∷ answer.Tick (Err (refusal.Stopped 9)) ∷ [])
+    (at_end (at_rest 0 7 0 2) 9 7)
+tick_after_the_end = runs_with_memory table one_timer (command.Stop 9 ∷ tick 5 ∷ [])
+
+-- time-outs that begin need numbers, one that is stopped does not
+two_numbers_are_lacking : Runs table (at_rest 0 7 0 9223372036854775806) (cast 22 ∷ turn 4 ∷ [])
+    (posted 9223372036854775806 ∷ not_turned Exhausted ∷ [])
+    (with_items (at_rest 0 7 0 9223372036854775807) (Posted (cast_event 9223372036854775806 22) ∷ []) [])
+two_numbers_are_lacking = runs_with_memory table (at_rest 0 7 0 9223372036854775806) (cast 22 ∷ turn 4 ∷ [])

@@ -1,12 +1,12 @@
 -- What one machine is, and what each of its calls answers and leaves.
 pub mod MachineState
-pub mod Items
-pub mod Waiting
 pub mod Choice
 pub mod Callbacks
 pub mod Stop
+pub mod Prepared
 pub mod Transition
 pub mod Post
+pub mod Tick
 pub mod Start
 pub mod Run
 pub mod WorkedTable

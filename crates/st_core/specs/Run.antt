@@ -13,6 +13,7 @@ use Rattle.st_core.specs.MachineState.{MachineState}
 use Rattle.st_core.specs.Callbacks.{Callbacks}
 use Rattle.st_core.specs.Transition.{turn_of, comes_after_callbacks}
 use Rattle.st_core.specs.Stop.{stop_of}
+use Rattle.st_core.specs.Tick.{tick_of, tick_takes_memory}
 use Rattle.st_core.specs.Post.{post_of}
 
 -- a turn takes memory where there is an event to handle, also where too few numbers are left
@@ -30,6 +31,10 @@ post_takes_memory (Err refused) = false
 abbrev pub post_without_memory : {C : Type 0} → C → Result ℕ (Refused C)
 post_without_memory content = Err (record { refusal = NoMemory; value = content })
 
+-- what a tick answers that found no memory
+abbrev pub tick_without_memory : Result ℕ Refusal
+tick_without_memory = Err NoMemory
+
 -- what a turn answers that found no memory
 abbrev pub turn_without_memory : {S : Type 0} → Result (Turned S) Refusal
 turn_without_memory = Err NoMemory
@@ -38,12 +43,14 @@ module _ {S C : Type 0} where
   -- whether a command with this answer takes memory
   abbrev pub takes_memory : Answer S C → Bool
   takes_memory (answer.Post posted) = post_takes_memory posted
+  takes_memory (answer.Tick ticked) = tick_takes_memory ticked
   takes_memory (answer.Turn turned) = turn_takes_memory turned
   takes_memory (answer.Stop stopped) = false
 
   -- what a command answers that found no memory
   abbrev pub without_memory : Command C → Answer S C
   without_memory (command.Post entry content) = answer.Post (post_without_memory content)
+  without_memory (command.Tick now) = answer.Tick tick_without_memory
   without_memory (command.Turn now) = answer.Turn turn_without_memory
   without_memory (command.Stop reason) = answer.Stop (Err NoMemory)
 
@@ -59,6 +66,8 @@ module _ {S D C : Type 0} where
   abbrev pub step_of : Callbacks S D C → MachineState S D C → Command C → Answer S C × MachineState S D C
   step_of callbacks machine (command.Post entry content) =
       (answer.Post (post_of machine entry content).0, (post_of machine entry content).1)
+  step_of callbacks machine (command.Tick now) =
+      (answer.Tick (tick_of machine now).0, (tick_of machine now).1)
   step_of callbacks machine (command.Turn now) =
       (answer.Turn (turn_of callbacks machine now).0, (turn_of callbacks machine now).1)
   step_of callbacks machine (command.Stop reason) =

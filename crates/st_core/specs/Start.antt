@@ -7,18 +7,21 @@ use Rattle.st_events.specs.declared.init.Init.TheVariants as init
 use Rattle.st_events.specs.declared.refused.Refused.{Refused}
 use Rattle.st_events.specs.declared.refusal.Refusal.{Refusal}
 use Rattle.st_events.specs.declared.refusal.Refusal.TheVariants.{NoMemory, Exhausted, Moment}
-use Rattle.st_actions.specs.Plan.{inserts_of}
+use Rattle.st_events.specs.declared.time.Time.{Time}
+use Rattle.st_events.specs.declared.timer.Timer.{Timer}
+use Rattle.st_actions.specs.Plan.{inserts_of, requests_of}
+use Rattle.st_agenda.specs.Agenda.{inserted_in, all_set_in}
 use Rattle.st_core.specs.declared.done.Done.TheVariants.{Started}
 use Rattle.st_core.specs.declared.report.Report.{Report}
 use Rattle.st_core.specs.declared.start.Start.{Start}
 use Rattle.st_core.specs.declared.start.Start.TheVariants.{Running, Ignored, Stopped}
-use Rattle.st_core.specs.Items.{numbers_of, numbered}
 use Rattle.st_core.specs.MachineState.{MachineState}
-use Rattle.st_core.specs.Transition.{with_inserted, has_numbers, comes_after_callbacks}
+use Rattle.st_core.specs.Transition.{has_numbers, inserted_by, times_of, comes_after_callbacks}
 
--- what a start reports: no event, `init`'s state before and after it, and what was inserted
-abbrev pub start_report_of : {S : Type 0} → S → List ℕ → Report S
-start_report_of state inserted = record {
+-- what a start reports: no event, `init`'s state before and after it, what was inserted, and the timers
+-- that were set
+abbrev pub start_report_of : {S : Type 0} → S → List ℕ → List (Timer × Time) → Report S
+start_report_of state inserted set = record {
   event = None;
   done = Started;
   calls = [];
@@ -26,7 +29,7 @@ start_report_of state inserted = record {
   after = state;
   replied = [];
   inserted = inserted;
-  set = [];
+  set = set;
 }
 
 -- a machine to which nothing was posted, whose first event gets this number
@@ -35,11 +38,15 @@ first_state id state held now first = record {
   id = id;
   state = state;
   «data» = held;
-  pending = [];
-  postponed = [];
+  schedule = record { pending = []; postponed = []; running = []; next = first };
   latest = now;
-  next = first;
   ended = None;
+}
+
+-- what the actions of `init` ask for is done: events are inserted, and then timers are set
+abbrev pub with_begun : {S D C : Type 0} → MachineState S D C → List (Action C) → MachineState S D C
+with_begun machine actions = record machine {
+  schedule = all_set_in machine.latest (inserted_in machine.schedule (inserts_of actions)) (requests_of actions);
 }
 
 module _ {M S D C A : Type 0} where
@@ -52,8 +59,8 @@ module _ {M S D C A : Type 0} where
   started_with module_ machine actions =
       if has_numbers machine actions
       then Ok (Running
-      (record { module_ = module_; machine = with_inserted machine (inserts_of actions) })
-      (start_report_of machine.state (numbers_of (numbered machine.next (inserts_of actions)))))
+      (record { module_ = module_; machine = with_begun machine actions })
+      (start_report_of machine.state (inserted_by machine actions) (times_of (requests_of actions))))
       else start_refused module_ Exhausted
 
   -- what comes of `init`'s answer

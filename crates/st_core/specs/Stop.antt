@@ -6,9 +6,12 @@ use Rattle.st_core.specs.MachineState.{MachineState}
 use Rattle.st_core.specs.Callbacks.{Callbacks}
 
 module _ {S D C : Type 0} where
-  -- the machine has ended: nothing waits any more, and the reason and the word stay
+  -- the machine has ended: nothing waits any more, no time-out runs, and the reason and the word stay
   abbrev pub with_ended : MachineState S D C → ℕ → ℕ → MachineState S D C
-  with_ended machine reason word = record machine { pending = []; postponed = []; ended = Some (reason, word) }
+  with_ended machine reason word = record machine {
+    schedule = record machine.schedule { pending = []; postponed = []; running = [] };
+    ended = Some (reason, word);
+  }
 
   -- a call's answer and what it leaves; once the machine has ended, the call is refused with the
   -- reason, and changes nothing

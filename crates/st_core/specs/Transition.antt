@@ -1,19 +1,23 @@
 -- One turn: the next event is handled, and the machine changes.
-use Rattle.std.specs.Prelude.{ℕ, ◌+◌, ◌^◌, Bool, true, false, Option, Some, None, Result, Ok, Err, List, [], ◌∷◌, ◌++◌, length, map, max, nat_lt, nat_le, if◌then◌else◌}
+use Rattle.std.specs.Prelude.{ℕ, ◌^◌, Bool, true, false, Option, Some, None, Result, Ok, Err, List, [], ◌∷◌, ◌++◌, map, max, nat_lt, if◌then◌else◌}
 use Rattle.st_events.specs.declared.action.Action.{Action}
 use Rattle.st_events.specs.declared.event.Event.{Event}
 use Rattle.st_events.specs.declared.refusal.Refusal.{Refusal}
 use Rattle.st_events.specs.declared.refusal.Refusal.TheVariants.{Exhausted, Moment}
-use Rattle.st_events.specs.declared.insert.Insert.{Insert}
-use Rattle.st_actions.specs.Plan.{inserts_of, postpone_of}
+use Rattle.st_events.specs.declared.setting.Setting.{Setting}
+use Rattle.st_events.specs.declared.time.Time.{Time}
+use Rattle.st_events.specs.declared.timer.Timer.{Timer}
+use Rattle.st_actions.specs.Plan.{inserts_of, postpone_of, requests_of, plan_of}
+use Rattle.st_agenda.specs.Agenda.{settled_in}
+use Rattle.st_agenda.specs.Items.{numbered, numbers_of}
 use Rattle.st_core.specs.declared.call.Call.TheVariants.{Terminate}
 use Rattle.st_core.specs.declared.done.Done.{Done}
 use Rattle.st_core.specs.declared.done.Done.TheVariants.{Finished, PutOff, Ended}
 use Rattle.st_core.specs.declared.report.Report.{Report}
 use Rattle.st_core.specs.declared.turned.Turned.{Turned}
 use Rattle.st_core.specs.declared.turned.Turned.TheVariants.{Reported, Idle}
-use Rattle.st_core.specs.MachineState.{MachineState, Received}
-use Rattle.st_core.specs.Items.{with_next_received, kept, with_number, unless_changed, placed, numbered, numbers_of}
+use Rattle.st_core.specs.MachineState.{MachineState}
+use Rattle.st_core.specs.Prepared.{has_numbers_for}
 use Rattle.st_core.specs.Callbacks.{Callbacks, Called, called_of}
 use Rattle.st_core.specs.Choice.{next_event_of}
 use Rattle.st_core.specs.Stop.{with_ended, unless_ended}
@@ -27,47 +31,35 @@ abbrev pub comes_after_callbacks : Refusal → Bool
 comes_after_callbacks Exhausted = true
 comes_after_callbacks _ = false
 
+-- the timers that were set or stopped, with their times
+abbrev pub times_of : {C : Type 0} → List (Setting C) → List (Timer × Time)
+times_of {C} settings = map (λ (setting : Setting C). (setting.timer, setting.time)) settings
+
 module _ {S D C : Type 0} where
   -- a moment before the latest one counts as the latest
   abbrev pub with_moment : MachineState S D C → ℕ → MachineState S D C
   with_moment machine now = record machine { latest = max machine.latest now }
 
-  -- the next event is received, in its place
-  abbrev pub with_received : MachineState S D C → MachineState S D C
-  with_received machine = record machine { pending = with_next_received machine.postponed machine.pending }
-
   -- the new state and data stand
   abbrev pub with_called : MachineState S D C → Called S D C → MachineState S D C
   with_called machine called = record machine { state = called.state; «data» = called.data }
 
-  -- the event of a number is postponed and keeps its place, or is finished and leaves
-  abbrev pub with_disposed : MachineState S D C → ℕ → Bool → MachineState S D C
-  with_disposed machine number postpone = record machine {
-    pending = kept postpone number machine.pending;
-    postponed = with_number postpone number machine.postponed;
+  -- what becomes of what waits and what runs, in the manual's order: the event is received, and the
+  -- event time-out cancelled; by the actions the event is postponed or finished; at a state change none
+  -- is postponed any more, and the state time-out is cancelled; events are inserted; timers are set
+  abbrev pub with_settled : MachineState S D C → ℕ → Called S D C → MachineState S D C
+  with_settled machine number called = record machine {
+    schedule = settled_in machine.latest machine.schedule number (postpone_of called.actions) called.changed
+        (inserts_of called.actions) (requests_of called.actions);
   }
 
-  -- at a state change no event is postponed any more
-  abbrev pub with_retried : MachineState S D C → Bool → MachineState S D C
-  with_retried machine changed = record machine { postponed = unless_changed changed machine.postponed }
-
-  -- the inserted events come before the first one that is not postponed, with the next numbers
-  abbrev pub with_inserted : MachineState S D C → List (Insert C) → MachineState S D C
-  with_inserted machine inserts = record machine {
-    pending = placed machine.postponed (map Received (numbered machine.next inserts)) machine.pending;
-    next = machine.next + length inserts;
-  }
-
-  -- whether there are numbers enough for what actions insert
+  -- whether there are numbers enough for what actions insert and for the time-outs that they start
   abbrev pub has_numbers : MachineState S D C → List (Action C) → Bool
-  has_numbers machine actions = nat_le (machine.next + length (inserts_of actions)) (2 ^ 63)
+  has_numbers machine actions = has_numbers_for machine.schedule.next (plan_of actions)
 
-  -- the steps of a transition on the event of a number, in their order
-  abbrev pub with_handled : MachineState S D C → ℕ → Called S D C → MachineState S D C
-  with_handled machine number called =
-      with_inserted
-      (with_retried (with_disposed (with_called machine called) number (postpone_of called.actions)) called.changed)
-      (inserts_of called.actions)
+  -- the numbers of the events that actions insert
+  abbrev pub inserted_by : MachineState S D C → List (Action C) → List ℕ
+  inserted_by machine actions = numbers_of (numbered machine.schedule.next (inserts_of actions))
 
   -- what a turn reports of an event after which the machine goes on
   abbrev pub report_of : MachineState S D C → ℕ → Called S D C → Report S
@@ -78,8 +70,8 @@ module _ {S D C : Type 0} where
     before = machine.state;
     after = called.state;
     replied = [];
-    inserted = numbers_of (numbered machine.next (inserts_of called.actions));
-    set = [];
+    inserted = inserted_by machine called.actions;
+    set = times_of (requests_of called.actions);
   }
 
   -- what a turn reports of an event at which the machine ends
@@ -99,7 +91,7 @@ module _ {S D C : Type 0} where
   abbrev pub went_on : MachineState S D C → MachineState S D C → ℕ → Called S D C → Result (Turned S) Refusal × MachineState S D C
   went_on old machine number called =
       if has_numbers machine called.actions
-      then (Ok (Reported (report_of machine number called)), with_handled machine number called)
+      then (Ok (Reported (report_of machine number called)), with_settled (with_called machine called) number called)
       else (Err Exhausted, old)
 
   -- the machine ends, and the word of `terminate` is of the new state and data
@@ -117,9 +109,8 @@ module _ {S D C : Type 0} where
   abbrev pub transition_of : Callbacks S D C → MachineState S D C → MachineState S D C → Option (Event C) → Result (Turned S) Refusal × MachineState S D C
   transition_of callbacks old machine None = (Ok Idle, machine)
   transition_of callbacks old machine (Some event) =
-      let received = with_received machine in
-      let called = called_of callbacks received event in
-      settled callbacks old received event.number called called.reason
+      let called = called_of callbacks machine event in
+      settled callbacks old machine event.number called called.reason
 
   -- a turn of a machine that runs
   abbrev pub turn_running : Callbacks S D C → MachineState S D C → ℕ → Result (Turned S) Refusal × MachineState S D C

@@ -1,13 +1,15 @@
 -- The module of the examples and of the tests, by a table: states, data and contents are numbers.
 use Rattle.std.specs.Prelude.{ℕ, ◌==◌, if◌then◌else◌, true, false, Some, None, List, [], ◌∷◌}
 use Rattle.st_events.specs.declared.action.Action.{Action}
-use Rattle.st_events.specs.declared.action.Action.TheVariants.{Reply, Postpone, NextEvent, Hibernate}
+use Rattle.st_events.specs.declared.action.Action.TheVariants.{Reply, Postpone, NextEvent, Set, Hibernate}
 use Rattle.st_events.specs.declared.init.Init.{Init}
 use Rattle.st_events.specs.declared.init.Init.TheVariants as init
 use Rattle.st_events.specs.declared.kind.Kind.TheVariants.{Cast, Internal}
 use Rattle.st_events.specs.declared.outcome.Outcome.{Outcome}
 use Rattle.st_events.specs.declared.outcome.Outcome.TheVariants.{NextState, KeepState, KeepStateAndData, Stop, StopAndReply}
 use Rattle.st_events.specs.declared.tag.Tag.{Tag}
+use Rattle.st_events.specs.declared.time.Time.TheVariants.{After, Infinity}
+use Rattle.st_events.specs.declared.timer.Timer.TheVariants as timer
 
 -- the request to which the table replies
 abbrev pub first_tag : Tag
@@ -20,6 +22,21 @@ five_actions = Hibernate ∷ Hibernate ∷ Hibernate ∷ Hibernate ∷ Hibernate
 -- two events are inserted, which the table keeps
 abbrev pub two_inserts : List (Action ℕ)
 two_inserts = NextEvent Internal 20 ∷ NextEvent Cast 21 ∷ []
+
+-- what `handle` answers to the contents that set timers
+abbrev pub handled_by_setting : ℕ → ℕ → Outcome ℕ ℕ ℕ
+handled_by_setting content held =
+    if content == 22 then KeepStateAndData (Set timer.State (After 0) 0 ∷ Set timer.Event (After 0) 0 ∷ [])
+    else (if content == 23 then KeepStateAndData (Set timer.Event (After 0) 0 ∷ Set timer.State (After 0) 0 ∷ [])
+    else (if content == 24 then KeepStateAndData (Set (timer.Named 5) Infinity 0 ∷ [])
+    else (if content == 25 then KeepStateAndData (Set (timer.Named 1) (After 0) 0 ∷ NextEvent Internal 26 ∷ [])
+    else (if content == 26 then KeepStateAndData (Set (timer.Named 1) (After 5) 0 ∷ [])
+    else (if content == 27 then NextState 1 held (Set timer.State (After 10) 0 ∷ [])
+    else (if content == 28 then KeepStateAndData (Set timer.State (After 5) 0 ∷ [])
+    else (if content == 29 then KeepStateAndData (Set timer.Event (After 5) 0 ∷ [])
+    else (if content == 30 then KeepStateAndData (Set (timer.Named 2) (After 0) 10 ∷ [])
+    else (if content == 31 then KeepStateAndData (Set (timer.Named 1) (After 5) 0 ∷ Set (timer.Named 1) (After 7) 0 ∷ [])
+    else KeepStateAndData [])))))))))
 
 -- what `handle` answers in any state, where the content is not one of those of the first state
 abbrev pub handled_anywhere : ℕ → ℕ → Outcome ℕ ℕ ℕ
@@ -34,7 +51,7 @@ handled_anywhere content held =
     else (if content == 15 then Stop 9 None
     else (if content == 16 then Stop 9 (Some 8)
     else (if content == 17 then StopAndReply 9 ((first_tag, 40) ∷ []) (Some 8)
-    else KeepStateAndData [])))))))))
+    else handled_by_setting content held)))))))))
 
 -- what `handle` answers in the first state
 abbrev pub handled_at_first : ℕ → ℕ → Outcome ℕ ℕ ℕ
@@ -51,6 +68,11 @@ abbrev pub handled_by_table : ℕ → ℕ → ℕ → Outcome ℕ ℕ ℕ
 handled_by_table content state held =
     if state == 0 then handled_at_first content held else handled_anywhere content held
 
+-- three timers are set, two of them for the same time
+abbrev pub three_settings : List (Action ℕ)
+three_settings =
+    Set (timer.Named 1) (After 20) 0 ∷ Set (timer.Named 2) (After 10) 0 ∷ Set (timer.Named 3) (After 20) 0 ∷ []
+
 -- what `init` answers to an argument
 abbrev pub begun_by_table : ℕ → Init ℕ ℕ ℕ
 begun_by_table arg =
@@ -58,4 +80,8 @@ begun_by_table arg =
     else (if arg == 1 then init.Ignore
     else (if arg == 2 then init.Ok 0 7 five_actions
     else (if arg == 3 then init.Ok 0 7 (Postpone true ∷ two_inserts)
-    else init.Stop arg)))
+    else (if arg == 5 then init.Ok 0 7 (Set (timer.Named 5) (After 5) 0 ∷ [])
+    else (if arg == 6 then init.Ok 0 7 (Set (timer.Named 1) (After 4294967295) 0 ∷ [])
+    else (if arg == 7 then init.Ok 0 7 three_settings
+    else (if arg == 8 then init.Ok 0 7 (Set (timer.Named 1) (After 0) 0 ∷ two_inserts)
+    else init.Stop arg)))))))

@@ -7,6 +7,7 @@ use st_events::{Refusal, Refused};
 #[derive(Debug, Drop)]
 pub enum Answer<S, C> {
     Post(Result<u64, Refused<C>>),
+    Tick(Result<u64, Refusal>),
     Turn(Result<Turned<S>, Refusal>),
     Stop(Result<u32, Refusal>),
 }

@@ -7,6 +7,7 @@ use st_events::Reason;
 #[derive(Debug, Drop)]
 pub enum Command<C> {
     Post(Entry, C),
+    Tick(u64),
     Turn(u64),
     Stop(Reason),
 }

@@ -1,18 +1,21 @@
 //! One machine.
-ghost use Rattle.std.specs.Prelude.{◌≡◌, ◌<◌, ◌^◌};
-ghost use Rattle.st_core.specs.Choice.{is_ready_of, waiting_of};
+ghost use Rattle.std.specs.Prelude.{◌≡◌, ◌<◌, ◌^◌, IfOk, IfErr};
+ghost use Rattle.st_events.specs.declared.refusal.Refusal.TheVariants.{NoMemory};
+ghost use Rattle.st_core.specs.Choice.{is_ready_of, waiting_of, timers_of};
 
-use crate::pending::Pending;
-use st_events::{MachineId, Module, Reason};
+use st_agenda::Agenda;
+use st_events::{MachineId, Module, PlainList, Reason, Refusal, Timer};
+use st_timeouts::Due;
 use std::alloc::Global;
 use std::marker::Model;
 
 /// The first moment that is refused, in milliseconds, and the first number that no event gets.
 pub(crate) const LIMIT: u64 = 1 << 63;
 
-/// One machine: a callback module with its state, its data and the events that wait.
+/// One machine: a callback module with its state, its data, the events that wait and the time-outs that
+/// run.
 ///
-/// Contracts see the module and the machine state, a plain value with a list of events.
+/// Contracts see the module and the machine state, a plain value with a list of events and expiries.
 ///
 /// Manual: the introduction, on the state, the data and the event queue.
 #[derive(Drop)]
@@ -22,7 +25,7 @@ pub struct Core<M: Module> {
     pub(crate) id: MachineId,
     pub(crate) state: M::State,
     pub(crate) data: M::Data,
-    pub(crate) pending: Pending<M::Content>,
+    pub(crate) agenda: Agenda<M::Content>,
     pub(crate) latest: u64,
     // The reason and the last word, once the machine has ended.
     pub(crate) ended: Option<(Reason, u32)>,
@@ -40,10 +43,8 @@ impl<M: Module> Model for Core<M> {
         id = core.id;
         state = core.state;
         «data» = core.data;
-        pending = core.pending.items;
-        postponed = core.pending.postponed;
+        schedule = core.agenda.schedule;
         latest = core.latest;
-        next = core.pending.next;
         ended = core.ended;
       };
     } };
@@ -58,7 +59,7 @@ impl<M: Module> Core<M> {
     pub fn is_ready(&self) -> bool
         ensures { result ≡ is_ready_of self.now.machine }
     {
-        self.ended.is_none() && self.pending.peek().is_some()
+        self.ended.is_none() && self.agenda.next_event().is_some()
     }
 
     /// The machine's id.
@@ -98,13 +99,31 @@ impl<M: Module> Core<M> {
         self.latest
     }
 
-    /// How many accepted events are not finished.
+    /// How many accepted events are not finished. A time-out that runs is none, nor is one that has
+    /// expired and was not handled yet.
     ///
     /// Manual: `event_handler_result()`; ours: docs/TRANSITIONS.md, Next event.
     pub fn waiting(&self) -> usize
         ensures { result ≡ waiting_of self.now.machine }
     {
-        self.pending.len()
+        self.agenda.waiting()
+    }
+
+    /// The running time-outs in the order of their requests: timer, number of the event, and when it is
+    /// due, in milliseconds.
+    ///
+    /// Refused with `NoMemory` where memory is wanted.
+    ///
+    /// Manual: `timeout_action()`; ours: docs/TRANSITIONS.md, Time-outs.
+    pub fn timers(&self) -> Result<PlainList<(Timer, u64, Due)>, Refusal>
+        ensures timers { IfOk result (λ timers. timers ≡ timers_of self.now.machine) }
+
+        ensures refusals { IfErr result (λ refusal. refusal ≡ NoMemory) }
+    {
+        match self.agenda.timers() {
+            Ok(timers) => Ok(timers),
+            Err(_) => Err(Refusal::NoMemory),
+        }
     }
 
     /// The reason for which the machine has ended, and its last word; `None` as long as it runs.

@@ -10,14 +10,16 @@ mod engine;
 mod entry;
 mod numbers;
 mod outcomes;
-mod pending;
 mod post;
+mod prepared;
 mod report;
 mod run;
+mod settings;
 mod start;
 mod stop;
 #[cfg(test)]
 mod tests;
+mod tick;
 mod turn;
 mod turned;
 
@@ -28,5 +30,6 @@ pub use done::Done;
 pub use engine::Core;
 pub use entry::Entry;
 pub use report::Report;
+pub use st_timeouts::Due;
 pub use start::Start;
 pub use turned::Turned;

@@ -41,10 +41,10 @@ impl<M: Module> Core<M> {
         if let Some((reason, _)) = self.ended {
             return Err(refused(Refusal::Stopped(reason), content));
         }
-        if self.pending.next() >= LIMIT {
+        if self.agenda.next() >= LIMIT {
             return Err(refused(Refusal::Exhausted, content));
         }
-        match self.pending.push(kind_of(entry), content) {
+        match self.agenda.push(kind_of(entry), content) {
             Ok(number) => Ok(number),
             Err(failed) => Err(refused(Refusal::NoMemory, failed.value)),
         }

@@ -14,6 +14,7 @@ impl<M: Module> Core<M> {
     {
         match command {
             Command::Post(entry, content) => Answer::Post(self.post(entry, content)),
+            Command::Tick(now) => Answer::Tick(self.tick(now)),
             Command::Turn(now) => Answer::Turn(self.turn(now)),
             Command::Stop(reason) => Answer::Stop(self.stop(reason)),
         }

@@ -3,11 +3,13 @@ ghost use Rattle.std.specs.Prelude.{◌≡◌, ◌≤◌, ◌<◌, ◌^◌};
 ghost use Rattle.st_core.specs.Start.{start_of, started_with, Starts, first_state, start_report_of};
 
 use crate::engine::LIMIT;
-use crate::numbers::numbers_from;
-use crate::pending::Pending;
+use crate::prepared::{Prepared, prepare};
 use crate::{Core, Done, Report};
 use st_actions::plan;
-use st_events::{Actions, Init, MachineId, Module, PlainList, Reason, Refusal, Refused};
+use st_agenda::Agenda;
+use st_events::{
+    Actions, Init, MachineId, Module, PlainList, Reason, Refusal, Refused, Time, Timer,
+};
 use std::alloc::Global;
 
 /// What comes of a start.
@@ -30,9 +32,9 @@ fn refused<M>(refusal: Refusal, value: M) -> Refused<M>
     Refused { refusal, value }
 }
 
-/// What a start reports that inserted these events.
-fn start_report<S: Copy>(alloc: Global, state: S, inserted: PlainList<u64>) -> Report<S>
-    ensures { result ≡ start_report_of state inserted }
+/// What a start reports that inserted these events and set these timers.
+fn start_report<S: Copy>(alloc: Global, state: S, prepared: Prepared) -> Report<S>
+    ensures { result ≡ start_report_of state prepared.inserted prepared.set }
 {
     Report {
         event: None,
@@ -41,8 +43,8 @@ fn start_report<S: Copy>(alloc: Global, state: S, inserted: PlainList<u64>) -> R
         before: state,
         after: state,
         replied: PlainList::new(alloc),
-        inserted,
-        set: PlainList::new(alloc),
+        inserted: prepared.inserted,
+        set: prepared.set,
     }
 }
 
@@ -50,11 +52,11 @@ impl<M: Module> Core<M> {
     /// Starts a machine at a moment, in milliseconds: calls the module's `init` on the argument. The
     /// first event gets the number 1.
     ///
-    /// What `init` asks for is done: its events are inserted. There is no event that could be postponed,
-    /// so a Postpone is ignored.
+    /// What `init` asks for is done: its events are inserted, and then its timers are set. There is no event
+    /// that could be postponed, so a Postpone is ignored.
     ///
     /// Refused with `Moment` at 2^63 or later, before `init` is called, with `Exhausted` where too few
-    /// numbers are left for the events that are inserted, and with `NoMemory` where memory is wanted. A
+    /// numbers are left for these events and time-outs, and with `NoMemory` where memory is wanted. A
     /// refusal gives the module back.
     ///
     /// Manual: `start/3`, `Module:init/1`.
@@ -116,28 +118,23 @@ impl<M: Module> Core<M> {
         let Ok(planned) = plan(alloc, actions) else {
             return Err(refused(Refusal::NoMemory, module));
         };
-        let count = planned.inserts.len();
-        if LIMIT - first < count as u64 {
-            return Err(refused(Refusal::Exhausted, module));
-        }
-        let Ok(inserted) = numbers_from(alloc, first, count) else {
-            return Err(refused(Refusal::NoMemory, module));
+        let mut agenda = Agenda::new(alloc, first);
+        let prepared = match prepare(alloc, &mut agenda, &planned) {
+            Ok(prepared) => prepared,
+            Err(refusal) => return Err(refused(refusal, module)),
         };
-        let mut pending = Pending::new(alloc, first);
-        let Ok(()) = pending.stage(count) else {
-            return Err(refused(Refusal::NoMemory, module));
-        };
-        pending.insert(planned.inserts);
+        agenda.insert(planned.inserts);
+        agenda.set_all(now, planned.requests);
         let core = Core {
             alloc,
             module,
             id,
             state,
             data,
-            pending,
+            agenda,
             latest: now,
             ended: None,
         };
-        Ok(Start::Running(core, start_report(alloc, state, inserted)))
+        Ok(Start::Running(core, start_report(alloc, state, prepared)))
     }
 }

@@ -4,12 +4,13 @@ ghost use Rattle.st_core.specs.Callbacks.{callbacks_of};
 ghost use Rattle.st_core.specs.Stop.{stop_of, with_ended};
 
 use crate::Core;
-use crate::pending::Pending;
+use st_agenda::Agenda;
 use st_events::{Module, Reason, Refusal};
 
 impl<M: Module> Core<M> {
     /// Ends the machine at once, before the events that wait: calls the module's `terminate`, keeps
-    /// its word, and answers it. What waits is dropped. The state and the data stay.
+    /// its word, and answers it. What waits is dropped, and no time-out runs any more. The state and the
+    /// data stay.
     ///
     /// Refused with `Stopped` once the machine has ended, which changes nothing. It takes no memory.
     ///
@@ -27,12 +28,12 @@ impl<M: Module> Core<M> {
         Ok(word)
     }
 
-    /// The machine has ended for a reason, with this last word: nothing waits any more.
+    /// The machine has ended for a reason, with this last word: nothing waits or runs any more.
     pub(crate) fn end(&mut self, reason: Reason, word: u32)
         ensures ended { self.new.machine ≡ with_ended self.old.machine reason word }
         ensures unchanged_module { self.new.module_ ≡ self.old.module_ }
     {
-        self.pending = Pending::new(self.alloc, self.pending.next());
+        self.agenda = Agenda::new(self.alloc, self.agenda.next());
         self.ended = Some((reason, word));
     }
 }

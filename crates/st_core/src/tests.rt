@@ -10,6 +10,7 @@ mod stops;
 mod table;
 mod table_machine;
 mod tested;
+mod timeouts;
 
 /// Says so where no allocation of this test was refused: then one of those that follow is.
 fn tell_refusals(rt: HostRuntime) {

@@ -1,17 +1,18 @@
 //! One turn: the next event is handled, and the machine changes. The steps stand in the manual's
 //! order; what can fail is done before anything changes.
 ghost use Rattle.std.specs.Prelude.{◌≡◌, ◌<◌, ◌^◌, [], ◌∷◌, Some, IfOk, OnErr};
+ghost use Rattle.std.specs.Option.{option_map};
 ghost use Rattle.st_core.specs.declared.call.Call.TheVariants.{Handle};
 ghost use Rattle.st_core.specs.Callbacks.{callbacks_of, called_with};
-ghost use Rattle.st_core.specs.Items.{next_number_of};
-ghost use Rattle.st_core.specs.Transition.{with_moment, with_received, done_by, went_on, stopped, turn_of};
+ghost use Rattle.st_core.specs.Choice.{next_event_of};
+ghost use Rattle.st_core.specs.Transition.{with_moment, done_by, went_on, stopped, turn_of};
 ghost use Rattle.st_core.specs.Run.{Meets, turn_takes_memory, turn_without_memory};
 
 use crate::engine::LIMIT;
-use crate::numbers::numbers_from;
 use crate::outcomes::{
     changes_state, data_after, reason_of, replace_data, state_after, take_actions,
 };
+use crate::prepared::prepare;
 use crate::{Call, Core, Done, Report, Turned};
 use st_actions::plan;
 use st_events::{Kind, Module, Outcome, PlainList, Reason, Refusal};
@@ -60,10 +61,10 @@ impl<M: Module> Core<M> {
     /// counts as the latest.
     ///
     /// Refused with `Stopped` once the machine has ended, with `Moment` at 2^63 or later, with
-    /// `Exhausted` where too few numbers are left for the events that are inserted, and with `NoMemory`
-    /// where memory is wanted, which it is only where there is an event. A refusal changes nothing, the
-    /// latest moment included, and a turn that was refused for memory may be tried again with the same
-    /// result.
+    /// `Exhausted` where too few numbers are left for the events that are inserted and for the time-outs
+    /// that are set, and with `NoMemory` where memory is wanted, which it is only where there is an event.
+    /// A refusal changes nothing, the latest moment included, and a turn that was refused for memory may
+    /// be tried again with the same result.
     ///
     /// Manual: `transition_option()`, the steps of a state transition.
     pub fn turn(&mut self, now: u64) -> Result<Turned<M::State>, Refusal>
@@ -78,23 +79,18 @@ impl<M: Module> Core<M> {
         if now >= LIMIT {
             return Err(Refusal::Moment);
         }
-        let (number, kind, outcome) = match self.pending.peek() {
-            None => {
-                self.latest = self.latest.max(now);
-                return Ok(Turned::Idle);
-            }
-            Some(event) => {
-                match self.module.handle(
-                    self.alloc,
-                    event.kind,
-                    &event.content,
-                    self.state,
-                    &self.data,
-                ) {
-                    Ok(outcome) => (event.number, event.kind, outcome),
-                    Err(_) => return Err(Refusal::NoMemory),
-                }
-            }
+        let Some((number, kind)) = self.agenda.next_event() else {
+            self.latest = self.latest.max(now);
+            return Ok(Turned::Idle);
+        };
+        let Some(content) = self.agenda.next_content() else {
+            unreachable!()
+        };
+        let Ok(outcome) = self
+            .module
+            .handle(self.alloc, kind, content, self.state, &self.data)
+        else {
+            return Err(Refusal::NoMemory);
         };
         match reason_of(&outcome) {
             None => self.go_on(now, number, kind, outcome),
@@ -111,9 +107,9 @@ impl<M: Module> Core<M> {
         mut outcome: OutcomeOf<M>,
     ) -> Result<Turned<M::State>, Refusal>
         requires moment { now < 2 ^ 63 }
-        requires number_is { next_number_of self.old.machine.postponed self.old.machine.pending ≡ Some number }
+        requires number_is { option_map (λ event. event.number) (next_event_of self.old.machine) ≡ Some number }
         ensures step { Meets turn_takes_memory turn_without_memory result self.old.machine self.new.machine
-            (went_on self.old.machine (with_received (with_moment self.old.machine now)) number
+            (went_on self.old.machine (with_moment self.old.machine now) number
             (called_with M.State.eq (Handle number kind self.old.machine.state ∷ []) self.old.machine.state self.old.machine.data outcome)) }
         ensures unchanged_module { self.new.module_ ≡ self.old.module_ }
 
@@ -122,14 +118,6 @@ impl<M: Module> Core<M> {
         let before = self.state;
         let after = state_after(before, &outcome);
         let changed = changes_state(before, &outcome);
-        let actions = take_actions(self.alloc, &mut outcome);
-        let Ok(planned) = plan(self.alloc, actions) else {
-            return Err(Refusal::NoMemory);
-        };
-        let count = planned.inserts.len();
-        if LIMIT - self.pending.next() < count as u64 {
-            return Err(Refusal::Exhausted);
-        }
         let handle = Call::Handle {
             number,
             kind,
@@ -138,27 +126,36 @@ impl<M: Module> Core<M> {
         let Ok(calls) = one_call(self.alloc, handle) else {
             return Err(Refusal::NoMemory);
         };
-        let Ok(inserted) = numbers_from(self.alloc, self.pending.next(), count) else {
+        let actions = take_actions(self.alloc, &mut outcome);
+        let Ok(planned) = plan(self.alloc, actions) else {
             return Err(Refusal::NoMemory);
         };
-        let Ok(()) = self.pending.stage(count) else {
-            return Err(Refusal::NoMemory);
+        let prepared = match prepare(self.alloc, &mut self.agenda, &planned) {
+            Ok(prepared) => prepared,
+            Err(refusal) => return Err(refusal),
         };
         // Nothing fails from here on.
         self.latest = self.latest.max(now);
         self.state = after;
         replace_data(&mut self.data, outcome);
-        self.pending
-            .settle(number, planned.postpone, changed, planned.inserts);
+        let done = done_by(planned.postpone);
+        self.agenda.settle(
+            self.latest,
+            number,
+            planned.postpone,
+            changed,
+            planned.inserts,
+            planned.requests,
+        );
         Ok(Turned::Reported(Report {
             event: Some(number),
-            done: done_by(planned.postpone),
+            done,
             calls,
             before,
             after,
             replied: PlainList::new(self.alloc),
-            inserted,
-            set: PlainList::new(self.alloc),
+            inserted: prepared.inserted,
+            set: prepared.set,
         }))
     }
 
@@ -173,7 +170,7 @@ impl<M: Module> Core<M> {
     ) -> Result<Turned<M::State>, Refusal>
         requires moment { now < 2 ^ 63 }
         ensures step { Meets turn_takes_memory turn_without_memory result self.old.machine self.new.machine
-            (stopped (callbacks_of M.Module M.State.eq self.old.module_) (with_received (with_moment self.old.machine now)) number
+            (stopped (callbacks_of M.Module M.State.eq self.old.module_) (with_moment self.old.machine now) number
             (called_with M.State.eq (Handle number kind self.old.machine.state ∷ []) self.old.machine.state self.old.machine.data outcome) reason) }
         ensures unchanged_module { self.new.module_ ≡ self.old.module_ }
 

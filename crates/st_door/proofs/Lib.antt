@@ -5,5 +5,6 @@ pub mod DoorLemmas
 pub mod PrintingLemmas
 pub mod ScriptStateLemmas
 pub mod SettlingLemmas
+pub mod TickingLemmas
 pub mod ScriptLemmas
 pub mod WorkedScripts

@@ -165,7 +165,7 @@ cases_ended (Some end) = inr (end, refl)
 -- a refused post leaves the door as it was
 pressed-refused : (digit : ℕ) (door : NamedDoor) (refusal : Refusal) → refusal_of (press_of digit door).0 ≡ Some refusal → pressed_door digit door ≡ door
 pressed-refused digit door refusal refused = elim (cases_ended door.machine.ended) [
-  | inl runs ↦ elim (cases_Bool (nat_lt door.machine.next (2 ^ 63))) [
+  | inl runs ↦ elim (cases_Bool (nat_lt door.machine.schedule.next (2 ^ 63))) [
     | inl room ↦ let none = rw (runs, room) at refused in cc
     | inr full ↦ rw (runs, full) refl
   ]
@@ -202,7 +202,7 @@ button-done script name digit place first accepted =
 
 -- a post keeps the machine's id
 id-post_running : (machine : DoorMachine) (digit : ℕ) → (post_running machine Cast (Button digit)).1.id ≡ machine.id
-id-post_running machine digit = elim (cases_Bool (nat_lt machine.next (2 ^ 63))) [
+id-post_running machine digit = elim (cases_Bool (nat_lt machine.schedule.next (2 ^ 63))) [
   | inl room ↦ rw room refl
   | inr full ↦ rw full refl
 ]

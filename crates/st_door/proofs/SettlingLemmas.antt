@@ -6,7 +6,7 @@ use Rattle.std.proofs.lemmas.List.{get_or-set_other, get_or_default, length-set}
 use Rattle.st_core.specs.Choice.{next_event_of}
 use Rattle.st_core.specs.Callbacks.{Called, called_of}
 use Rattle.st_core.specs.Stop.{unless_ended}
-use Rattle.st_core.specs.Transition.{turn_of, turn_running, transition_of, with_moment, with_received, settled, went_on, has_numbers}
+use Rattle.st_core.specs.Transition.{turn_of, turn_running, transition_of, with_moment, settled, went_on, has_numbers}
 use Rattle.st_core.specs.Start.{first_state}
 use Rattle.st_events.specs.declared.event.Event.{Event}
 use Rattle.st_events.specs.declared.machine_id.MachineId.{MachineId}
@@ -73,9 +73,8 @@ id-transition : (old machine : DoorMachine) (next : Option (Event DoorContent)) 
     → (transition_of door_callbacks old machine next).1.id ≡ machine.id
 id-transition old machine None same = refl
 id-transition old machine (Some event) same =
-    let received = with_received machine in
-    let called = called_of door_callbacks received event in
-    id-settled old received event.number called called.reason same
+    let called = called_of door_callbacks machine event in
+    id-settled old machine event.number called called.reason same
 
 id-running : (machine : DoorMachine) (moment : ℕ) → (turn_running door_callbacks machine moment).1.id ≡ machine.id
 id-running machine moment = elim (cases_Bool (nat_lt moment (2 ^ 63))) [

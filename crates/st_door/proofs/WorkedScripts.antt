@@ -127,6 +127,114 @@ postponing_status : status_of_script postponing ≡ 0
 unfolding run_until_idle
 postponing_status = refl
 
+-- the button waits until the door is locked again, and then counts
+abbrev pub retrying : List ℕ
+retrying =
+    text_of_lines (
+    codes "new front 12"
+    ∷ codes "button front 1"
+    ∷ codes "button front 2"
+    ∷ codes "button front 1"
+    ∷ codes "at 10000"
+    ∷ codes "show front"
+    ∷ codes "button front 2" ∷ [])
+
+a_postponed_button_counts_later : output_of retrying
+    ≡ text_of_lines (
+    codes "front locked buttons 0 waiting 0"
+    ∷ codes "front locked buttons 1 waiting 0"
+    ∷ codes "front open buttons 0 waiting 0"
+    ∷ codes "front open buttons 0 waiting 1"
+    ∷ codes "at 10000 expired 1"
+    ∷ codes "front locked buttons 1 waiting 0"
+    ∷ codes "front open buttons 0 waiting 0" ∷ [])
+unfolding run_until_idle digits
+a_postponed_button_counts_later = refl
+
+retrying_status : status_of_script retrying ≡ 0
+unfolding run_until_idle
+retrying_status = refl
+
+-- the buttons of a locked door are forgotten 30,000 milliseconds after the last one, and not before
+abbrev pub forgetting : List ℕ
+forgetting = text_of_lines (codes "new a 12" ∷ codes "button a 1" ∷ codes "at 29999" ∷ codes "at 30000" ∷ codes "show a" ∷ [])
+
+buttons_are_forgotten : output_of forgetting
+    ≡ text_of_lines (
+    codes "a locked buttons 0 waiting 0"
+    ∷ codes "a locked buttons 1 waiting 0"
+    ∷ codes "at 29999 expired 0"
+    ∷ codes "at 30000 expired 1"
+    ∷ codes "a locked buttons 0 waiting 0" ∷ [])
+unfolding run_until_idle digits
+buttons_are_forgotten = refl
+
+forgetting_status : status_of_script forgetting ≡ 0
+unfolding run_until_idle
+forgetting_status = refl
+
+-- what a moment may be; no moment goes back, and what is refused changes nothing
+abbrev pub moments : List ℕ
+moments =
+    text_of_lines (
+    codes "at 9223372036854775808"
+    ∷ codes "at 10"
+    ∷ codes "at 5"
+    ∷ codes "at 18446744073709551615"
+    ∷ codes "at 18446744073709551616"
+    ∷ codes "at 00000000000000000011"
+    ∷ codes "at 000000000000000000012"
+    ∷ codes "at"
+    ∷ codes "at 9223372036854775807" ∷ [])
+
+moments_go_on : output_of moments
+    ≡ text_of_lines (
+    codes "line 1 refused 4"
+    ∷ codes "at 10 expired 0"
+    ∷ codes "at 10 expired 0"
+    ∷ codes "line 4 refused 4"
+    ∷ codes "line 5 malformed"
+    ∷ codes "at 11 expired 0"
+    ∷ codes "line 7 malformed"
+    ∷ codes "line 8 malformed"
+    ∷ codes "at 9223372036854775807 expired 0" ∷ [])
+unfolding run_until_idle digits
+moments_go_on = refl
+
+moments_status : status_of_script moments ≡ 1
+unfolding run_until_idle
+moments_status = refl
+
+-- each door that has not ended is ticked
+abbrev pub three_doors : List ℕ
+three_doors =
+    text_of_lines (
+    codes "new a 12"
+    ∷ codes "new b 12"
+    ∷ codes "new c 12"
+    ∷ codes "button a 1"
+    ∷ codes "button b 1"
+    ∷ codes "button c 1"
+    ∷ codes "stop c 7"
+    ∷ codes "at 30000"
+    ∷ codes "show b"
+    ∷ codes "show c" ∷ [])
+
+every_door_is_ticked : output_of three_doors
+    ≡ text_of_lines (
+    codes "a locked buttons 0 waiting 0"
+    ∷ codes "b locked buttons 0 waiting 0"
+    ∷ codes "c locked buttons 0 waiting 0"
+    ∷ codes "a locked buttons 1 waiting 0"
+    ∷ codes "b locked buttons 1 waiting 0"
+    ∷ codes "c locked buttons 1 waiting 0"
+    ∷ codes "c stopped 7 word 1"
+    ∷ codes "at 30000 expired 2"
+    ∷ codes "b locked buttons 0 waiting 0"
+    ∷ codes "c stopped 7 word 1" ∷ [])
+unfolding run_until_idle digits
+every_door_is_ticked = refl
+
 -- what a reason may be, and what is refused of a name that is not there and of a door that has ended
 abbrev reasons : List ℕ
 reasons =

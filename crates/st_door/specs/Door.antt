@@ -1,6 +1,7 @@
 -- The door module: what `init`, `handle` and `terminate` answer, an equation for each row of its table.
 use Rattle.std.specs.Prelude.{ℕ, Bool, true, false, List, [], ◌∷◌, ◌++◌, drop, length, nat_lt, bytes_eq, if◌then◌else◌}
-use Rattle.st_events.specs.declared.action.Action.TheVariants.{Reply, Postpone}
+use Rattle.st_events.specs.declared.action.Action.{Action}
+use Rattle.st_events.specs.declared.action.Action.TheVariants.{Reply, Postpone, Set}
 use Rattle.st_events.specs.declared.init.Init.{Init}
 use Rattle.st_events.specs.declared.init.Init.TheVariants as init
 use Rattle.st_events.specs.declared.kind.Kind.{Kind}
@@ -8,6 +9,7 @@ use Rattle.st_events.specs.declared.kind.Kind.TheVariants.{Call, Cast, Info, Tim
 use Rattle.st_events.specs.declared.outcome.Outcome.{Outcome}
 use Rattle.st_events.specs.declared.outcome.Outcome.TheVariants.{NextState, KeepStateAndData}
 use Rattle.st_events.specs.declared.tag.Tag.{Tag}
+use Rattle.st_events.specs.declared.time.Time.TheVariants.{After}
 use Rattle.st_events.specs.declared.timer.Timer.{Timer}
 use Rattle.st_events.specs.declared.timer.Timer.TheVariants as timer
 use Rattle.st_door.specs.declared.door_content.DoorContent.{DoorContent}
@@ -31,12 +33,20 @@ with_button code buttons digit =
 abbrev pub without_buttons : DoorData → DoorData
 without_buttons held = record { code = held.code; buttons = [] }
 
+-- the event time-out: the buttons are forgotten after 30,000 milliseconds in which no event came
+abbrev pub buttons_run_out : Action DoorContent
+buttons_run_out = Set timer.Event (After 30000) Nothing
+
+-- the state time-out: an open door is locked again after 10,000 milliseconds
+abbrev pub locks_again : Action DoorContent
+locks_again = Set timer.State (After 10000) Nothing
+
 -- a locked door opens where its buttons are the code, and else keeps them
 abbrev pub unlocked_by : DoorData → List ℕ → DoorOutcome
 unlocked_by held buttons =
     if bytes_eq buttons held.code
-    then NextState Open (without_buttons held) []
-    else NextState Locked (record { code = held.code; buttons = buttons }) []
+    then NextState Open (without_buttons held) (locks_again ∷ [])
+    else NextState Locked (record { code = held.code; buttons = buttons }) (buttons_run_out ∷ [])
 
 -- a button of a locked door
 abbrev pub pressed : DoorData → ℕ → DoorOutcome

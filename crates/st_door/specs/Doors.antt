@@ -1,11 +1,12 @@
 -- The doors of a script, in order of registration.
 use Rattle.std.specs.Prelude.{◌≡◌, ℕ, zero, suc, ◌+◌, ◌<◌, ◌≤◌, ◌⊎◌, Bool, true, false, List, [], ◌∷◌, Option, Some, None, Result, Ok, Err, map, find, length, bytes_eq, slice_index_or, ◌==◌, if◌then◌else◌}
-use Rattle.std.specs.List.{list_any}
+use Rattle.std.specs.List.{list_any, sum_by}
 use Rattle.st_core.specs.MachineState.{MachineState}
 use Rattle.st_core.specs.Callbacks.{Callbacks}
 use Rattle.st_core.specs.Choice.{is_ready_of}
 use Rattle.st_core.specs.Post.{post_of}
 use Rattle.st_core.specs.Stop.{stop_of}
+use Rattle.st_core.specs.Tick.{tick_of}
 use Rattle.st_core.specs.Transition.{turn_of}
 use Rattle.st_core.specs.declared.entry.Entry.TheVariants.{Cast}
 use Rattle.st_door.specs.declared.door_content.DoorContent.TheVariants.{Button}
@@ -91,6 +92,31 @@ door_stop_of reason door = stop_of door_callbacks door.machine reason
 -- the door after it
 abbrev pub ended_door : ℕ → NamedDoor → NamedDoor
 ended_door reason door = door_named door.name (door_stop_of reason door).1
+
+-- how many time-outs expire at a tick: none where it is refused, as that of an ended door is
+abbrev pub count_of : Result ℕ Refusal → ℕ
+count_of (Ok count) = count
+count_of (Err refusal) = 0
+
+-- the door is ticked at a moment: what the tick answers, and the machine after it
+abbrev pub door_tick_of : ℕ → NamedDoor → Result ℕ Refusal × DoorMachine
+door_tick_of moment door = tick_of door.machine moment
+
+-- the door after it; one that has ended stays as it is
+abbrev pub ticked_door : ℕ → NamedDoor → NamedDoor
+ticked_door moment door = door_named door.name (door_tick_of moment door).1
+
+-- how many of its time-outs expire at it
+abbrev pub expired_of : ℕ → NamedDoor → ℕ
+expired_of moment door = count_of (door_tick_of moment door).0
+
+-- the doors, each ticked at a moment
+abbrev pub ticked_doors : ℕ → List NamedDoor → List NamedDoor
+ticked_doors moment doors = map (ticked_door moment) doors
+
+-- how many time-outs of the doors expire at it
+abbrev pub all_expired_of : ℕ → List NamedDoor → ℕ
+all_expired_of moment doors = sum_by (expired_of moment) doors
 
 -- as long as a door is ready, the first ready one gets a turn, at most so many times
 unfoldable pub run_until_idle : ℕ → ℕ → List NamedDoor → List NamedDoor

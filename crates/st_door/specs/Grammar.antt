@@ -1,7 +1,7 @@
 -- What a line says.
 use Rattle.std.specs.Prelude.{ℕ, Bool, false, ◌&&◌, ◌==◌, ◌-◌, nat_lt, List, [], ◌∷◌, length, if◌then◌else◌, bytes_eq, codes}
 use Rattle.st_door.specs.declared.line.Line.{Line}
-use Rattle.st_door.specs.declared.line.Line.TheVariants.{Blank, Malformed, New, Button, Show, Stop, Names}
+use Rattle.st_door.specs.declared.line.Line.TheVariants.{Blank, Malformed, New, Button, Show, At, Stop, Names}
 use Rattle.st_door.specs.Lines.{words}
 use Rattle.st_door.specs.WordForms.{digit_zero, is_name, is_digits, digits_of, is_number, number_of}
 
@@ -20,6 +20,14 @@ reason_limit = 10
 -- the greatest reason
 abbrev pub greatest_reason : ℕ
 greatest_reason = 4294967295
+
+-- how many digits a moment may have
+abbrev pub moment_limit : ℕ
+moment_limit = 20
+
+-- the greatest moment that has a form
+abbrev pub greatest_moment : ℕ
+greatest_moment = 18446744073709551615
 
 -- the byte that begins a comment
 abbrev pub number_sign : ℕ
@@ -41,6 +49,11 @@ button_of _ = Malformed
 abbrev pub show_of : List (List ℕ) → Line
 show_of (name ∷ []) = if is_name name then Show name else Malformed
 show_of _ = Malformed
+
+-- `at`, after which a moment stands
+abbrev pub at_of : List (List ℕ) → Line
+at_of (moment ∷ []) = if is_number moment_limit greatest_moment moment then At (number_of moment) else Malformed
+at_of _ = Malformed
 
 -- `stop`, after which a name and a reason stand
 abbrev pub stop_of : List (List ℕ) → Line
@@ -65,9 +78,10 @@ command_of verb args =
     else (if bytes_eq verb (codes "new") then new_of args
     else (if bytes_eq verb (codes "button") then button_of args
     else (if bytes_eq verb (codes "show") then show_of args
+    else (if bytes_eq verb (codes "at") then at_of args
     else (if bytes_eq verb (codes "stop") then stop_of args
     else (if bytes_eq verb (codes "names") then names_of args
-    else Malformed)))))
+    else Malformed))))))
 
 -- what the words of a line say
 abbrev pub line_of_words : List (List ℕ) → Line

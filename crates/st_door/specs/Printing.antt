@@ -34,6 +34,10 @@ status_of door = status_by door door.machine.ended
 abbrev pub names_text : List NamedDoor → List ℕ
 names_text doors = (codes "names" ++ flat_map (λ door. space ∷ door.name) doors) ++ line_feed ∷ []
 
+-- which moment it is, and how many time-outs expired
+abbrev pub expired_text : ℕ → ℕ → List ℕ
+expired_text moment expired = codes "at " ++ (decimal moment ++ (codes " expired " ++ (decimal expired ++ line_feed ∷ [])))
+
 -- that the line of a number was refused
 abbrev pub refused_text : ℕ → ℕ → List ℕ
 refused_text number refusal = codes "line " ++ (decimal number ++ (codes " refused " ++ (decimal refusal ++ line_feed ∷ [])))

@@ -1,11 +1,11 @@
 -- A script: its output and its status as functions of its bytes.
-use Rattle.std.specs.Prelude.{◌≡◌, ℕ, ◌+◌, Bool, true, false, ◌||◌, nat_lt, List, [], ◌∷◌, ◌++◌, length, Option, Some, None, Result, Ok, Err, if◌then◌else◌}
+use Rattle.std.specs.Prelude.{◌≡◌, ℕ, ◌+◌, ◌^◌, Bool, true, false, ◌||◌, max, nat_lt, List, [], ◌∷◌, ◌++◌, length, Option, Some, None, Result, Ok, Err, if◌then◌else◌}
 use Rattle.std.specs.Io.KnownBytes.{Appends, Consumes}
 use Rattle.std.specs.Option.{option_map_or}
 use Rattle.st_events.specs.Refusal.{number_of}
 use Rattle.st_events.specs.declared.machine_id.MachineId.{MachineId}
 use Rattle.st_events.specs.declared.refusal.Refusal.{Refusal}
-use Rattle.st_events.specs.declared.refusal.Refusal.TheVariants.{AlreadyStarted, NoSuchName, Full}
+use Rattle.st_events.specs.declared.refusal.Refusal.TheVariants.{AlreadyStarted, Moment, NoSuchName, Full}
 use Rattle.st_events.specs.declared.refused.Refused.{Refused}
 use Rattle.st_core.specs.declared.start.Start.{Start}
 use Rattle.st_core.specs.declared.start.Start.TheVariants.{Running, Ignored, Stopped}
@@ -19,10 +19,10 @@ use Rattle.st_door.specs.declared.line.Line.TheVariants as line
 use Rattle.st_door.specs.declared.reply.Reply.{Reply}
 use Rattle.st_door.specs.declared.reply.Reply.TheVariants.{Silent, Printed, Refuses, Malformed}
 use Rattle.st_door.specs.Door.{init_of}
-use Rattle.st_door.specs.Doors.{NamedDoor, DoorMachine, door_limit, door_of, with_machine, free_slot_of, run_until_idle, press_of, refusal_of, door_stop_of, stop_refusal_of}
+use Rattle.st_door.specs.Doors.{NamedDoor, DoorMachine, door_limit, door_of, with_machine, free_slot_of, run_until_idle, press_of, refusal_of, door_stop_of, stop_refusal_of, all_expired_of, ticked_doors}
 use Rattle.st_door.specs.Grammar.{line_of}
 use Rattle.st_door.specs.Lines.{lines}
-use Rattle.st_door.specs.Printing.{status_of, names_text, refused_text, malformed_text}
+use Rattle.st_door.specs.Printing.{status_of, names_text, expired_text, refused_text, malformed_text}
 
 -- the doors in order of registration, the script's moment, and how many starts have succeeded
 pub record ScriptState : Type 0 where
@@ -92,6 +92,15 @@ abbrev pub shown_door : ScriptState → Option NamedDoor → Result ScriptState 
 shown_door script None = Err NoSuchName
 shown_door script (Some door) = Ok script
 
+-- the script at a moment, at which its doors were ticked
+abbrev pub ticked_script : ScriptState → ℕ → ScriptState
+ticked_script script moment = record script { doors = ticked_doors moment script.doors; moment = moment }
+
+-- `at`: a moment of 2^63 or later is refused; else the script is at it, or at its own where that is later
+abbrev pub passed_to : ScriptState → ℕ → Result ScriptState Refusal
+passed_to script moment =
+    if nat_lt moment (2 ^ 63) then Ok (ticked_script script (max script.moment moment)) else Err Moment
+
 -- the action of a line: the script after it, or why it is refused
 abbrev pub acted_of : ScriptState → Line → Result ScriptState Refusal
 acted_of script line.Blank = Ok script
@@ -99,6 +108,7 @@ acted_of script line.Malformed = Ok script
 acted_of script (line.New name code) = new_door script name code (door_of name script.doors)
 acted_of script (line.Button name digit) = pressed_button script name digit (door_of name script.doors)
 acted_of script (line.Show name) = shown_door script (door_of name script.doors)
+acted_of script (line.At moment) = passed_to script moment
 acted_of script (line.Stop name reason) = stopped_door script name reason (door_of name script.doors)
 acted_of script line.Names = Ok script
 
@@ -110,20 +120,22 @@ rested_of script = record script { doors = run_until_idle turn_limit script.mome
 abbrev pub named_status_of : ScriptState → List ℕ → List ℕ
 named_status_of script name = option_map_or status_of (door_of name script.doors) []
 
--- what a line prints that was not refused, once the doors rest
-abbrev pub text_of : ScriptState → Line → List ℕ
-text_of script line.Blank = []
-text_of script line.Malformed = []
-text_of script (line.New name code) = named_status_of script name
-text_of script (line.Button name digit) = named_status_of script name
-text_of script (line.Show name) = named_status_of script name
-text_of script (line.Stop name reason) = named_status_of script name
-text_of script line.Names = names_text script.doors
+-- what a line prints that was not refused, by the script before it and the script once the doors rest;
+-- `at` counts the time-outs of the doors as they were before it
+abbrev pub text_of : ScriptState → ScriptState → Line → List ℕ
+text_of before script line.Blank = []
+text_of before script line.Malformed = []
+text_of before script (line.New name code) = named_status_of script name
+text_of before script (line.Button name digit) = named_status_of script name
+text_of before script (line.Show name) = named_status_of script name
+text_of before script (line.At moment) = expired_text script.moment (all_expired_of script.moment before.doors)
+text_of before script (line.Stop name reason) = named_status_of script name
+text_of before script line.Names = names_text script.doors
 
 -- a line that is refused changes nothing; else the doors run until they rest, and then it prints
 abbrev pub settled_of : ScriptState → Line → Result ScriptState Refusal → Reply × ScriptState
 settled_of script said (Err refusal) = (Refuses refusal, script)
-settled_of script said (Ok acted) = (Printed (text_of (rested_of acted) said), rested_of acted)
+settled_of script said (Ok acted) = (Printed (text_of script (rested_of acted) said), rested_of acted)
 
 -- what a line brings about, and the script after it; a line that says nothing does nothing
 abbrev pub step_of : ScriptState → Line → Reply × ScriptState
@@ -132,6 +144,7 @@ step_of script line.Malformed = (Malformed, script)
 step_of script (line.New name code) = settled_of script (line.New name code) (acted_of script (line.New name code))
 step_of script (line.Button name digit) = settled_of script (line.Button name digit) (acted_of script (line.Button name digit))
 step_of script (line.Show name) = settled_of script (line.Show name) (acted_of script (line.Show name))
+step_of script (line.At moment) = settled_of script (line.At moment) (acted_of script (line.At moment))
 step_of script (line.Stop name reason) = settled_of script (line.Stop name reason) (acted_of script (line.Stop name reason))
 step_of script line.Names = settled_of script line.Names (acted_of script line.Names)
 

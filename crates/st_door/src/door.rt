@@ -1,16 +1,27 @@
 //! The example module: a door with a code lock.
-ghost use Rattle.std.specs.Prelude.{◌≡◌, IfOk};
+ghost use Rattle.std.specs.Prelude.{◌≡◌, ◌∷◌, [], IfOk};
 ghost use Rattle.std.proofs.Common.{rules};
+ghost use Rattle.st_events.specs.declared.action.Action.TheVariants.{Set};
+ghost use Rattle.st_events.specs.declared.time.Time.TheVariants.{After};
+ghost use Rattle.st_door.specs.declared.door_content.DoorContent.TheVariants.{Nothing};
 ghost use Rattle.st_door.specs.Door.{init_of, handle_of, terminate_of, cast_of, timeout_of, call_of, pressed, with_button};
 
 use crate::{Digits, DoorContent, DoorData, DoorState};
-use st_events::{Action, Actions, Init, Kind, Module, Outcome, Reason, Tag, Timer};
+use st_events::{Action, Actions, Init, Kind, Module, Outcome, Reason, Tag, Time, Timer};
 use std::alloc::{AllocError, Global};
+
+/// After how many milliseconds without an event a locked door forgets its buttons.
+const BUTTONS_TIME: u32 = 30_000;
+
+/// How many milliseconds a door stays open.
+const OPEN_TIME: u32 = 10_000;
 
 /// What the door's `handle` answers.
 type DoorOutcome = Outcome<DoorState, DoorData, DoorContent>;
 
-/// A door that opens on a code. It is locked at first; buttons that make up the code open it.
+/// A door that opens on a code. It is locked at first; buttons that make up the code open it. After
+/// 10,000 milliseconds it is locked again. While it is locked, its buttons are forgotten after 30,000
+/// milliseconds in which no event came.
 #[derive(Debug, Drop)]
 pub struct Door;
 
@@ -39,17 +50,29 @@ fn with_buttons(alloc: Global, data: &DoorData, buttons: Digits) -> Result<DoorD
     Ok(DoorData { code, buttons })
 }
 
-/// A button in `Locked`: it opens the door where it completes the code.
+/// The list of one action, that sets a timer to so many milliseconds.
+fn setting(alloc: Global, timer: Timer, time: u32) -> Result<Actions<DoorContent>, AllocError>
+    ensures { IfOk result (λ actions. actions ≡ Set timer (After time) Nothing ∷ []) }
+{
+    let mut actions = Actions::new(alloc);
+    actions.push(Action::Set(timer, Time::After(time), DoorContent::Nothing))?;
+    Ok(actions)
+}
+
+/// A button in `Locked`: it opens the door for 10,000 milliseconds where it completes the code, and else
+/// counts for 30,000 milliseconds in which no other event comes.
 fn pressed(alloc: Global, data: &DoorData, digit: u8) -> Result<DoorOutcome, AllocError>
     ensures { IfOk result (λ outcome. outcome ≡ pressed «data».now digit) }
 {
     let buttons = with_button(alloc, data.code.as_slice(), data.buttons.as_slice(), digit)?;
     if buttons.as_slice() == data.code.as_slice() {
         let data = with_buttons(alloc, data, Digits::new(alloc))?;
-        Ok(Outcome::NextState(DoorState::Open, data, Actions::new(alloc)))
+        let actions = setting(alloc, Timer::State, OPEN_TIME)?;
+        Ok(Outcome::NextState(DoorState::Open, data, actions))
     } else {
         let data = with_buttons(alloc, data, buttons)?;
-        Ok(Outcome::NextState(DoorState::Locked, data, Actions::new(alloc)))
+        let actions = setting(alloc, Timer::Event, BUTTONS_TIME)?;
+        Ok(Outcome::NextState(DoorState::Locked, data, actions))
     }
 }
 
@@ -179,6 +202,8 @@ impl Module for Door {
     ghost replies_fit = { Prim.search rules };
 
     ghost inserts_fit = { Prim.search rules };
+
+    ghost settings_fit = { Prim.search rules };
 
     ghost planned_fits = { Prim.search rules };
 }

@@ -1,11 +1,12 @@
 //! The doors of a script, by name, in order of registration.
-ghost use Rattle.std.specs.Prelude.{◌≡◌, ◌<◌, [], ◌∷◌, ◌++◌, None, IfOk, OnOk, OnErr, IfSome, IfNone, length, slice_set, slice_index_or, string_bytes};
+ghost use Rattle.std.specs.Prelude.{◌≡◌, ◌<◌, ◌≤◌, [], ◌∷◌, ◌++◌, None, IfOk, OnOk, OnErr, IfSome, IfNone, length, slice_set, slice_index_or, string_bytes};
 ghost use Rattle.st_core.specs.Post.{post_of};
 ghost use Rattle.st_core.specs.Stop.{stop_of};
+ghost use Rattle.st_core.specs.Tick.{tick_of};
 ghost use Rattle.st_core.specs.Transition.{turn_of};
 ghost use Rattle.st_core.specs.declared.entry.Entry.TheVariants.{Cast};
 ghost use Rattle.st_door.specs.declared.door_content.DoorContent.TheVariants.{Button};
-ghost use Rattle.st_door.specs.Doors.{NamedDoor, door_named, IsFirst, has_name, door_of, is_ready_door, turned_door, press_of, pressed_door, refusal_of, door_stop_of, ended_door, stop_refusal_of, door_callbacks};
+ghost use Rattle.st_door.specs.Doors.{NamedDoor, door_named, IsFirst, has_name, door_of, is_ready_door, turned_door, press_of, pressed_door, refusal_of, door_stop_of, ended_door, stop_refusal_of, door_callbacks, count_of, expired_of, ticked_door, all_expired_of, ticked_doors, SameLabels, door_limit};
 ghost use Rattle.st_door.specs.Printing.{status_of, names_text};
 
 use crate::printing::{ended_status, status};
@@ -121,6 +122,35 @@ impl Doors {
         press(core, digit)
     }
 
+    /// Ticks the door at a place, and answers how many of its time-outs expire. One that has ended is not
+    /// ticked. Where memory is wanted and there is none, the doors stay.
+    fn tick_at(&mut self, place: usize, moment: u64) -> Result<u64, AllocError>
+        requires { place < length self.old }
+        ensures count { IfOk result (λ count. (d : NamedDoor) → count ≡ expired_of moment (slice_index_or self.old place d)) }
+        ensures ticked { OnOk result ((d : NamedDoor) → self.new ≡ slice_set self.old place (ticked_door moment (slice_index_or self.old place d))) }
+
+        ensures unchanged { OnErr result (self.new ≡ self.old) }
+    {
+        let (_, core) = self.entries.pair_mut(place);
+        tick(core, moment)
+    }
+
+    /// Ticks each door, in order of registration, and answers how many time-outs expire.
+    pub(crate) fn tick(&mut self, moment: u64) -> Result<u128, AllocError>
+        requires { length self.old ≤ door_limit }
+        ensures expired { IfOk result (λ expired. expired ≡ all_expired_of moment self.old) }
+        ensures ticked { OnOk result (self.new ≡ ticked_doors moment self.old) }
+
+        // Whatever the answer is.
+        ensures same_labels { SameLabels self.old self.new }
+    {
+        let mut expired = 0;
+        for place in 0..self.len() {
+            expired += u128::from(self.tick_at(place, moment)?);
+        }
+        Ok(expired)
+    }
+
     /// Stops the door at a place for a reason, and answers why that is refused, if it is.
     pub(crate) fn stop_at(&mut self, place: usize, reason: Reason) -> Option<Refusal>
         requires { place < length self.old }
@@ -190,6 +220,21 @@ fn press(core: &mut Core<Door>, digit: u8) -> Result<Option<Refusal>, AllocError
             Refusal::NoMemory => Err(AllocError),
             refusal => Ok(Some(refusal)),
         },
+    }
+}
+
+/// Ticks a door, and answers how many of its time-outs expire. One that has ended is not ticked. Where
+/// memory is wanted and there is none, the door stays.
+fn tick(core: &mut Core<Door>, moment: u64) -> Result<u64, AllocError>
+    ensures count { IfOk result (λ count. count ≡ count_of (tick_of core.old.machine moment).0) }
+    ensures ticked { OnOk result (core.new.machine ≡ (tick_of core.old.machine moment).1) }
+
+    ensures unchanged { OnErr result (core.new ≡ core.old) }
+{
+    match core.tick(moment) {
+        Ok(count) => Ok(count),
+        Err(Refusal::NoMemory) => Err(AllocError),
+        Err(_) => Ok(0),
     }
 }
 

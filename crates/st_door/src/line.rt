@@ -2,7 +2,7 @@
 ghost use Rattle.std.specs.Prelude.{◌≡◌, IfOk, map, Some, None, if◌then◌else◌};
 ghost use Rattle.st_door.specs.WordForms.{is_name};
 ghost use Rattle.st_door.specs.Grammar.{line_of, command_of, is_comment};
-ghost use Rattle.st_door.specs.Grammar.{new_of, button_of, show_of, stop_of, names_of};
+ghost use Rattle.st_door.specs.Grammar.{new_of, button_of, show_of, at_of, stop_of, names_of};
 
 use crate::digits::Digits;
 use crate::lines::words;
@@ -21,6 +21,9 @@ const CODE_LIMIT: usize = 16;
 /// How many digits a reason may have.
 const REASON_LIMIT: usize = 10;
 
+/// How many digits a moment may have.
+const MOMENT_LIMIT: usize = 20;
+
 /// What a line says.
 #[derive(Drop)]
 pub enum Line {
@@ -34,6 +37,8 @@ pub enum Line {
     Button { name: Text, digit: u8 },
     /// Print a door's status.
     Show { name: Text },
+    /// Let time pass up to a moment, in milliseconds.
+    At { moment: u64 },
     /// Stop a door.
     Stop { name: Text, reason: Reason },
     /// Print the names of the doors.
@@ -101,6 +106,18 @@ fn show_line(alloc: Global, args: &[&[u8]]) -> Result<Line, AllocError>
     Ok(Line::Show { name })
 }
 
+fn at_line(args: &[&[u8]]) -> Line
+    ensures { result ≡ at_of (map (λ arg. arg.now) args.now) }
+{
+    let [moment] = args else {
+        return Line::Malformed;
+    };
+    match number_of(MOMENT_LIMIT, u64::MAX, moment) {
+        Some(moment) => Line::At { moment },
+        None => Line::Malformed,
+    }
+}
+
 fn stop_line(alloc: Global, args: &[&[u8]]) -> Result<Line, AllocError>
     ensures { IfOk result (λ line. line ≡ stop_of (map (λ arg. arg.now) args.now)) }
 {
@@ -139,6 +156,8 @@ fn command(alloc: Global, verb: &[u8], args: &[&[u8]]) -> Result<Line, AllocErro
         button_line(alloc, args)
     } else if verb == b"show".as_slice() {
         show_line(alloc, args)
+    } else if verb == b"at".as_slice() {
+        Ok(at_line(args))
     } else if verb == b"stop".as_slice() {
         stop_line(alloc, args)
     } else if verb == b"names".as_slice() {

@@ -1,6 +1,6 @@
 //! What is printed.
 ghost use Rattle.std.specs.Prelude.{◌≡◌, IfOk, string_bytes};
-ghost use Rattle.st_door.specs.Printing.{state_name_of, status_text, ended_text};
+ghost use Rattle.st_door.specs.Printing.{state_name_of, status_text, ended_text, expired_text};
 ghost use Rattle.st_door.specs.Script.{printed_of};
 
 use crate::DoorState;
@@ -43,6 +43,13 @@ pub(crate) fn ended_status(
     ensures { IfOk result (λ text. string_bytes text ≡ ended_text name.now reason word) }
 {
     format!(in alloc; "{name} stopped {reason} word {word}\n")
+}
+
+/// Which moment it is, and how many time-outs expired.
+pub(crate) fn expired(alloc: Global, moment: u64, count: u128) -> Result<String, AllocError>
+    ensures { IfOk result (λ text. string_bytes text ≡ expired_text moment count) }
+{
+    format!(in alloc; "at {moment} expired {count}\n")
 }
 
 /// What the line of a number prints.

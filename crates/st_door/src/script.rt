@@ -1,13 +1,14 @@
 //! A script between two of its lines.
 ghost use Rattle.std.specs.Prelude.{◌≡◌, ◌≤◌, ◌<◌, ℕ, None, Ok, Err, IfOk, OnOk, IfNone, IfSome, length, slice_index_or, slice_set};
-ghost use Rattle.st_door.specs.Doors.{NamedDoor, SameLabels, door_limit, door_of, refusal_of, press_of, pressed_door, stop_refusal_of, door_stop_of, ended_door};
+ghost use Rattle.st_door.specs.Doors.{NamedDoor, SameLabels, door_limit, door_of, refusal_of, press_of, pressed_door, stop_refusal_of, door_stop_of, ended_door, all_expired_of};
 ghost use Rattle.st_door.specs.Printing.{status_of};
-ghost use Rattle.st_door.specs.Script.{first_script_state, step_of, with_start, door_start_of, rested_of};
+ghost use Rattle.st_door.specs.Script.{first_script_state, step_of, with_start, door_start_of, ticked_script, rested_of};
 ghost use Rattle.st_door.specs.declared.reply.Reply.TheVariants.{Printed};
 ghost use Rattle.st_door.specs.declared.line.Line.TheVariants as line;
 
 use crate::doors::Doors;
 use crate::line::Line;
+use crate::printing::expired;
 use crate::reply::Reply;
 use crate::settling::run_until_idle;
 use crate::text::Text;
@@ -19,6 +20,9 @@ use std::marker::Model;
 
 /// How many doors there may be.
 const DOOR_LIMIT: usize = 65_536;
+
+/// The first moment that is refused.
+const MOMENT_LIMIT: u64 = 1 << 63;
 
 /// A script between two of its lines: its doors, its moment in milliseconds, and from which place up
 /// to which other a door may be ready. Between lines no other is.
@@ -68,6 +72,7 @@ impl Script {
             Line::New { name, code } => self.obey_new(name, code),
             Line::Button { name, digit } => self.obey_button(name.as_str(), digit),
             Line::Show { name } => self.obey_show(name.as_str()),
+            Line::At { moment } => self.obey_at(moment),
             Line::Stop { name, reason } => self.obey_stop(name.as_str(), reason),
             Line::Names => self.obey_names(),
         }
@@ -118,6 +123,21 @@ impl Script {
         };
         self.settle()?;
         self.status_reply(place)
+    }
+
+    /// Lets time pass up to a moment, and answers how many time-outs expire. A moment before the script's
+    /// counts as the script's.
+    fn obey_at(&mut self, moment: u64) -> Result<Reply, AllocError>
+        ensures reply { IfOk result (λ reply. reply ≡ (step_of self.old (line.At moment)).0) }
+        ensures script { OnOk result (self.new ≡ (step_of self.old (line.At moment)).1) }
+    {
+        if moment >= MOMENT_LIMIT {
+            return Ok(Reply::Refuses(Refusal::Moment));
+        }
+        let count = self.tick(self.moment.max(moment))?;
+        self.settle()?;
+        let text = expired(self.alloc, self.moment, count)?;
+        Ok(Reply::Printed(Text::from(text)))
     }
 
     /// Stops the door of a name for a reason, and answers its status.
@@ -191,6 +211,19 @@ impl Script {
         ensures ended { (d : NamedDoor) → self.new ≡ record self.old { doors = slice_set self.old.doors place (ended_door reason (slice_index_or self.old.doors place d)) } }
     {
         self.doors.stop_at(place, reason)
+    }
+
+    /// Goes to a moment and ticks each door at it, and answers how many time-outs expire. From then on any
+    /// door may be ready.
+    fn tick(&mut self, moment: u64) -> Result<u128, AllocError>
+        ensures expired { IfOk result (λ expired. expired ≡ all_expired_of moment self.old.doors) }
+        ensures ticked { OnOk result (self.new ≡ ticked_script self.old moment) }
+    {
+        self.from = 0;
+        self.until = self.doors.len();
+        let expired = self.doors.tick(moment)?;
+        self.moment = moment;
+        Ok(expired)
     }
 
     /// Makes turns until the doors rest.

@@ -4,6 +4,7 @@ mod calls;
 mod door;
 mod faults;
 mod limits;
+mod moments;
 mod scripts;
 mod streams;
 

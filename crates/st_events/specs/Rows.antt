@@ -25,6 +25,8 @@ InsertsFit C = FitsInMemory (list_row (insert_row C))
 abbrev pub SettingsFit : RattleType → Type 0
 SettingsFit C = FitsInMemory (list_row (setting_row C))
 
--- so is all that a list of actions asks for: replies, a truth value, and events to be inserted
+-- so is all that a list of actions asks for: replies, a truth value, events to be inserted, and timers to
+-- be set
 abbrev pub PlannedFits : RattleType → Type 0
-PlannedFits C = FitsInMemory (Tuple (list_row (Tuple (tag_row ∷ C ∷ [])) ∷ bool ∷ list_row (insert_row C) ∷ []))
+PlannedFits C =
+    FitsInMemory (Tuple (list_row (Tuple (tag_row ∷ C ∷ [])) ∷ bool ∷ list_row (insert_row C) ∷ list_row (setting_row C) ∷ []))

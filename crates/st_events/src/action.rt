@@ -1,6 +1,6 @@
 //! What a callback asks for.
 
-use crate::{Kind, SmallList, Tag};
+use crate::{Kind, SmallList, Tag, Time, Timer};
 
 /// One action of a callback.
 ///
@@ -14,6 +14,9 @@ pub enum Action<C> {
     /// Inserts an event, which is handled before all that was not handled yet. Manual: `action()`,
     /// the bullet on `next_event`.
     NextEvent(Kind, C),
+    /// Sets a timer, or stops it, and the content of its event. Of several for one timer the last one
+    /// decides. Manual: `timeout_action()`.
+    Set(Timer, Time, C),
     /// Is accepted and has no effect. Manual: `hibernate()`; ours: docs/DECISIONS.md, Hibernation.
     Hibernate,
 }

@@ -6,7 +6,7 @@ ghost use Rattle.st_events.specs.declared.outcome.Outcome.{Outcome};
 ghost use Rattle.st_events.specs.declared.init.Init.{Init};
 ghost use Rattle.st_events.specs.contracts.outcome.Outcome.{the_row as outcome_row};
 ghost use Rattle.st_events.specs.contracts.init.Init.{the_row as init_row};
-ghost use Rattle.st_events.specs.Rows.{ActionsFit, RepliesFit, InsertsFit, PlannedFits};
+ghost use Rattle.st_events.specs.Rows.{ActionsFit, RepliesFit, InsertsFit, SettingsFit, PlannedFits};
 
 use crate::{Init, Kind, Outcome, Reason};
 use std::alloc::{AllocError, Global};
@@ -101,6 +101,9 @@ pub trait Module: Drop {
 
     // A list of events to be inserted fits in memory, with its inline events.
     ghost inserts_fit: { InsertsFit Self.Content.row };
+
+    // A list of timers to be set fits in memory, with its inline settings.
+    ghost settings_fit: { SettingsFit Self.Content.row };
 
     // What a list of actions asks for fits in memory, with all of these.
     ghost planned_fits: { PlannedFits Self.Content.row };

@@ -67,7 +67,8 @@ fn is_reply(action: &Action<u64>, request: u64) -> bool {
                 request,
             } && *content == request.saturating_mul(10)
         }
-        Action::Postpone(_) | Action::NextEvent(_, _) | Action::Hibernate => false,
+        Action::Postpone(_) | Action::NextEvent(_, _) | Action::Set(_, _, _) | Action::Hibernate =>
+            false,
     }
 }
 

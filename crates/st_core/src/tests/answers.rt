@@ -1,6 +1,6 @@
 //! Answers that are wanted, and how they are compared.
 use crate::{Answer, Call, Done, Report, Turned};
-use st_events::{Kind, PlainList, Reason, Refusal, Refused};
+use st_events::{Kind, PlainList, Reason, Refusal, Refused, Time, Timer};
 use std::alloc::Global;
 use std::fmt::Debug;
 use std::process::Abort;
@@ -33,11 +33,11 @@ fn two_calls<S: Copy>(
     PlainList::from(calls)
 }
 
-/// A list of numbers.
-fn list(rt: &impl Abort, alloc: Global, numbers: &[u64]) -> PlainList<u64> {
-    let mut copies = room(rt, alloc, numbers.len());
-    for number in numbers {
-        assert!(rt; copies.push(*number).is_ok());
+/// A list of these elements.
+fn list<T: Copy>(rt: &impl Abort, alloc: Global, elements: &[T]) -> PlainList<T> {
+    let mut copies = room(rt, alloc, elements.len());
+    for element in elements {
+        assert!(rt; copies.push(*element).is_ok());
     }
     PlainList::from(copies)
 }
@@ -105,6 +105,62 @@ pub fn inserting<S: Copy, C>(
     })))
 }
 
+/// What a turn answers that finishes an event in a state, inserts others, and sets timers.
+pub fn setting<S: Copy, C>(
+    rt: &impl Abort,
+    alloc: Global,
+    number: u64,
+    kind: Kind,
+    state: S,
+    inserted: &[u64],
+    set: &[(Timer, Time)],
+) -> Answer<S, C> {
+    Answer::Turn(Ok(Turned::Reported(Report {
+        inserted: list(rt, alloc, inserted),
+        set: list(rt, alloc, set),
+        ..report(rt, alloc, number, kind, state, state)
+    })))
+}
+
+/// What a turn answers that finishes a cast, leads to another state, and sets timers.
+pub fn leading<S: Copy, C>(
+    rt: &impl Abort,
+    alloc: Global,
+    number: u64,
+    before: S,
+    after: S,
+    set: &[(Timer, Time)],
+) -> Answer<S, C> {
+    Answer::Turn(Ok(Turned::Reported(Report {
+        set: list(rt, alloc, set),
+        ..report(rt, alloc, number, Kind::Cast, before, after)
+    })))
+}
+
+/// What a turn answers that postpones the event of a time-out in a state.
+pub fn put_off_timeout<S: Copy, C>(
+    rt: &impl Abort,
+    alloc: Global,
+    number: u64,
+    timer: Timer,
+    state: S,
+) -> Answer<S, C> {
+    Answer::Turn(Ok(Turned::Reported(Report {
+        done: Done::PutOff,
+        ..report(rt, alloc, number, Kind::Timeout(timer), state, state)
+    })))
+}
+
+/// What a tick answers at which so many time-outs expire.
+pub fn ticked<S, C>(count: u64) -> Answer<S, C> {
+    Answer::Tick(Ok(count))
+}
+
+/// What a tick answers that is refused.
+pub fn not_ticked<S, C>(refusal: Refusal) -> Answer<S, C> {
+    Answer::Tick(Err(refusal))
+}
+
 /// What a turn answers that postpones a cast, and inserts other events.
 pub fn put_off<S: Copy, C>(
     rt: &impl Abort,
@@ -167,8 +223,14 @@ pub fn not_stopped<S, C>(refusal: Refusal) -> Answer<S, C> {
     Answer::Stop(Err(refusal))
 }
 
-/// What a start reports that inserts events.
-pub fn started<S: Copy>(rt: &impl Abort, alloc: Global, state: S, inserted: &[u64]) -> Report<S> {
+/// What a start reports that inserts events and sets timers.
+pub fn started<S: Copy>(
+    rt: &impl Abort,
+    alloc: Global,
+    state: S,
+    inserted: &[u64],
+    set: &[(Timer, Time)],
+) -> Report<S> {
     Report {
         event: None,
         done: Done::Started,
@@ -177,7 +239,7 @@ pub fn started<S: Copy>(rt: &impl Abort, alloc: Global, state: S, inserted: &[u6
         after: state,
         replied: PlainList::new(alloc),
         inserted: list(rt, alloc, inserted),
-        set: PlainList::new(alloc),
+        set: list(rt, alloc, set),
     }
 }
 
@@ -211,6 +273,7 @@ pub fn same_answer<S: Eq + Debug, C: Eq + Debug>(
         (Answer::Turn(Err(refusal)), Answer::Turn(Err(other))) => {
             assert_eq!(rt; refusal, other);
         }
+        (Answer::Tick(ticked), Answer::Tick(other)) => assert_eq!(rt; ticked, other),
         (Answer::Stop(stopped), Answer::Stop(other)) => assert_eq!(rt; stopped, other),
         _ => panic!(rt; "{answer:?} in the place of {wanted:?}"),
     }
@@ -220,6 +283,7 @@ pub fn same_answer<S: Eq + Debug, C: Eq + Debug>(
 pub fn found_no_memory<S, C>(answer: &Answer<S, C>) -> bool {
     match answer {
         Answer::Post(Err(refused)) => refused.refusal == Refusal::NoMemory,
+        Answer::Tick(Err(refusal)) => *refusal == Refusal::NoMemory,
         Answer::Turn(Err(refusal)) => *refusal == Refusal::NoMemory,
         _ => false,
     }
@@ -229,6 +293,6 @@ pub fn found_no_memory<S, C>(answer: &Answer<S, C>) -> bool {
 pub fn is_refused<S, C>(answer: &Answer<S, C>) -> bool {
     matches!(
         answer,
-        Answer::Post(Err(_)) | Answer::Turn(Err(_)) | Answer::Stop(Err(_))
+        Answer::Post(Err(_)) | Answer::Tick(Err(_)) | Answer::Turn(Err(_)) | Answer::Stop(Err(_))
     )
 }

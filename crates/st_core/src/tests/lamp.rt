@@ -111,5 +111,7 @@ impl Module for Lamp {
 
     ghost inserts_fit = { Prim.search rules };
 
+    ghost settings_fit = { Prim.search rules };
+
     ghost planned_fits = { Prim.search rules };
 }

@@ -108,6 +108,7 @@ fn a_lamp_is_switched_until_its_bulb_is_spent(rt: HostRuntime) {
         now: 0,
         first: None,
         inserted: &[],
+        set: &[],
     };
     let end = Seen {
         is_ready: true,

@@ -5,8 +5,8 @@ use super::table::Table;
 use super::table_machine::cast;
 use super::tell_refusals;
 use super::tested::{Begin, Tested, start};
-use crate::Start;
-use st_events::{Module, Refusal};
+use crate::{Due, Start};
+use st_events::{Module, Refusal, Time, Timer};
 
 #[test]
 fn a_start_is_ignored_stopped_or_refused(rt: HostRuntime) {
@@ -18,6 +18,7 @@ fn a_start_is_ignored_stopped_or_refused(rt: HostRuntime) {
             now: 0,
             first,
             inserted: &[],
+            set: &[],
         };
         assert!(rt; matches!(start(&rt, rt.alloc(), &begin), Ok(Start::Ignored)));
         let begin = Begin {
@@ -68,6 +69,7 @@ fn inserts_of_a_start_need_numbers(rt: HostRuntime) {
         now: 12,
         first: Some(9_223_372_036_854_775_806),
         inserted: &[9_223_372_036_854_775_806, 9_223_372_036_854_775_807],
+        set: &[],
     };
     let mut tested = Tested::new(&rt, rt.alloc(), &begin);
     let post = tested.tell(&rt, cast(6));
@@ -89,5 +91,46 @@ fn inserts_of_a_start_need_numbers(rt: HostRuntime) {
             Ok(_) => panic!(rt; "a start with too few numbers"),
         }
     }
+    tell_refusals(rt);
+}
+
+/// A start that sets three timers needs three numbers.
+#[test]
+fn time_outs_of_a_start_need_numbers(rt: HostRuntime) {
+    let module = Table { number: 50 };
+    let begin = Begin {
+        module,
+        arg: 7,
+        now: 12,
+        first: Some(9_223_372_036_854_775_806),
+        inserted: &[],
+        set: &[],
+    };
+    match start(&rt, rt.alloc(), &begin) {
+        Err(refused) => {
+            assert_eq!(rt; refused.refusal, Refusal::Exhausted);
+            assert_eq!(rt; refused.value, module);
+        }
+        Ok(_) => panic!(rt; "a start with too few numbers"),
+    }
+    let begin = Begin {
+        first: Some(9_223_372_036_854_775_805),
+        set: &[
+            (Timer::Named(1), Time::After(20)),
+            (Timer::Named(2), Time::After(10)),
+            (Timer::Named(3), Time::After(20)),
+        ],
+        ..begin
+    };
+    let tested = Tested::new(&rt, rt.alloc(), &begin);
+    assert_eq!(rt;
+        tested.timers(&rt).as_slice(),
+        [
+            (Timer::Named(1), 9_223_372_036_854_775_805, Due::At(32)),
+            (Timer::Named(2), 9_223_372_036_854_775_806, Due::At(22)),
+            (Timer::Named(3), 9_223_372_036_854_775_807, Due::At(32)),
+        ]
+        .as_slice()
+    );
     tell_refusals(rt);
 }

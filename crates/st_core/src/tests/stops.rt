@@ -122,6 +122,7 @@ fn a_lamp_is_taken_away(rt: HostRuntime) {
         now: 0,
         first: None,
         inserted: &[],
+        set: &[],
     };
     let end = Seen {
         is_ready: false,

@@ -2,9 +2,13 @@
 ghost use Rattle.std.specs.Prelude.{◌≡◌, true, [], ◌∷◌, IfOk, refl};
 ghost use Rattle.std.proofs.Common.{rules};
 ghost use Rattle.st_events.specs.declared.action.Action.TheVariants as action;
-ghost use Rattle.st_core.specs.WorkedTable.{first_tag, five_actions, two_inserts, handled_anywhere, handled_at_first, handled_by_table, begun_by_table};
+ghost use Rattle.st_events.specs.declared.time.Time.TheVariants as time;
+ghost use Rattle.st_events.specs.declared.timer.Timer.TheVariants as timer;
+ghost use Rattle.st_core.specs.WorkedTable.{first_tag, five_actions, two_inserts, three_settings, handled_by_setting, handled_anywhere, handled_at_first, handled_by_table, begun_by_table};
 
-use st_events::{Action, Actions, Init, Kind, MachineId, Module, Outcome, Reason, Replies, Tag};
+use st_events::{
+    Action, Actions, Init, Kind, MachineId, Module, Outcome, Reason, Replies, Tag, Time, Timer,
+};
 use std::alloc::{AllocError, Global};
 
 /// The request to which the table replies.
@@ -36,7 +40,19 @@ const TAG: Tag = Tag {
 /// | 15 | stops for the reason 9 |
 /// | 16 | stops for the reason 9, with the data 8 |
 /// | 17 | stops for the reason 9, with a reply of 40 and the data 8 |
+/// | 22 | keeps both, and sets the state time-out and then the event time-out, each for 0 |
+/// | 23 | keeps both, and sets the event time-out and then the state time-out, each for 0 |
+/// | 24 | keeps both, and stops the named timer 5 |
+/// | 25 | keeps both, sets the named timer 1 for 0, and inserts 26 as internal |
+/// | 26 | keeps both, and sets the named timer 1 for 5 |
+/// | 27 | leads to the state 1, and sets the state time-out for 10 |
+/// | 28 | keeps both, and sets the state time-out for 5 |
+/// | 29 | keeps both, and sets the event time-out for 5 |
+/// | 30 | keeps both, and sets the named timer 2 for 0, with the content 10 |
+/// | 31 | keeps both, and sets the named timer 1 for 5 and then for 7 |
 /// | other | keeps both |
+///
+/// The contents of time-outs are 0, where no other is told.
 ///
 /// | Argument | Start |
 /// |---|---|
@@ -44,6 +60,10 @@ const TAG: Tag = Tag {
 /// | 1 | ignored |
 /// | 2 | a machine, with five hibernations |
 /// | 3 | a machine, with `Postpone(true)`, and inserts 20 as internal and 21 as a cast |
+/// | 5 | a machine, and sets the named timer 5 for 5 |
+/// | 6 | a machine, and sets the named timer 1 for 4294967295 |
+/// | 7 | a machine, and sets the named timers 1, 2 and 3 for 20, 10 and 20 |
+/// | 8 | a machine, sets the named timer 1 for 0, and inserts 20 as internal and 21 as a cast |
 /// | other | stops, and is the reason |
 ///
 /// The number tells one module from another.
@@ -115,6 +135,63 @@ fn last_reply(alloc: Global) -> Result<Replies<u32>, AllocError>
     Ok(replies)
 }
 
+/// A timer is set to come with the content 0.
+fn set(timer: Timer, milliseconds: u32) -> Action<u32>
+    ensures { result ≡ action.Set timer (time.After milliseconds) 0 }
+{
+    Action::Set(timer, Time::After(milliseconds), 0)
+}
+
+/// What `handle` answers to the contents that set timers.
+fn handle_setting(
+    alloc: Global,
+    content: u32,
+    held: u32,
+) -> Result<Outcome<u32, u32, u32>, AllocError>
+    ensures { IfOk result (λ outcome. outcome ≡ handled_by_setting content held) }
+{
+    let actions = match content {
+        22 => two(alloc, set(Timer::State, 0), set(Timer::Event, 0))?,
+        23 => two(alloc, set(Timer::Event, 0), set(Timer::State, 0))?,
+        24 => one(alloc, Action::Set(Timer::Named(5), Time::Infinity, 0))?,
+        25 => two(
+            alloc,
+            set(Timer::Named(1), 0),
+            Action::NextEvent(Kind::Internal, 26),
+        )?,
+        26 => one(alloc, set(Timer::Named(1), 5))?,
+        27 => {
+            let actions = one(alloc, set(Timer::State, 10))?;
+            return Ok(Outcome::NextState(1, held, actions));
+        }
+        28 => one(alloc, set(Timer::State, 5))?,
+        29 => one(alloc, set(Timer::Event, 5))?,
+        30 => one(alloc, Action::Set(Timer::Named(2), Time::After(0), 10))?,
+        31 => two(alloc, set(Timer::Named(1), 5), set(Timer::Named(1), 7))?,
+        _ => Actions::new(alloc),
+    };
+    Ok(Outcome::KeepStateAndData(actions))
+}
+
+/// Three timers are set, two of them for the same time.
+fn three(alloc: Global) -> Result<Actions<u32>, AllocError>
+    ensures { IfOk result (λ actions. actions ≡ three_settings) }
+{
+    let mut actions = two(alloc, set(Timer::Named(1), 20), set(Timer::Named(2), 10))?;
+    actions.push(set(Timer::Named(3), 20))?;
+    Ok(actions)
+}
+
+/// A timer is set, and two events are inserted.
+fn setting_and_inserts(alloc: Global) -> Result<Actions<u32>, AllocError>
+    ensures { IfOk result (λ actions. actions ≡ action.Set (timer.Named 1) (time.After 0) 0 ∷ two_inserts) }
+{
+    let mut actions = one(alloc, set(Timer::Named(1), 0))?;
+    actions.push(Action::NextEvent(Kind::Internal, 20))?;
+    actions.push(Action::NextEvent(Kind::Cast, 21))?;
+    Ok(actions)
+}
+
 /// What `handle` answers in any state, where the content is not one of those of the first state.
 fn handle_anywhere(
     alloc: Global,
@@ -138,7 +215,7 @@ fn handle_anywhere(
         15 => Ok(Outcome::Stop(9, None)),
         16 => Ok(Outcome::Stop(9, Some(8))),
         17 => Ok(Outcome::StopAndReply(9, last_reply(alloc)?, Some(8))),
-        _ => Ok(Outcome::KeepStateAndData(Actions::new(alloc))),
+        _ => handle_setting(alloc, content, held),
     }
 }
 
@@ -189,6 +266,13 @@ impl Module for Table {
             1 => Ok(Init::Ignore),
             2 => Ok(Init::Ok(0, 7, five(alloc)?)),
             3 => Ok(Init::Ok(0, 7, postpone_and_inserts(alloc)?)),
+            5 => Ok(Init::Ok(0, 7, one(alloc, set(Timer::Named(5), 5))?)),
+            6 => {
+                let latest = one(alloc, set(Timer::Named(1), 4_294_967_295))?;
+                Ok(Init::Ok(0, 7, latest))
+            }
+            7 => Ok(Init::Ok(0, 7, three(alloc)?)),
+            8 => Ok(Init::Ok(0, 7, setting_and_inserts(alloc)?)),
             reason => Ok(Init::Stop(reason)),
         }
     }
@@ -231,6 +315,8 @@ impl Module for Table {
     ghost replies_fit = { Prim.search rules };
 
     ghost inserts_fit = { Prim.search rules };
+
+    ghost settings_fit = { Prim.search rules };
 
     ghost planned_fits = { Prim.search rules };
 }

@@ -19,6 +19,7 @@ pub const BEGIN: Begin<Table, u32> = Begin {
     now: 0,
     first: None,
     inserted: &[],
+    set: &[],
 };
 
 /// What can be read of a table's machine in which nothing waits.

@@ -2,11 +2,11 @@
 ghost use Rattle.std.specs.Prelude.{◌≡◌, ◌≤◌, ◌<◌, ◌^◌};
 
 use super::answers::{
-    found_no_memory, is_refused, not_posted, not_stopped, not_turned, room, same_answer,
-    same_report, started,
+    found_no_memory, is_refused, not_posted, not_stopped, not_ticked, not_turned, room,
+    same_answer, same_report, started,
 };
-use crate::{Answer, Command, Core, Entry, Start, Turned};
-use st_events::{MachineId, Module, Reason, Refusal, Refused};
+use crate::{Answer, Command, Core, Due, Entry, Start, Turned};
+use st_events::{MachineId, Module, PlainList, Reason, Refusal, Refused, Time, Timer};
 use std::alloc::Global;
 use std::fmt::Debug;
 use std::process::Abort;
@@ -17,6 +17,7 @@ pub const ID: MachineId = MachineId { slot: 0, serial: 1 };
 #[derive(Clone, Copy, Debug)]
 pub enum Told<C> {
     Post(Entry, C),
+    Tick(u64),
     Turn(u64),
     Stop(Reason),
 }
@@ -32,8 +33,8 @@ pub struct Seen<S, D> {
     pub ended: Option<(Reason, u32)>,
 }
 
-/// How a machine starts, and the numbers of the events that its `init` inserts. The number of the first
-/// event may be left out, and then it is 1.
+/// How a machine starts, the numbers of the events that its `init` inserts, and the timers that it sets.
+/// The number of the first event may be left out, and then it is 1.
 #[derive(Clone, Copy, Debug)]
 pub struct Begin<M, A> {
     pub module: M,
@@ -41,6 +42,7 @@ pub struct Begin<M, A> {
     pub now: u64,
     pub first: Option<u64>,
     pub inserted: &'static [u64],
+    pub set: &'static [(Timer, Time)],
 }
 
 /// One machine that is told commands.
@@ -94,7 +96,7 @@ where
     pub fn new(rt: &impl Abort, alloc: Global, begin: &Begin<M, M::Arg>) -> Tested<M> {
         match start(rt, alloc, begin) {
             Ok(Start::Running(core, report)) => {
-                let wanted = started(rt, alloc, core.state(), begin.inserted);
+                let wanted = started(rt, alloc, core.state(), begin.inserted, begin.set);
                 same_report(rt, &report, &wanted);
                 assert_eq!(rt; core.is_ready(), !begin.inserted.is_empty());
                 assert_eq!(rt; core.waiting(), begin.inserted.len());
@@ -121,10 +123,35 @@ where
         }
     }
 
+    /// Its running time-outs. Where memory was refused, they are asked for again.
+    pub fn timers(&self, rt: &impl Abort) -> PlainList<(Timer, u64, Due)> {
+        match self.core.timers() {
+            Ok(timers) => timers,
+            Err(refusal) => {
+                assert_eq!(rt; refusal, Refusal::NoMemory);
+                self.core
+                    .timers()
+                    .expect(rt, "one allocation alone is refused")
+            }
+        }
+    }
+
+    /// Looks that nothing has changed that can be read.
+    fn is_as_before(
+        &self,
+        rt: &impl Abort,
+        seen: &Seen<M::State, M::Data>,
+        timers: &[(Timer, u64, Due)],
+    ) {
+        assert_eq!(rt; self.seen(), *seen);
+        assert_eq!(rt; self.timers(rt).as_slice(), timers);
+    }
+
     /// Makes the call of one command.
     fn call(&mut self, told: Told<M::Content>) -> Answer<M::State, M::Content> {
         match told {
             Told::Post(entry, content) => Answer::Post(self.core.post(entry, content)),
+            Told::Tick(now) => Answer::Tick(self.core.tick(now)),
             Told::Turn(now) => Answer::Turn(self.core.turn(now)),
             Told::Stop(reason) => Answer::Stop(self.core.stop(reason)),
         }
@@ -138,9 +165,10 @@ where
         told: Told<M::Content>,
     ) -> Answer<M::State, M::Content> {
         let before = self.seen();
+        let timers = self.timers(rt);
         let answer = self.call(told);
         if is_refused(&answer) {
-            assert_eq!(rt; self.seen(), before);
+            self.is_as_before(rt, &before, timers.as_slice());
         }
         // A stop takes no memory.
         assert!(rt; !matches!(answer, Answer::Stop(Err(Refusal::NoMemory))));
@@ -149,19 +177,18 @@ where
         }
         same_answer(rt, &answer, &without_memory(told));
         // Nor does an idle turn.
-        assert!(rt; before.is_ready || matches!(told, Told::Post(..)));
+        assert!(rt; before.is_ready || !matches!(told, Told::Turn(_)));
         let again = self.call(told);
         if is_refused(&again) {
-            assert_eq!(rt; self.seen(), before);
+            self.is_as_before(rt, &before, timers.as_slice());
         }
-        // Nor does a post that is refused, or a turn before its callback.
-        assert!(rt;
-            matches!(
-                again,
-                Answer::Post(Ok(_))
-                    | Answer::Turn(Ok(Turned::Reported(_)) | Err(Refusal::Exhausted))
-            )
-        );
+        // Nor does a post that is refused, a tick at which nothing expires, or a turn before its callback.
+        match &again {
+            Answer::Tick(Ok(count)) => assert!(rt; *count > 0),
+            Answer::Post(Ok(_)) | Answer::Turn(Ok(Turned::Reported(_)) | Err(Refusal::Exhausted)) =>
+                {}
+            _ => panic!(rt; "{again:?} wanted memory"),
+        }
         again
     }
 
@@ -174,10 +201,11 @@ where
         told: &[Told<M::Content>],
     ) -> Vec<Answer<M::State, M::Content>> {
         let before = self.seen();
+        let timers = self.timers(rt);
         match self.core.run(commands(rt, alloc, told)) {
             Ok(answers) => answers,
             Err(back) => {
-                assert_eq!(rt; self.seen(), before);
+                self.is_as_before(rt, &before, timers.as_slice());
                 assert_eq!(rt; back.len(), told.len());
                 for (command, one) in back.iter().zip(told.iter()) {
                     assert!(rt; is_command(command, *one));
@@ -195,6 +223,7 @@ where
 pub fn without_memory<S, C>(told: Told<C>) -> Answer<S, C> {
     match told {
         Told::Post(_, content) => not_posted(Refusal::NoMemory, content),
+        Told::Tick(_) => not_ticked(Refusal::NoMemory),
         Told::Turn(_) => not_turned(Refusal::NoMemory),
         Told::Stop(_) => not_stopped(Refusal::NoMemory),
     }
@@ -206,6 +235,7 @@ fn is_command<C: Eq + Drop>(command: &Command<C>, told: Told<C>) -> bool {
         (Command::Post(entry, content), Told::Post(other_entry, other)) => {
             *entry == other_entry && *content == other
         }
+        (Command::Tick(now), Told::Tick(other)) => *now == other,
         (Command::Turn(now), Told::Turn(other)) => *now == other,
         (Command::Stop(reason), Told::Stop(other)) => *reason == other,
         _ => false,
@@ -218,6 +248,7 @@ fn commands<C: Copy>(rt: &impl Abort, alloc: Global, told: &[Told<C>]) -> Vec<Co
     for one in told {
         let command = match *one {
             Told::Post(entry, content) => Command::Post(entry, content),
+            Told::Tick(now) => Command::Tick(now),
             Told::Turn(now) => Command::Turn(now),
             Told::Stop(reason) => Command::Stop(reason),
         };

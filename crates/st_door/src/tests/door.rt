@@ -3,7 +3,7 @@
 use super::calls::digits;
 use super::tell_refusals;
 use crate::{Door, DoorContent, DoorData, DoorState};
-use st_events::{Action, Init, Kind, MachineId, Module, Outcome, Reason, Tag, Timer};
+use st_events::{Action, Init, Kind, MachineId, Module, Outcome, Reason, Tag, Time, Timer};
 use std::alloc::{AllocError, Global};
 use std::process::Abort;
 
@@ -89,15 +89,34 @@ fn answer(
     handled(alloc, &Door, kind, &content, state, &held).expect(rt, "memory")
 }
 
-/// Sees that an outcome is a transition to a state, with these buttons and no action.
-fn goes_to(rt: &impl Abort, outcome: &Handled<Door>, state: DoorState, buttons: &[u8]) {
+/// Sees that an outcome is a transition to a state, with these buttons and so many actions.
+fn goes_to(
+    rt: &impl Abort,
+    outcome: &Handled<Door>,
+    state: DoorState,
+    buttons: &[u8],
+    count: usize,
+) {
     let Outcome::NextState(next, held, actions) = outcome else {
         panic!(rt; "no next state");
     };
     assert_eq!(rt; *next, state);
     assert_eq!(rt; held.code.as_slice(), CODE);
     assert_eq!(rt; held.buttons.as_slice(), buttons);
-    assert!(rt; actions.is_empty());
+    assert_eq!(rt; actions.len(), count);
+}
+
+/// Sees that the first action of a transition sets a timer to so many milliseconds, with no content.
+fn sets(rt: &impl Abort, outcome: &Handled<Door>, timer: Timer, time: u32) {
+    let Outcome::NextState(_, _, actions) = outcome else {
+        panic!(rt; "no next state");
+    };
+    let Some(Action::Set(set, until, content)) = actions.get(0) else {
+        panic!(rt; "no timer is set");
+    };
+    assert_eq!(rt; *set, timer);
+    assert_eq!(rt; *until, Time::After(time));
+    assert_eq!(rt; *content, DoorContent::Nothing);
 }
 
 /// Sees that an outcome keeps state and data, with no action.
@@ -138,14 +157,12 @@ fn a_door_begins_locked(rt: HostRuntime) {
 }
 
 #[test]
-fn a_button_counts_while_the_door_is_locked(rt: HostRuntime) {
-    for (digit, before, state, after) in [
-        (1, [].as_slice(), DoorState::Locked, [1].as_slice()),
-        (2, [2].as_slice(), DoorState::Locked, [2, 2].as_slice()),
-        (9, [2, 1].as_slice(), DoorState::Locked, [1, 9].as_slice()),
-        (1, [3, 3].as_slice(), DoorState::Locked, [3, 1].as_slice()),
-        (2, [1].as_slice(), DoorState::Open, [].as_slice()),
-        (2, [3, 1].as_slice(), DoorState::Open, [].as_slice()),
+fn a_button_counts_for_30000_milliseconds_while_the_door_is_locked(rt: HostRuntime) {
+    for (digit, before, after) in [
+        (1, [].as_slice(), [1].as_slice()),
+        (2, [2].as_slice(), [2, 2].as_slice()),
+        (9, [2, 1].as_slice(), [1, 9].as_slice()),
+        (1, [3, 3].as_slice(), [3, 1].as_slice()),
     ] {
         let button = DoorContent::Button(digit);
         let outcome = answer(
@@ -156,7 +173,26 @@ fn a_button_counts_while_the_door_is_locked(rt: HostRuntime) {
             DoorState::Locked,
             before,
         );
-        goes_to(&rt, &outcome, state, after);
+        goes_to(&rt, &outcome, DoorState::Locked, after, 1);
+        sets(&rt, &outcome, Timer::Event, 30_000);
+    }
+    tell_refusals(rt);
+}
+
+#[test]
+fn the_code_opens_the_door_for_10000_milliseconds(rt: HostRuntime) {
+    for before in [[1].as_slice(), [3, 1].as_slice()] {
+        let button = DoorContent::Button(2);
+        let outcome = answer(
+            &rt,
+            rt.alloc(),
+            Kind::Cast,
+            button,
+            DoorState::Locked,
+            before,
+        );
+        goes_to(&rt, &outcome, DoorState::Open, &[], 1);
+        sets(&rt, &outcome, Timer::State, 10_000);
     }
     tell_refusals(rt);
 }
@@ -185,7 +221,7 @@ fn a_timeout_locks_the_door_or_forgets_its_buttons(rt: HostRuntime) {
             state,
             &[1],
         );
-        goes_to(&rt, &outcome, DoorState::Locked, &[]);
+        goes_to(&rt, &outcome, DoorState::Locked, &[], 0);
     }
     for (timer, state) in [
         (Timer::Event, DoorState::Open),

@@ -65,10 +65,11 @@ fn a_write_that_takes_nothing_ends_the_script(rt: HostRuntime) {
 
 #[test]
 fn no_memory_ends_the_script(rt: HostRuntime) {
-    let script = b"new a 1\nbutton a 1\nbutton a 1\nstop a 7\nnames\n";
+    let script = b"new a 1\nbutton a 1\nbutton a 1\nat 10000\nstop a 7\nnames\n";
     let output = "a locked buttons 0 waiting 0\n\
         a open buttons 0 waiting 0\n\
         a open buttons 0 waiting 1\n\
+        at 10000 expired 1\n\
         a stopped 7 word 0\n\
         names a\n"
         .as_bytes();

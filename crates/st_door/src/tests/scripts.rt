@@ -170,7 +170,7 @@ fn what_has_no_form_is_malformed(rt: HostRuntime) {
           show\ta\n\
           show \xc3\xa4\n\
           show a\xff\n\
-          at 5\n\
+          at\n\
           stop a +7\n\
           length a\n\
           remove a\n\

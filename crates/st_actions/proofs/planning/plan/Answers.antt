@@ -1,6 +1,7 @@
-use Rattle.std.proofs.Common.{◌∷◌, arith, refl, ap, ◌∙◌, length, reverse}
+use Rattle.std.proofs.Common.{◌≡◌, true, false, ◌∷◌, arith, refl, sym, ap, ◌∙◌, length, reverse}
 use Rattle.std.proofs.lemmas.List.{reverse-reverse, length-reverse}
-use Rattle.st_actions.proofs.PlanLemmas.{last_is_first, one_fewer, goes_over, all_taken, planned_whole}
+use Rattle.st_actions.specs.Plan.{sets}
+use Rattle.st_actions.proofs.PlanLemmas.{last_is_first, one_fewer, goes_over, all_taken, sets-reverse, request_over, request_later, planned_whole}
 use Rattle.st_actions.proofs.planning.plan.Goals as goal
 
 pub loop-action-init : goal.loop-action-init
@@ -12,12 +13,16 @@ loop-action-init g c =
     let inserts = ap (λ b. b.items) c.in-Ok-with_room.ensures.room in
     let reply_room = ap (λ b. b.room) c.in-Ok.ensures.room in
     let insert_room = ap (λ b. b.room) c.in-Ok-with_room.ensures.room in
+    let requests = ap (λ b. b.items) c.in-Ok-with_room-2.ensures.room in
+    let request_room = ap (λ b. b.room) c.in-Ok-with_room-2.ensures.room in
     record {
       replies = rw (replies, turned, back) refl;
       postpone = rw (turned, back) refl;
       inserts = rw (inserts, turned, back) refl;
+      requests = rw (requests, turned, back) refl;
       room_for_replies = omega (arith, as_long, reply_room, c.len-count.ensures.length);
       room_for_inserts = omega (arith, as_long, insert_room, c.len-count.ensures.length);
+      room_for_requests = omega (arith, as_long, request_room, c.len-count.ensures.length);
     }
 
 pub loop-action-smaller-in-Reply : goal.loop-action-smaller-in-Reply
@@ -42,8 +47,10 @@ loop-action-preserved-in-Reply g c =
       replies = goes_over _ _ _ _ (c.in-Reply.tag, c.in-Reply.content) (ap (λ b. b.items) c.push.ensures.pushed) (rw next at kept.replies);
       postpone = rw next at kept.postpone;
       inserts = rw next at kept.inserts;
+      requests = rw next at kept.requests;
       room_for_replies = omega (arith, fewer, room, kept.room_for_replies);
       room_for_inserts = omega (arith, fewer, kept.room_for_inserts);
+      room_for_requests = omega (arith, fewer, kept.room_for_requests);
     }
 
 pub loop-action-preserved-in-Postpone : goal.loop-action-preserved-in-Postpone
@@ -55,8 +62,10 @@ loop-action-preserved-in-Postpone g c =
       replies = rw next at kept.replies;
       postpone = rw next at kept.postpone;
       inserts = rw next at kept.inserts;
+      requests = rw next at kept.requests;
       room_for_replies = omega (arith, fewer, kept.room_for_replies);
       room_for_inserts = omega (arith, fewer, kept.room_for_inserts);
+      room_for_requests = omega (arith, fewer, kept.room_for_requests);
     }
 
 pub push-requires-in-NextEvent : goal.push-requires-in-NextEvent
@@ -74,8 +83,10 @@ loop-action-preserved-in-NextEvent g c =
       replies = rw next at kept.replies;
       postpone = rw next at kept.postpone;
       inserts = goes_over _ _ _ _ _ (ap (λ b. b.items) c.push-in-NextEvent.ensures.pushed) (rw next at kept.inserts);
+      requests = rw next at kept.requests;
       room_for_replies = omega (arith, fewer, kept.room_for_replies);
       room_for_inserts = omega (arith, fewer, room, kept.room_for_inserts);
+      room_for_requests = omega (arith, fewer, kept.room_for_requests);
     }
 
 pub loop-action-preserved : goal.loop-action-preserved
@@ -87,15 +98,61 @@ loop-action-preserved g c =
       replies = rw next at kept.replies;
       postpone = rw next at kept.postpone;
       inserts = rw next at kept.inserts;
+      requests = rw next at kept.requests;
       room_for_replies = omega (arith, fewer, kept.room_for_replies);
       room_for_inserts = omega (arith, fewer, kept.room_for_inserts);
+      room_for_requests = omega (arith, fewer, kept.room_for_requests);
+    }
+
+-- the request is the last of its timer
+pub push-requires-then-not-sets : goal.push-requires-then-not-sets
+push-requires-then-not-sets g c =
+    let fewer = one_fewer _ _ _ c.in-Some.ensures.popped in
+    (c.requires.settings_fit, omega (arith, fewer, c.loop-action.invariant.room_for_requests))
+
+pub loop-action-preserved-then-not-sets : goal.loop-action-preserved-then-not-sets
+loop-action-preserved-then-not-sets g c =
+    let kept = c.loop-action.invariant in
+    let fewer = one_fewer _ _ _ c.in-Some.ensures.popped in
+    let next = last_is_first _ _ _ c.in-Some.ensures.popped ∙ ap (λ action. action ∷ reverse c.pop.new.self) c.in-Set.is in
+    let last : sets c.in-Set.timer (reverse c.pop.new.self) ≡ false =
+    sets-reverse c.in-Set.timer c.pop.new.self ∙ (sym c.sets.ensures ∙ c.if-not-sets.true) in
+    let room = ap (λ b. b.room) c.push-then-not-sets.ensures.pushed in
+    record {
+      replies = rw next at kept.replies;
+      postpone = rw next at kept.postpone;
+      inserts = rw next at kept.inserts;
+      requests = request_over c.in-Set.timer c.in-Set.time c.in-Set.content _ _ (reverse c.pop.new.self) _ last
+          (ap (λ b. b.items) c.push-then-not-sets.ensures.pushed) (rw next at kept.requests);
+      room_for_replies = omega (arith, fewer, kept.room_for_replies);
+      room_for_inserts = omega (arith, fewer, kept.room_for_inserts);
+      room_for_requests = omega (arith, fewer, room, kept.room_for_requests);
+    }
+
+-- a later request of its timer decides
+pub loop-action-preserved-else-not-sets : goal.loop-action-preserved-else-not-sets
+loop-action-preserved-else-not-sets g c =
+    let kept = c.loop-action.invariant in
+    let fewer = one_fewer _ _ _ c.in-Some.ensures.popped in
+    let next = last_is_first _ _ _ c.in-Some.ensures.popped ∙ ap (λ action. action ∷ reverse c.pop.new.self) c.in-Set.is in
+    let later : sets c.in-Set.timer (reverse c.pop.new.self) ≡ true =
+    sets-reverse c.in-Set.timer c.pop.new.self ∙ (sym c.sets.ensures ∙ c.if-not-sets.false) in
+    record {
+      replies = rw next at kept.replies;
+      postpone = rw next at kept.postpone;
+      inserts = rw next at kept.inserts;
+      requests = request_later c.in-Set.timer c.in-Set.time c.in-Set.content _ (reverse c.pop.new.self) _ later (rw next at kept.requests);
+      room_for_replies = omega (arith, fewer, kept.room_for_replies);
+      room_for_inserts = omega (arith, fewer, kept.room_for_inserts);
+      room_for_requests = omega (arith, fewer, kept.room_for_requests);
     }
 
 pub returns-clause-planned : goal.returns-clause-planned
 returns-clause-planned g c =
     let kept = c.loop-action.invariant in
     let empty = c.in_default-pop.ensures.end.0 refl in
-    planned_whole c.args.actions c.finish-replies.result c.loop-action.postpone c.finish-inserts.result
+    planned_whole c.args.actions c.finish-replies.result c.loop-action.postpone c.finish-inserts.result c.finish-requests.result
     (c.finish-replies.ensures ∙ all_taken _ _ (rw empty at kept.replies))
     (rw empty at kept.postpone)
     (c.finish-inserts.ensures ∙ all_taken _ _ (rw empty at kept.inserts))
+    (c.finish-requests.ensures ∙ all_taken _ _ (rw empty at kept.requests))

@@ -1,53 +1,60 @@
-use Rattle.std.proofs.Common.{◌≡◌, ◌≤◌, ◌<◌, ◌+◌, ◌^◌, length, max, refl, inr, arith}
-use Rattle.st_actions.specs.Plan.{inserts_of}
-use Rattle.st_core.specs.Items.{numbered, numbers_of}
+use Rattle.std.proofs.Common.{◌≡◌, ◌≤◌, ◌+◌, ◌^◌, true, length, refl, ap, arith}
+use Rattle.st_actions.specs.Plan.{inserts_of, requests_of}
+use Rattle.st_agenda.specs.Agenda.{Agenda, Schedule}
+use Rattle.st_agenda.specs.Items.{numbered, numbers_of}
+use Rattle.st_agenda.specs.Timing.{numbers_taken}
 use Rattle.st_core.specs.Start.{first_state}
-use Rattle.st_core.proofs.StartLemmas.{started_is, started_exhausted, started_takes_memory}
-use Rattle.st_core.proofs.TransitionLemmas.{numbers-numbered}
+use Rattle.st_core.specs.Transition.{has_numbers, times_of}
+use Rattle.st_core.proofs.StartLemmas.{started_is, started_refused}
+use Rattle.st_core.proofs.TransitionLemmas.{enough_for_inserts, enough_for_all}
 use Rattle.st_core.proofs.engine.Core.begin.Goals as goal
 
 -- the machine runs
 pub returns : goal.returns
 returns g c =
-    let inserts = inserts_of c.args.actions in
+    let machine = first_state c.args.id c.args.state c.args.data c.args.now c.args.first in
     let planned = c.in-Ok.ensures.planned in
-    let count : c.len-count.result ≡ length inserts = rw planned at c.len-count.ensures.length in
-    let enough : c.args.first + length inserts ≤ 2 ^ 63 = omega (arith, count, c.requires.greatest, c.if-first-count.false) in
-    let inserted : c.in-Ok-numbers_from.inserted ≡ numbers_of (numbered c.args.first inserts) =
-    rw (numbers-numbered c.args.first inserts) (rw count at c.in-Ok-numbers_from.ensures) in
+    let next : c.new-agenda.result.schedule.next ≡ c.args.first = ap (λ (a : Agenda _). a.schedule.next) c.new-agenda.ensures in
+    let enough : has_numbers machine c.args.actions ≡ true = rw (next, planned) at c.in-Ok-prepare.ensures.numbers in
+    let inserted : c.in-Ok-prepare.prepared.inserted ≡ numbers_of (numbered c.args.first (inserts_of c.args.actions)) =
+    rw (next, planned) at c.in-Ok-prepare.ensures.inserted in
+    let set : c.in-Ok-prepare.prepared.set ≡ times_of (requests_of c.args.actions) = rw planned at c.in-Ok-prepare.ensures.set in
     record {
-      start = started_is _ c.args.module (first_state c.args.id c.args.state c.args.data c.args.now c.args.first) c.args.actions enough
-          (rw (c.insert.ensures, c.in-Ok-stage.ensures.staged, c.new-pending.ensures, planned) refl)
-          (rw (c.start_report.ensures, inserted) refl);
+      start = started_is _ c.args.module machine c.args.actions enough
+          (rw (c.set_all.ensures, c.insert.ensures, c.prepare.ensures.same_schedule, c.new-agenda.ensures, planned) refl)
+          (rw (c.start_report.ensures, inserted, set) refl);
     }
 
--- too few numbers are left
-pub returns-then-first-count : goal.returns-then-first-count
-returns-then-first-count g c =
-    let count : c.len-count.result ≡ length (inserts_of c.args.actions) = rw c.in-Ok.ensures.planned at c.len-count.ensures.length in
-    let lacking : 2 ^ 63 < c.args.first + length (inserts_of c.args.actions) = omega (arith, count, c.requires.greatest, c.if-first-count.true) in
-    record { start = started_exhausted _ c.args.module (first_state c.args.id c.args.state c.args.data c.args.now c.args.first) c.args.actions lacking (rw c.refused-then-first-count.ensures refl) }
-
--- each call that finds no memory comes after `init`
-pub returns-in_default : goal.returns-in_default
-returns-in_default g c = record {
-  start = inr (started_takes_memory _ c.args.module (first_state c.args.id c.args.state c.args.data c.args.now c.args.first) c.args.actions, rw c.refused.ensures refl);
-}
-
-pub returns-in_default-numbers_from : goal.returns-in_default-numbers_from
-returns-in_default-numbers_from g c = record {
-  start = inr (started_takes_memory _ c.args.module (first_state c.args.id c.args.state c.args.data c.args.now c.args.first) c.args.actions, rw c.refused-in_default-numbers_from.ensures refl);
-}
-
-pub returns-in_default-stage : goal.returns-in_default-stage
-returns-in_default-stage g c = record {
-  start = inr (started_takes_memory _ c.args.module (first_state c.args.id c.args.state c.args.data c.args.now c.args.first) c.args.actions, rw c.refused-in_default-stage.ensures refl);
-}
+-- numbers or memory are wanting
+pub returns-in-Err : goal.returns-in-Err
+returns-in-Err g c =
+    let machine = first_state c.args.id c.args.state c.args.data c.args.now c.args.first in
+    let next : c.new-agenda.result.schedule.next ≡ c.args.first = ap (λ (a : Agenda _). a.schedule.next) c.new-agenda.ensures in
+    record {
+      start = started_refused _ c.args.module machine c.args.actions c.in-Err.refusal (rw (next, c.in-Ok.ensures.planned) at c.in-Err.ensures.refusals)
+          (rw c.refused-in-Err.ensures refl);
+    }
 
 pub insert-requires : goal.insert-requires
 insert-requires g c =
-    let planned = c.in-Ok.ensures.planned in
-    let count : c.len-count.result ≡ length (inserts_of c.args.actions) = rw planned at c.len-count.ensures.length in
-    let enough : c.args.first + length (inserts_of c.args.actions) ≤ 2 ^ 63 = omega (arith, count, c.requires.greatest, c.if-first-count.false) in
-    let room : length (inserts_of c.args.actions) ≤ max 0 c.len-count.result = omega (arith, count) in
-    (g.met.M.Module.inserts_fit, (rw (c.in-Ok-stage.ensures.staged, c.new-pending.ensures, planned) room, rw (c.in-Ok-stage.ensures.staged, c.new-pending.ensures, planned) enough))
+    let next : c.prepare.new.agenda.schedule.next ≡ c.new-agenda.result.schedule.next = ap (λ (s : Schedule _). s.next) c.prepare.ensures.same_schedule in
+    let enough = enough_for_inserts c.new-agenda.result.schedule.next (length c.in-Ok.planned.inserts) (numbers_taken c.in-Ok.planned.requests) c.in-Ok-prepare.ensures.numbers in
+    let room : length c.in-Ok.planned.inserts ≤ c.prepare.new.agenda.staged = omega (arith, c.in-Ok-prepare.ensures.staged) in
+    let numbers : c.prepare.new.agenda.schedule.next + length c.in-Ok.planned.inserts ≤ 2 ^ 63 = omega (arith, next, enough) in
+    (g.met.M.Module.inserts_fit, (room, numbers))
+
+pub set_all-requires : goal.set_all-requires
+set_all-requires g c =
+    let next : c.prepare.new.agenda.schedule.next ≡ c.new-agenda.result.schedule.next = ap (λ (s : Schedule _). s.next) c.prepare.ensures.same_schedule in
+    let enough = enough_for_all c.new-agenda.result.schedule.next (length c.in-Ok.planned.inserts) (numbers_taken c.in-Ok.planned.requests) c.in-Ok-prepare.ensures.numbers in
+    let more : c.insert.new.self.schedule.next ≡ c.prepare.new.agenda.schedule.next + length c.in-Ok.planned.inserts =
+    ap (λ (a : Agenda _). a.schedule.next) c.insert.ensures in
+    let kept : c.insert.new.self.room ≡ c.prepare.new.agenda.room = ap (λ (a : Agenda _). a.room) c.insert.ensures in
+    let room : length c.in-Ok.planned.requests ≤ c.insert.new.self.room = omega (arith, kept, c.in-Ok-prepare.ensures.room) in
+    let numbers : c.insert.new.self.schedule.next + numbers_taken c.in-Ok.planned.requests ≤ 2 ^ 63 = omega (arith, next, more, enough) in
+    let fits = g.met.M.Module.settings_fit in
+    (fits, (fits, (c.requires.moment, (room, numbers))))
+
+-- the requests are dropped
+pub array_drop-planned-requires-in-Err-2 : goal.array_drop-planned-requires-in-Err-2
+array_drop-planned-requires-in-Err-2 g c = omega (arith, g.met.M.Module.settings_fit)

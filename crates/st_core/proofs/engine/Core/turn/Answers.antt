@@ -1,25 +1,9 @@
-use Rattle.std.proofs.Common.{◌<◌, ◌^◌, refl, sym, arith}
-use Rattle.st_core.specs.Callbacks.{callbacks_of}
-use Rattle.st_core.proofs.TransitionLemmas.{turn_is}
+use Rattle.std.proofs.Common.{◌≡◌, ◌<◌, ◌^◌, Some, sym, ◌∙◌, arith}
+use Rattle.std.specs.Option.{option_map}
+use Rattle.st_agenda.specs.Agenda.{name_of_event}
+use Rattle.st_core.specs.Choice.{next_event_of}
+use Rattle.st_core.proofs.TransitionLemmas.{number_named}
 use Rattle.st_core.proofs.engine.Core.turn.Goals as goal
-
--- the machine goes on
-pub returns-in-None-reason_of-clause-step : goal.returns-in-None-reason_of-clause-step
-returns-in-None-reason_of-clause-step g c =
-    let machine = c.args.self.now.machine in
-    let early : c.args.now < 2 ^ 63 = omega (arith, c.if-now-ge-LIMIT.false) in
-    let whole = turn_is (callbacks_of g.M.Module g.M.State.PartialEq.eq c.args.self.now.module_) machine c.args.now c.in-Some-peek.event.now c.in-Ok.outcome
-    (rw (← c.self.view_is) c.in_default.is) early (rw (← c.self.view_is) (sym c.in-Some-peek.ensures)) (rw (← c.self.view_is) c.in-Ok.ensures) in
-    rw (whole, ← c.reason_of.ensures, c.in-None-reason_of.is) c.go_on.ensures.step
-
--- the machine stops
-pub returns-in-Some-reason_of-clause-step : goal.returns-in-Some-reason_of-clause-step
-returns-in-Some-reason_of-clause-step g c =
-    let machine = c.args.self.now.machine in
-    let early : c.args.now < 2 ^ 63 = omega (arith, c.if-now-ge-LIMIT.false) in
-    let whole = turn_is (callbacks_of g.M.Module g.M.State.PartialEq.eq c.args.self.now.module_) machine c.args.now c.in-Some-peek.event.now c.in-Ok.outcome
-    (rw (← c.self.view_is) c.in_default.is) early (rw (← c.self.view_is) (sym c.in-Some-peek.ensures)) (rw (← c.self.view_is) c.in-Ok.ensures) in
-    rw (whole, ← c.reason_of.ensures, c.in-Some-reason_of.is) c.stop_at.ensures.step
 
 pub go_on-requires-send-M-State : goal.go_on-requires-send-M-State
 go_on-requires-send-M-State g c κs le = c.type_bounds.send-M-State
@@ -48,4 +32,6 @@ stop_at-requires-send-M-Arg g c κs le = c.type_bounds.send-M-Arg
 pub go_on-requires-after_bounds : goal.go_on-requires-after_bounds
 go_on-requires-after_bounds g c κs le =
     let early : c.args.now < 2 ^ 63 = omega (arith, c.if-now-ge-LIMIT.false) in
-    (g.met.M.Module.outcome_fits, (early, rw (← c.self.view_is, ← c.in-Some-peek.ensures) refl))
+    let next = next_event_of c.args.self.now.machine in
+    let named : option_map name_of_event next ≡ Some (c.in-Some-next_event.number, c.in-Some-next_event.kind) = rw (← c.self.view_is) (sym c.next_event.ensures ∙ c.in-Some-next_event.is) in
+    (g.met.M.Module.outcome_fits, (early, number_named next (c.in-Some-next_event.number, c.in-Some-next_event.kind) named))

@@ -1,0 +1,53 @@
+//! What a transition needs before it changes anything: numbers and memory.
+ghost use Rattle.std.specs.Prelude.{◌≡◌, ◌⊎◌, ◌+◌, ◌≤◌, true, false, length, IfOk, IfErr, OnOk};
+ghost use Rattle.st_events.specs.declared.refusal.Refusal.TheVariants.{NoMemory, Exhausted};
+ghost use Rattle.st_agenda.specs.Items.{numbered, numbers_of};
+ghost use Rattle.st_core.specs.Prepared.{has_numbers_for};
+ghost use Rattle.st_core.specs.Transition.{times_of};
+
+use crate::numbers::numbers_from;
+use crate::settings::{has_numbers, times_of};
+use st_actions::Planned;
+use st_agenda::Agenda;
+use st_events::{PlainList, Refusal, Time, Timer};
+use std::alloc::Global;
+
+/// What a report says of the events that are inserted and of the timers that are set.
+#[derive(Drop)]
+pub(crate) struct Prepared {
+    pub(crate) inserted: PlainList<u64>,
+    pub(crate) set: PlainList<(Timer, Time)>,
+}
+
+/// Sees that there are numbers enough for a plan, and gets all memory for it: for what the report says, and
+/// for the events and timers. Nothing that waits or runs changes, and after that the plan cannot fail.
+pub(crate) fn prepare<C: Drop>(
+    alloc: Global,
+    agenda: &mut Agenda<C>,
+    planned: &Planned<C>,
+) -> Result<Prepared, Refusal>
+    ensures numbers { IfOk result (λ prepared. has_numbers_for agenda.old.schedule.next planned.now ≡ true) }
+    ensures inserted { IfOk result (λ prepared. prepared.inserted ≡ numbers_of (numbered agenda.old.schedule.next planned.now.inserts)) }
+    ensures set { IfOk result (λ prepared. prepared.set ≡ times_of planned.now.requests) }
+    ensures staged { OnOk result (length planned.now.inserts + 1 ≤ agenda.new.staged) }
+    ensures room { OnOk result (length planned.now.requests ≤ agenda.new.room) }
+    ensures same_schedule { agenda.new.schedule ≡ agenda.old.schedule }
+
+    ensures refusals { IfErr result (λ refusal. (refusal ≡ NoMemory) ⊎ ((refusal ≡ Exhausted) × (has_numbers_for agenda.old.schedule.next planned.now ≡ false))) }
+{
+    let inserts = planned.inserts.len();
+    let timers = planned.requests.len();
+    if !has_numbers(agenda.next(), inserts, &planned.requests) {
+        return Err(Refusal::Exhausted);
+    }
+    let Ok(inserted) = numbers_from(alloc, agenda.next(), inserts) else {
+        return Err(Refusal::NoMemory);
+    };
+    let Ok(set) = times_of(alloc, &planned.requests) else {
+        return Err(Refusal::NoMemory);
+    };
+    let Ok(()) = agenda.make_room(inserts, timers) else {
+        return Err(Refusal::NoMemory);
+    };
+    Ok(Prepared { inserted, set })
+}
