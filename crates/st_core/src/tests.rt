@@ -11,6 +11,7 @@ mod table;
 mod table_machine;
 mod tested;
 mod timeouts;
+mod zero_timeouts;
 
 /// Says so where no allocation of this test was refused: then one of those that follow is.
 fn tell_refusals(rt: HostRuntime) {
