@@ -1,21 +1,26 @@
 -- One action after another.
 use Rattle.std.proofs.Common.{◌≡◌, ℕ, ◌+◌, ◌≤◌, ◌<◌, Bool, true, false, Some, None, List, [], ◌∷◌, ◌++◌, refl, sym, ap, ◌∙◌, length, take, get_or, reverse, length-append, append-nil, append_assoc, ◌⊎◌, inl, inr, arith}
-use Rattle.std.specs.Prelude.{slice_get, ◌||◌}
+use Rattle.std.specs.Prelude.{slice_get, ◌||◌, ◌==◌, if◌then◌else◌}
 use Rattle.std.specs.List.{list_any}
 use Rattle.std.specs.Option.{option_to_list}
 use Rattle.std.proofs.lemmas.List.{reverse-append}
-use Rattle.std.proofs.lemmas.List.Folds.{list_any_more, list_any_at}
+use Rattle.std.proofs.lemmas.List.Folds.{list_any-append, list_any_more, list_any_at}
 use Rattle.std.proofs.lemmas.Option.{slice_get_cases}
 use Rattle.std.proofs.lemmas.List.Sorted.{list_any-IsPermutation, IsPermutation-reverse}
 use Rattle.st_events.specs.declared.tag.Tag.{Tag}
 use Rattle.st_events.specs.declared.action.Action.{Action}
-use Rattle.st_events.specs.declared.action.Action.TheVariants.{Set}
+use Rattle.st_events.specs.declared.action.Action.TheVariants.{Reply, Postpone, NextEvent, Set, Hibernate}
+use Rattle.st_events.specs.declared.enter_action.EnterAction.{EnterAction}
+use Rattle.st_events.specs.declared.enter_action.EnterAction.TheVariants as enter
 use Rattle.st_events.specs.declared.insert.Insert.{Insert}
 use Rattle.st_events.specs.declared.setting.Setting.{Setting}
 use Rattle.st_events.specs.declared.time.Time.{Time}
 use Rattle.st_events.specs.declared.timer.Timer.{Timer}
+use Rattle.st_events.specs.declared.timer.Timer.TheVariants as timer
+use Rattle.st_events.specs.Timers.{same_timer}
 use Rattle.st_actions.specs.declared.planned.Planned.{Planned}
-use Rattle.st_actions.specs.Plan.{replies_of, inserts_of, postpone_of, is_set, sets, requests_of, plan_of}
+use Rattle.st_actions.specs.Plan.{replies_of, inserts_of, postpone_or, postpone_of, is_set, sets, requests_of, plan_of}
+use Rattle.st_actions.specs.Joined.{as_action, as_actions, enter_plan_of, requested, remaining_of, joined_of}
 
 -- what was last is the first in the other order
 pub last_is_first : {X : Type 0} (old new : List X) (x : X) → old ≡ new ++ x ∷ [] → reverse old ≡ x ∷ reverse new
@@ -44,36 +49,34 @@ or_false : (first : Bool) → (first || false) ≡ true → first ≡ true
 or_false true h = refl
 or_false false h = h
 
-module _ {C : Type 0} (timer : Timer) where
-  -- the order does not matter
-  pub sets-reverse : (actions : List (Action C)) → sets timer (reverse actions) ≡ sets timer actions
-  sets-reverse actions = sym (list_any-IsPermutation (λ (action : Action C). is_set timer action) actions (reverse actions) (IsPermutation-reverse actions))
-
-  abbrev sets_it : Action C → Bool
-  sets_it action = is_set timer action
-
-  -- one action more was looked at
-  pub none_sets_more : (actions : List (Action C)) (index : ℕ) → index < length actions → sets timer (take index actions) ≡ false
-      → list_any sets_it (option_to_list (slice_get actions index)) ≡ false
-      → sets timer (take (index + 1) actions) ≡ false
-  none_sets_more actions index within none one = more (slice_get_cases actions index).1 where
-    more : ((action : Action C) × (index < length actions) × (slice_get actions index ≡ Some action) × (get_or actions index action ≡ action))
-        ⊎ ((length actions ≤ index) × (slice_get actions index ≡ None))
-        → sets timer (take (index + 1) actions) ≡ false
-    more (inl (action, there, found, read)) =
-        list_any_more sets_it actions index action there ∙ rw (none, read) (no_or (sets_it action) (rw found at one))
+-- ---- an element that passes a test
+module _ {X : Type 0} (passes : X → Bool) where
+  -- one element more was looked at
+  pub none_of_more : (elements : List X) (index : ℕ) → index < length elements → list_any passes (take index elements) ≡ false
+      → list_any passes (option_to_list (slice_get elements index)) ≡ false
+      → list_any passes (take (index + 1) elements) ≡ false
+  none_of_more elements index within none one = more (slice_get_cases elements index).1 where
+    more : ((element : X) × (index < length elements) × (slice_get elements index ≡ Some element) × (get_or elements index element ≡ element))
+        ⊎ ((length elements ≤ index) × (slice_get elements index ≡ None))
+        → list_any passes (take (index + 1) elements) ≡ false
+    more (inl (element, there, found, read)) =
+        list_any_more passes elements index element there ∙ rw (none, read) (no_or (passes element) (rw found at one))
     more (inr (past, nothing)) = absurd (omega (arith, within, past))
 
-  -- one of them sets it
-  pub one_sets : (actions : List (Action C)) (index : ℕ) → list_any sets_it (option_to_list (slice_get actions index)) ≡ true
-      → sets timer actions ≡ true
-  one_sets actions index one = there (slice_get_cases actions index).1 where
-    there : ((action : Action C) × (index < length actions) × (slice_get actions index ≡ Some action) × (get_or actions index action ≡ action))
-        ⊎ ((length actions ≤ index) × (slice_get actions index ≡ None))
-        → sets timer actions ≡ true
-    there (inl (action, within, found, read)) =
-        list_any_at sets_it actions index action within (rw read (or_false (sets_it action) (rw found at one)))
+  -- one of them passes it
+  pub one_of_them : (elements : List X) (index : ℕ) → list_any passes (option_to_list (slice_get elements index)) ≡ true
+      → list_any passes elements ≡ true
+  one_of_them elements index one = there (slice_get_cases elements index).1 where
+    there : ((element : X) × (index < length elements) × (slice_get elements index ≡ Some element) × (get_or elements index element ≡ element))
+        ⊎ ((length elements ≤ index) × (slice_get elements index ≡ None))
+        → list_any passes elements ≡ true
+    there (inl (element, within, found, read)) =
+        list_any_at passes elements index element within (rw read (or_false (passes element) (rw found at one)))
     there (inr (past, nothing)) = absurd (true_not_false (sym (rw nothing at one)))
+
+-- the order of the actions does not matter
+pub sets-reverse : {C : Type 0} (timer : Timer) (actions : List (Action C)) → sets timer (reverse actions) ≡ sets timer actions
+sets-reverse {C} timer actions = sym (list_any-IsPermutation (λ (action : Action C). is_set timer action) actions (reverse actions) (IsPermutation-reverse actions))
 
 module _ {C : Type 0} (timer : Timer) (time : Time) (content : C) where
   -- a request goes over, since no later action sets its timer
@@ -97,3 +100,139 @@ pub planned_whole : {C : Type 0} (actions : List (Action C)) (replies : List (Ta
     → planned_as replies postpone inserts requests ≡ plan_of actions
 planned_whole actions replies postpone inserts requests same_replies same_postpone same_inserts same_requests =
     rw (same_replies, same_postpone, same_inserts, same_requests) refl
+
+-- ---- the actions of an enter call
+module _ {C : Type 0} where
+  -- none of them postpones
+  enter_postpones_nothing : (given : Bool) (actions : List (EnterAction C)) → postpone_or given (as_actions actions) ≡ given
+  enter_postpones_nothing given [] = refl
+  enter_postpones_nothing given (enter.Reply tag content ∷ actions) = enter_postpones_nothing given actions
+  enter_postpones_nothing given (enter.Set timer time content ∷ actions) = enter_postpones_nothing given actions
+  enter_postpones_nothing given (enter.Hibernate ∷ actions) = enter_postpones_nothing given actions
+
+  -- none of them inserts
+  enter_inserts_nothing : (actions : List (EnterAction C)) → inserts_of (as_actions actions) ≡ []
+  enter_inserts_nothing [] = refl
+  enter_inserts_nothing (enter.Reply tag content ∷ actions) = enter_inserts_nothing actions
+  enter_inserts_nothing (enter.Set timer time content ∷ actions) = enter_inserts_nothing actions
+  enter_inserts_nothing (enter.Hibernate ∷ actions) = enter_inserts_nothing actions
+
+  pub enter_planned_whole : (actions : List (EnterAction C)) (replies : List (Tag × C)) (inserts : List (Insert C)) (requests : List (Setting C))
+      → replies ≡ replies_of (as_actions actions) → inserts ≡ [] → requests ≡ requests_of (as_actions actions)
+      → planned_as replies false inserts requests ≡ enter_plan_of actions
+  enter_planned_whole actions replies inserts requests same_replies none same_requests =
+      planned_whole (as_actions actions) replies false inserts requests same_replies (sym (enter_postpones_nothing false actions))
+      (none ∙ sym (enter_inserts_nothing actions)) same_requests
+
+  -- one of them sets a timer where one of the actions that they are does
+  sets-as_actions : (timer : Timer) (actions : List (EnterAction C))
+      → sets timer (as_actions actions) ≡ list_any (λ (action : EnterAction C). is_set timer (as_action action)) actions
+  sets-as_actions timer [] = refl
+  sets-as_actions timer (action ∷ actions) = ap (λ b. is_set timer (as_action action) || b) (sets-as_actions timer actions)
+
+  -- the order does not matter
+  pub enter_sets-reverse : (timer : Timer) (actions : List (EnterAction C))
+      → sets timer (as_actions (reverse actions)) ≡ list_any (λ (action : EnterAction C). is_set timer (as_action action)) actions
+  enter_sets-reverse timer actions = sets-as_actions timer (reverse actions)
+      ∙ sym (list_any-IsPermutation (λ (action : EnterAction C). is_set timer (as_action action)) actions (reverse actions) (IsPermutation-reverse actions))
+
+-- ---- timers compared
+numbers_same : (m n : ℕ) → (m == n) ≡ true → m ≡ n
+numbers_same m n h = grind (arith, h)
+
+timer_same : (one other : Timer) → same_timer one other ≡ true → one ≡ other
+timer_same timer.Event timer.Event h = refl
+timer_same timer.Event timer.State h = cc
+timer_same timer.Event (timer.Named name) h = cc
+timer_same timer.State timer.Event h = cc
+timer_same timer.State timer.State h = refl
+timer_same timer.State (timer.Named name) h = cc
+timer_same (timer.Named name) timer.Event h = cc
+timer_same (timer.Named name) timer.State h = cc
+timer_same (timer.Named name) (timer.Named other) h = ap timer.Named (numbers_same name other h)
+
+-- ---- two lists of actions, one after the other
+module _ {C : Type 0} where
+  replies-append : (first second : List (Action C)) → replies_of (first ++ second) ≡ replies_of first ++ replies_of second
+  replies-append [] second = refl
+  replies-append (Reply tag content ∷ first) second = ap (λ replies. (tag, content) ∷ replies) (replies-append first second)
+  replies-append (Postpone last ∷ first) second = replies-append first second
+  replies-append (NextEvent kind content ∷ first) second = replies-append first second
+  replies-append (Set timer time content ∷ first) second = replies-append first second
+  replies-append (Hibernate ∷ first) second = replies-append first second
+
+  inserts-append : (first second : List (Action C)) → inserts_of (first ++ second) ≡ inserts_of first ++ inserts_of second
+  inserts-append [] second = refl
+  inserts-append (Reply tag content ∷ first) second = inserts-append first second
+  inserts-append (Postpone last ∷ first) second = inserts-append first second
+  inserts-append (NextEvent kind content ∷ first) second =
+      ap (λ (inserts : List (Insert C)). record { kind = kind; content = content } ∷ inserts) (inserts-append first second)
+  inserts-append (Set timer time content ∷ first) second = inserts-append first second
+  inserts-append (Hibernate ∷ first) second = inserts-append first second
+
+  postpone-append : (given : Bool) (first second : List (Action C)) → postpone_or given (first ++ second) ≡ postpone_or (postpone_or given first) second
+  postpone-append given [] second = refl
+  postpone-append given (Reply tag content ∷ first) second = postpone-append given first second
+  postpone-append given (Postpone last ∷ first) second = postpone-append last first second
+  postpone-append given (NextEvent kind content ∷ first) second = postpone-append given first second
+  postpone-append given (Set timer time content ∷ first) second = postpone-append given first second
+  postpone-append given (Hibernate ∷ first) second = postpone-append given first second
+
+  -- a request of a timer stands where one of the actions sets it
+  requested_once : (timer other : Timer) (time : Time) (content : C) (actions : List (Action C)) (later same : Bool)
+      → sets other actions ≡ later → same_timer timer other ≡ same
+      → requested timer (requests_of actions) ≡ sets timer actions
+      → requested timer (if later then requests_of actions else record { timer = other; time = time; content = content } ∷ requests_of actions)
+      ≡ (same || sets timer actions)
+  requested_once timer other time content actions true true later same known =
+      known ∙ (ap (λ (t : Timer). sets t actions) (timer_same timer other same) ∙ later)
+  requested_once timer other time content actions true false later same known = known
+  requested_once timer other time content actions false same_bool later same known = rw (same, known) refl
+
+  requested-requests_of : (timer : Timer) (actions : List (Action C)) → requested timer (requests_of actions) ≡ sets timer actions
+  requested-requests_of timer [] = refl
+  requested-requests_of timer (Reply tag content ∷ actions) = requested-requests_of timer actions
+  requested-requests_of timer (Postpone last ∷ actions) = requested-requests_of timer actions
+  requested-requests_of timer (NextEvent kind content ∷ actions) = requested-requests_of timer actions
+  requested-requests_of timer (Set other time content ∷ actions) =
+      requested_once timer other time content actions (sets other actions) (same_timer timer other) refl refl (requested-requests_of timer actions)
+  requested-requests_of timer (Hibernate ∷ actions) = requested-requests_of timer actions
+
+  -- a request more in front of both
+  request_first : (request : Setting C) (rest later whole : List (Setting C)) (in_rest in_later : Bool)
+      → requested request.timer later ≡ in_later
+      → whole ≡ remaining_of rest later ++ later
+      → (if in_rest || in_later then whole else request ∷ whole)
+      ≡ remaining_of (if in_rest then rest else request ∷ rest) later ++ later
+  request_first request rest later whole true in_later asked same = same
+  request_first request rest later whole false true asked same = rw asked same
+  request_first request rest later whole false false asked same = rw asked (ap (λ (requests : List (Setting C)). request ∷ requests) same)
+
+  requests-append : (first second : List (Action C)) → requests_of (first ++ second) ≡ remaining_of (requests_of first) (requests_of second) ++ requests_of second
+  requests-append [] second = refl
+  requests-append (Reply tag content ∷ first) second = requests-append first second
+  requests-append (Postpone last ∷ first) second = requests-append first second
+  requests-append (NextEvent kind content ∷ first) second = requests-append first second
+  requests-append (Set timer time content ∷ first) second =
+      let either = list_any-append (λ (action : Action C). is_set timer action) first second in
+      rw either (request_first (record { timer = timer; time = time; content = content }) (requests_of first) (requests_of second) (requests_of (first ++ second))
+      (sets timer first) (sets timer second) (requested-requests_of timer second) (requests-append first second))
+  requests-append (Hibernate ∷ first) second = requests-append first second
+
+  -- what an event's actions ask for, joined with what the enter call's ask for, is what both lists ask for
+  pub joined_plans : (actions : List (Action C)) (enter_actions : List (EnterAction C))
+      → joined_of (plan_of actions) (enter_plan_of enter_actions) ≡ plan_of (actions ++ as_actions enter_actions)
+  joined_plans actions enter_actions =
+      let later = as_actions enter_actions in
+      planned_whole (actions ++ later) (replies_of actions ++ replies_of later) (postpone_of actions) (inserts_of actions ++ inserts_of later)
+      (remaining_of (requests_of actions) (requests_of later) ++ requests_of later)
+      (sym (replies-append actions later))
+      (sym (postpone-append false actions later ∙ enter_postpones_nothing (postpone_of actions) enter_actions))
+      (sym (inserts-append actions later))
+      (sym (requests-append actions later))
+
+pub joined_whole : {C : Type 0} (first second : Planned C) (replies : List (Tag × C)) (inserts : List (Insert C)) (requests : List (Setting C))
+    → replies ≡ first.replies ++ second.replies → inserts ≡ first.inserts ++ second.inserts
+    → requests ≡ remaining_of first.requests second.requests ++ second.requests
+    → planned_as replies first.postpone inserts requests ≡ joined_of first second
+joined_whole first second replies inserts requests same_replies same_inserts same_requests = rw (same_replies, same_inserts, same_requests) refl

@@ -1,2 +1,3 @@
 -- What a list of actions asks for.
 pub mod Plan
+pub mod Joined

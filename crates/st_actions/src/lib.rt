@@ -1,10 +1,15 @@
 //! What a list of actions asks for. It knows nothing of the machine that asks.
 #![tactic(auto)]
 
+mod enter_planning;
+mod joining;
+mod may_set;
 mod planned;
 mod planning;
 #[cfg(test)]
 mod tests;
 
+pub use enter_planning::plan_enter;
+pub use joining::join;
 pub use planned::Planned;
 pub use planning::plan;

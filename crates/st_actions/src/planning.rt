@@ -1,12 +1,11 @@
 //! Actions taken apart.
-ghost use Rattle.std.specs.Prelude.{◌≡◌, ◌≤◌, length, slice_get, IsOk, IfOk, IfErr};
-ghost use Rattle.std.specs.List.{list_any};
-ghost use Rattle.std.specs.Option.{option_to_list};
+ghost use Rattle.std.specs.Prelude.{◌≡◌, ◌≤◌, length, IsOk, IfOk, IfErr};
 ghost use Rattle.st_events.specs.Rows.{ActionsFit, RepliesFit, InsertsFit, SettingsFit};
-ghost use Rattle.st_actions.specs.Plan.{plan_of, is_set, sets};
+ghost use Rattle.st_actions.specs.Plan.{plan_of};
 
 use crate::Planned;
-use st_events::{Action, Actions, Insert, Setting, SmallListBuilder, Timer};
+use crate::may_set::sets;
+use st_events::{Action, Actions, Insert, Setting, SmallListBuilder};
 use std::alloc::{AllocFailed, Global};
 
 /// Takes a list of actions apart, into what is asked for. Of a list of at most four it takes no memory.
@@ -65,37 +64,4 @@ pub fn plan<C: Drop>(
         inserts,
         requests,
     })
-}
-
-/// Says whether one of the actions sets a timer.
-fn sets<C>(actions: &Actions<C>, timer: Timer) -> bool
-    ensures { result ≡ sets timer actions.now }
-{
-    for index in 0..actions.len() {
-        if is_set_at(actions, index, timer) {
-            return true;
-        }
-    }
-    false
-}
-
-/// Says whether the action at an index sets a timer.
-fn is_set_at<C>(actions: &Actions<C>, index: usize, timer: Timer) -> bool
-    ensures { result ≡ list_any (λ action. is_set timer action) (option_to_list (slice_get actions.now index)) }
-{
-    match actions.get(index) {
-        None => false,
-        Some(action) => is_set(action, timer),
-    }
-}
-
-/// Says whether an action sets a timer.
-fn is_set<C>(action: &Action<C>, timer: Timer) -> bool
-    ensures { result ≡ is_set timer action.now }
-{
-    match action {
-        Action::Set(other, _, _) => timer == *other,
-        Action::Reply(_, _) | Action::Postpone(_) | Action::NextEvent(_, _) | Action::Hibernate =>
-            false,
-    }
 }

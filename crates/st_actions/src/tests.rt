@@ -1,6 +1,6 @@
 //! What lists ask for, with memory and while an allocation is refused.
-use crate::{Planned, plan};
-use st_events::{Action, Actions, Kind, MachineId, Tag, Time, Timer};
+use crate::{Planned, join, plan, plan_enter};
+use st_events::{Action, Actions, EnterAction, EnterActions, Kind, MachineId, Tag, Time, Timer};
 use std::alloc::Global;
 use std::process::Abort;
 
@@ -98,6 +98,139 @@ fn planned(rt: &impl Abort, alloc: Global, letters: &[char]) -> Planned<u64> {
             }
         }
     }
+}
+
+/// The enter call's action that a letter names, as it names an action. Those that name none hibernate.
+fn enter_action(letter: char) -> EnterAction<u64> {
+    match action(letter) {
+        Action::Reply(tag, content) => EnterAction::Reply(tag, content),
+        Action::Set(timer, time, content) => EnterAction::Set(timer, time, content),
+        Action::Postpone(_) | Action::NextEvent(_, _) | Action::Hibernate => EnterAction::Hibernate,
+    }
+}
+
+/// Says whether an enter call's action is the one that a letter names.
+fn is_enter_action(found: &EnterAction<u64>, letter: char) -> bool {
+    match (found, enter_action(letter)) {
+        (EnterAction::Reply(tag, content), EnterAction::Reply(other, wanted)) => {
+            *tag == other && *content == wanted
+        }
+        (EnterAction::Set(timer, time, content), EnterAction::Set(other, other_time, wanted)) => {
+            *timer == other && *time == other_time && *content == wanted
+        }
+        (EnterAction::Hibernate, EnterAction::Hibernate) => true,
+        _ => false,
+    }
+}
+
+/// A list of the enter call's actions that letters name, as `list` makes one.
+fn enter_list(rt: &impl Abort, alloc: Global, letters: &[char]) -> EnterActions<u64> {
+    let mut actions = EnterActions::new(alloc);
+    for letter in letters {
+        if let Err(failed) = actions.push(enter_action(*letter)) {
+            assert!(rt;
+                actions.push(failed.value).is_ok(),
+                "one allocation alone is refused"
+            );
+        }
+    }
+    actions
+}
+
+/// Looks that a list has the enter call's actions that letters name, and no others.
+fn enter_has(rt: &impl Abort, actions: &EnterActions<u64>, letters: &[char]) {
+    assert_eq!(rt; actions.len(), letters.len());
+    for (index, letter) in letters.iter().enumerate() {
+        let found = actions.get(index).expect(rt, "there are so many");
+        assert!(rt; is_enter_action(found, *letter), "at {index}");
+    }
+}
+
+/// What letters ask for in an enter call. A call that finds no memory gives the list back, and is made
+/// again.
+fn entered(rt: &impl Abort, alloc: Global, letters: &[char]) -> Planned<u64> {
+    match plan_enter(alloc, enter_list(rt, alloc, letters)) {
+        Ok(planned) => planned,
+        Err(failed) => {
+            assert!(rt; letters.len() > 4);
+            enter_has(rt, &failed.value, letters);
+            match plan_enter(alloc, failed.value) {
+                Ok(planned) => planned,
+                Err(_) => panic!(rt; "one allocation alone is refused"),
+            }
+        }
+    }
+}
+
+/// Looks that two plans ask for the same.
+fn same(rt: &impl Abort, found: &Planned<u64>, wanted: &Planned<u64>) {
+    assert_eq!(rt; found.replies.len(), wanted.replies.len());
+    for index in 0..found.replies.len() {
+        let one = found.replies.get(index).expect(rt, "there are so many");
+        let other = wanted.replies.get(index).expect(rt, "there are as many");
+        assert!(rt; one.0 == other.0 && one.1 == other.1, "at {index}");
+    }
+    assert!(rt; found.postpone == wanted.postpone);
+    assert_eq!(rt; found.inserts.len(), wanted.inserts.len());
+    for index in 0..found.inserts.len() {
+        let one = found.inserts.get(index).expect(rt, "there are so many");
+        let other = wanted.inserts.get(index).expect(rt, "there are as many");
+        assert!(rt;
+            one.kind == other.kind && one.content == other.content,
+            "at {index}"
+        );
+    }
+    assert_eq!(rt; found.requests.len(), wanted.requests.len());
+    for index in 0..found.requests.len() {
+        let one = found.requests.get(index).expect(rt, "there are so many");
+        let other = wanted.requests.get(index).expect(rt, "there are as many");
+        assert!(rt;
+            one.timer == other.timer && one.time == other.time && one.content == other.content,
+            "at {index}"
+        );
+    }
+}
+
+/// What two plans ask for together. A call that finds no memory gives both back, equal to `copies`, and is
+/// made again.
+fn joined(
+    rt: &impl Abort,
+    alloc: Global,
+    plans: (Planned<u64>, Planned<u64>),
+    copies: &(Planned<u64>, Planned<u64>),
+) -> Planned<u64> {
+    match join(alloc, plans.0, plans.1) {
+        Ok(planned) => planned,
+        Err(failed) => {
+            let (first, second) = failed.value;
+            same(rt, &first, &copies.0);
+            same(rt, &second, &copies.1);
+            match join(alloc, first, second) {
+                Ok(planned) => planned,
+                Err(_) => panic!(rt; "one allocation alone is refused"),
+            }
+        }
+    }
+}
+
+/// What an event's letters ask for, and what an enter call's do.
+fn event_and_enter(
+    rt: &impl Abort,
+    alloc: Global,
+    event: &[char],
+    enter: &[char],
+) -> (Planned<u64>, Planned<u64>) {
+    (planned(rt, alloc, event), entered(rt, alloc, enter))
+}
+
+/// What the letters of two events ask for.
+fn two_events(
+    rt: &impl Abort,
+    alloc: Global,
+    first: &[char],
+    second: &[char],
+) -> (Planned<u64>, Planned<u64>) {
+    (planned(rt, alloc, first), planned(rt, alloc, second))
 }
 
 /// Looks that these replies are asked for, and no others.
@@ -231,6 +364,128 @@ fn refused_memory_changes_nothing(rt: HostRuntime) {
         &rt,
         &nine,
         &[
+            (Timer::State, Time::After(3), 100),
+            (Timer::Named(1), Time::After(9), 70),
+        ],
+    );
+    tell_refusals(rt);
+}
+
+#[test]
+fn an_enter_call_replies_and_sets_timers(rt: HostRuntime) {
+    let nothing = entered(&rt, rt.alloc(), &[]);
+    replies(&rt, &nothing, &[]);
+    assert!(rt; !nothing.postpone);
+    inserts(&rt, &nothing, &[]);
+    requests(&rt, &nothing, &[]);
+
+    let four = entered(&rt, rt.alloc(), &['x', 'h', 'r', 'e']);
+    replies(&rt, &four, &[(tag(1), 10)]);
+    requests(
+        &rt,
+        &four,
+        &[
+            (Timer::State, Time::After(3), 100),
+            (Timer::Event, Time::After(0), 90),
+        ],
+    );
+
+    // Of a timer's requests the last decides, and stands where it stood.
+    let six = entered(&rt, rt.alloc(), &['s', '1', 'h', 'r', '2', '9']);
+    replies(&rt, &six, &[(tag(2), 20), (tag(1), 10)]);
+    assert!(rt; !six.postpone);
+    inserts(&rt, &six, &[]);
+    requests(
+        &rt,
+        &six,
+        &[
+            (Timer::Named(2), Time::After(2), 60),
+            (Timer::Named(1), Time::After(9), 70),
+        ],
+    );
+    tell_refusals(rt);
+}
+
+#[test]
+fn an_enter_calls_requests_replace_the_events(rt: HostRuntime) {
+    let event = ['r', 'p', 'i', '1', 'e'];
+    let enter = ['s', '0', 'h'];
+    let copies = event_and_enter(&rt, rt.alloc(), &event, &enter);
+    let both = joined(
+        &rt,
+        rt.alloc(),
+        event_and_enter(&rt, rt.alloc(), &event, &enter),
+        &copies,
+    );
+    replies(&rt, &both, &[(tag(1), 10), (tag(2), 20)]);
+    assert!(rt; both.postpone);
+    inserts(&rt, &both, &[(Kind::Internal, 30)]);
+    requests(
+        &rt,
+        &both,
+        &[
+            (Timer::Event, Time::After(0), 90),
+            (Timer::Named(1), Time::Infinity, 80),
+        ],
+    );
+
+    // The first list alone decides whether the event is postponed.
+    let copies = two_events(&rt, rt.alloc(), &['i', 'k'], &['p', 't']);
+    let kept = joined(
+        &rt,
+        rt.alloc(),
+        two_events(&rt, rt.alloc(), &['i', 'k'], &['p', 't']),
+        &copies,
+    );
+    assert!(rt; !kept.postpone);
+    inserts(
+        &rt,
+        &kept,
+        &[(Kind::Internal, 30), (Kind::Timeout(Timer::State), 40)],
+    );
+    tell_refusals(rt);
+}
+
+#[test]
+fn a_refused_join_changes_nothing(rt: HostRuntime) {
+    let first = ['r', 'i', 's', 't', '1', 'p', 'i', 'e', '2', 'x', 'r'];
+    let second = ['s', 't', 'k', 'i', '9', 'r'];
+    let copies = two_events(&rt, rt.alloc(), &first, &second);
+    let both = joined(
+        &rt,
+        rt.alloc(),
+        two_events(&rt, rt.alloc(), &first, &second),
+        &copies,
+    );
+    replies(
+        &rt,
+        &both,
+        &[
+            (tag(1), 10),
+            (tag(2), 20),
+            (tag(1), 10),
+            (tag(2), 20),
+            (tag(1), 10),
+        ],
+    );
+    assert!(rt; both.postpone);
+    inserts(
+        &rt,
+        &both,
+        &[
+            (Kind::Internal, 30),
+            (Kind::Timeout(Timer::State), 40),
+            (Kind::Internal, 30),
+            (Kind::Timeout(Timer::State), 40),
+            (Kind::Internal, 30),
+        ],
+    );
+    requests(
+        &rt,
+        &both,
+        &[
+            (Timer::Event, Time::After(0), 90),
+            (Timer::Named(2), Time::After(2), 60),
             (Timer::State, Time::After(3), 100),
             (Timer::Named(1), Time::After(9), 70),
         ],

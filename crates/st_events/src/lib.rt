@@ -3,6 +3,7 @@
 #![tactic(auto)]
 
 mod action;
+mod enter_action;
 mod event;
 mod init;
 mod insert;
@@ -23,6 +24,7 @@ mod time;
 mod timer;
 
 pub use action::{Action, Actions};
+pub use enter_action::{EnterAction, EnterActions};
 pub use event::Event;
 pub use init::Init;
 pub use insert::{Insert, Inserts};

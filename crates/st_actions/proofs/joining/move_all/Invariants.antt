@@ -1,0 +1,12 @@
+use Rattle.std.proofs.Common.{◌≡◌, ◌+◌, ◌++◌, length, reverse}
+use Rattle.st_actions.proofs.joining.move_all.Given as goal
+
+-- what was moved, with what is left, is all that there was
+abbrev pub invariant-loop-element : goal.invariant-loop-element
+invariant-loop-element g l = record {
+  elements : l.onto.items ++ reverse l.elements ≡ l.fn.onto.items ++ l.fn.elements;
+  room : l.onto.room + length l.fn.elements ≡ l.fn.onto.room + length l.elements;
+}
+
+abbrev pub decreases-loop-element : goal.decreases-loop-element
+decreases-loop-element g l = length l.elements

@@ -1,0 +1,46 @@
+use Rattle.std.proofs.Common.{arith, refl, sym, ap, ◌∙◌, length, reverse}
+use Rattle.std.proofs.lemmas.List.{reverse-reverse, length-reverse}
+use Rattle.st_actions.proofs.PlanLemmas.{last_is_first, one_fewer}
+use Rattle.st_actions.proofs.JoinLemmas.{remaining_over, remaining_replaced}
+use Rattle.st_actions.proofs.joining.move_remaining.Goals as goal
+
+pub loop-request-init : goal.loop-request-init
+loop-request-init g c =
+    let turned = c.reverse.ensures.reversed in
+    let back = reverse-reverse c.args.requests in
+    let as_long = ap length turned ∙ length-reverse c.args.requests in
+    record {
+      requests = rw (turned, back) refl;
+      places = refl;
+      room = omega (arith, as_long, c.requires.room);
+    }
+
+pub push-requires : goal.push-requires
+push-requires g c =
+    let fewer = one_fewer _ _ _ c.in-Some.ensures.popped in
+    (c.requires.settings_fit, omega (arith, fewer, c.loop-request.invariant.room))
+
+pub loop-request-preserved-then-not-sets : goal.loop-request-preserved-then-not-sets
+loop-request-preserved-then-not-sets g c =
+    let kept = c.loop-request.invariant in
+    let fewer = one_fewer _ _ _ c.in-Some.ensures.popped in
+    let next = last_is_first _ _ _ c.in-Some.ensures.popped in
+    let items = ap (λ b. b.items) c.push.ensures.pushed in
+    let room = ap (λ b. b.room) c.push.ensures.pushed in
+    let longer = one_fewer _ _ _ items in
+    record {
+      requests = remaining_over c.in-Some.request _ _ (reverse c.pop.new.self) c.args.later.now _ (sym c.sets.ensures ∙ c.if-not-sets.true) items (rw next at kept.requests);
+      places = omega (arith, fewer, longer, room, kept.places, kept.room);
+      room = omega (arith, fewer, room, kept.room);
+    }
+
+pub loop-request-preserved : goal.loop-request-preserved
+loop-request-preserved g c =
+    let kept = c.loop-request.invariant in
+    let fewer = one_fewer _ _ _ c.in-Some.ensures.popped in
+    let next = last_is_first _ _ _ c.in-Some.ensures.popped in
+    record {
+      requests = remaining_replaced c.in-Some.request _ (reverse c.pop.new.self) c.args.later.now _ (sym c.sets.ensures ∙ c.if-not-sets.false) (rw next at kept.requests);
+      places = kept.places;
+      room = omega (arith, fewer, kept.room);
+    }

@@ -1,0 +1,61 @@
+//! An enter call's actions taken apart.
+ghost use Rattle.std.specs.Prelude.{◌≡◌, ◌≤◌, length, IsOk, IfOk, IfErr};
+ghost use Rattle.st_events.specs.Rows.{EnterActionsFit, RepliesFit, InsertsFit, SettingsFit};
+ghost use Rattle.st_actions.specs.Joined.{enter_plan_of};
+
+use crate::Planned;
+use crate::may_set::sets;
+use st_events::{EnterAction, EnterActions, Inserts, Setting, SmallListBuilder};
+use std::alloc::{AllocFailed, Global};
+
+/// Takes an enter call's list of actions apart, into what is asked for: nothing is postponed or inserted.
+/// Of a list of at most four it takes no memory. Where memory is wanted and there is none, the list comes
+/// back.
+///
+/// Manual: `enter_action()`: `reply_action()`, `timeout_action()`, `hibernate()`.
+pub fn plan_enter<C: Drop>(
+    alloc: Global,
+    mut actions: EnterActions<C>,
+) -> Result<Planned<C>, AllocFailed<EnterActions<C>>>
+    requires actions_fit { EnterActionsFit C.row }
+    requires replies_fit { RepliesFit C.row }
+    requires inserts_fit { InsertsFit C.row }
+    requires settings_fit { SettingsFit C.row }
+    ensures planned { IfOk result (λ planned. planned ≡ enter_plan_of actions) }
+
+    ensures inline { length actions ≤ 4 → IsOk result }
+    ensures value_returned { IfErr result (λ failed. failed.value ≡ actions) }
+{
+    let count = actions.len();
+    let Ok(mut replies) = SmallListBuilder::with_room(alloc, count) else {
+        return Err(AllocFailed { value: actions });
+    };
+    let Ok(mut requests) = SmallListBuilder::with_room(alloc, count) else {
+        return Err(AllocFailed { value: actions });
+    };
+    actions.reverse();
+    while let Some(action) = actions.pop() {
+        match action {
+            EnterAction::Reply(tag, content) => replies.push((tag, content)),
+            EnterAction::Set(timer, time, content) => {
+                if !sets(&actions, timer) {
+                    requests.push(Setting {
+                        timer,
+                        time,
+                        content,
+                    });
+                }
+            }
+            EnterAction::Hibernate => {}
+        }
+    }
+    let replies = replies.finish();
+    let inserts = Inserts::new(alloc);
+    let requests = requests.finish();
+    Ok(Planned {
+        replies,
+        postpone: false,
+        inserts,
+        requests,
+    })
+}

@@ -1,0 +1,109 @@
+//! What two lists of actions ask for, put together.
+ghost use Rattle.std.specs.Prelude.{◌≡◌, ◌+◌, ◌≤◌, [], length, max, IsOk, IfOk, IfErr};
+ghost use Rattle.std.specs.Mem.{FitsInMemory};
+ghost use Rattle.st_events.specs.Rows.{RepliesFit, InsertsFit, SettingsFit};
+ghost use Rattle.st_events.specs.contracts.small_list.SmallList.{the_row as list_row};
+ghost use Rattle.st_actions.specs.Joined.{remaining_of, joined_of, AreShort, with_elements};
+
+use crate::Planned;
+use crate::may_set::sets;
+use st_events::{Setting, Settings, SmallList, SmallListBuilder};
+use std::alloc::{AllocError, AllocFailed, Global};
+
+/// Joins what two lists of actions ask for, one after the other: those of an event, and those of the
+/// enter call that follows it. The first alone says whether the event is postponed. Where both together
+/// have at most four of each kind it takes no memory. Where memory is wanted and there is none, both
+/// come back.
+///
+/// Manual: `state_enter()`, `timeout_action()`.
+pub fn join<C: Drop>(
+    alloc: Global,
+    first: Planned<C>,
+    second: Planned<C>,
+) -> Result<Planned<C>, AllocFailed<(Planned<C>, Planned<C>)>>
+    requires replies_fit { RepliesFit C.row }
+    requires inserts_fit { InsertsFit C.row }
+    requires settings_fit { SettingsFit C.row }
+    ensures joined { IfOk result (λ planned. planned ≡ joined_of first second) }
+
+    ensures inline { AreShort first second → IsOk result }
+    ensures value_returned { IfErr result (λ failed. failed.value ≡ (first, second)) }
+{
+    let Ok(mut replies) = room_for(alloc, &first.replies, &second.replies) else {
+        return Err(AllocFailed {
+            value: (first, second),
+        });
+    };
+    let Ok(mut inserts) = room_for(alloc, &first.inserts, &second.inserts) else {
+        return Err(AllocFailed {
+            value: (first, second),
+        });
+    };
+    let Ok(mut requests) = room_for(alloc, &first.requests, &second.requests) else {
+        return Err(AllocFailed {
+            value: (first, second),
+        });
+    };
+    let postpone = first.postpone;
+    move_all(first.replies, &mut replies);
+    move_all(second.replies, &mut replies);
+    move_all(first.inserts, &mut inserts);
+    move_all(second.inserts, &mut inserts);
+    move_remaining(first.requests, &second.requests, &mut requests);
+    move_all(second.requests, &mut requests);
+    let replies = replies.finish();
+    let inserts = inserts.finish();
+    let requests = requests.finish();
+    Ok(Planned {
+        replies,
+        postpone,
+        inserts,
+        requests,
+    })
+}
+
+/// Room for the elements of two lists. For up to four this takes no memory.
+fn room_for<T: Drop>(
+    alloc: Global,
+    first: &SmallList<T>,
+    second: &SmallList<T>,
+) -> Result<SmallListBuilder<T>, AllocError>
+    ensures room { IfOk result (λ builder. builder ≡ record { items = []; room = max 4 (length first.now + length second.now) }) }
+
+    ensures inline { length first.now + length second.now ≤ 4 → IsOk result }
+{
+    let Some(count) = first.len().checked_add(second.len()) else {
+        return Err(AllocError);
+    };
+    SmallListBuilder::with_room(alloc, count)
+}
+
+/// Moves a list's elements to the end of a list in the making, in their order.
+fn move_all<T: Drop>(mut elements: SmallList<T>, onto: &mut SmallListBuilder<T>)
+    requires fits { FitsInMemory (list_row T.row) }
+    requires room { length elements ≤ onto.old.room }
+    ensures moved { onto.new ≡ with_elements onto.old elements }
+{
+    elements.reverse();
+    while let Some(element) = elements.pop() {
+        onto.push(element);
+    }
+}
+
+/// Moves the requests whose timers no later one sets to the end of a list in the making, in their order.
+fn move_remaining<C: Drop>(
+    mut requests: Settings<C>,
+    later: &Settings<C>,
+    onto: &mut SmallListBuilder<Setting<C>>,
+)
+    requires settings_fit { SettingsFit C.row }
+    requires room { length requests ≤ onto.old.room }
+    ensures moved { onto.new ≡ with_elements onto.old (remaining_of requests later.now) }
+{
+    requests.reverse();
+    while let Some(request) = requests.pop() {
+        if !sets(later, request.timer) {
+            onto.push(request);
+        }
+    }
+}
