@@ -3,7 +3,7 @@ use Rattle.std.proofs.Common.{◌≡◌, ℕ, zero, suc, ◌+◌, ◌<◌, ◌�
 use Rattle.std.specs.Prelude.{Result, Ok, Err, nat_le, slice_get}
 use Rattle.std.proofs.Math.Seq.{take-suc}
 use Rattle.std.proofs.lemmas.Option.{slice_get_cases}
-use Rattle.std.specs.Option.{option_map}
+use Rattle.std.specs.Option.{option_map, option_or}
 use Rattle.std.specs.List.{range_with_len}
 use Rattle.std.proofs.lemmas.Bool.{lt-ltb}
 use Rattle.st_events.specs.declared.event.Event.{Event}
@@ -18,16 +18,14 @@ use Rattle.st_events.specs.declared.time.Time.TheVariants.{After, Infinity}
 use Rattle.st_agenda.specs.Agenda.{Schedule, name_of_event, settled_in}
 use Rattle.st_agenda.specs.Items.{numbered, numbers_of}
 use Rattle.st_agenda.specs.Timing.{number_taken, numbers_taken}
-use Rattle.st_events.specs.declared.outcome.Outcome.{Outcome}
-use Rattle.st_core.specs.declared.call.Call.TheVariants.{Handle}
 use Rattle.st_core.specs.declared.report.Report.{Report}
 use Rattle.st_core.specs.declared.turned.Turned.{Turned}
 use Rattle.st_core.specs.declared.turned.Turned.TheVariants.{Reported, Idle}
 use Rattle.st_core.specs.MachineState.{MachineState}
-use Rattle.st_core.specs.Callbacks.{Callbacks, Called, called_with, reason_of}
+use Rattle.st_core.specs.Callbacks.{Callbacks, Called, or_old, called_of, outcome_of, handled_with, entered_by, is_entered}
 use Rattle.st_core.specs.Choice.{next_event_of}
 use Rattle.st_core.specs.Stop.{with_ended, unless_ended}
-use Rattle.st_core.specs.Transition.{with_moment, with_called, with_settled, has_numbers, times_of, report_of, stop_report_of, went_on, stopped, settled, turn_running, turn_of}
+use Rattle.st_core.specs.Transition.{with_moment, with_called, with_settled, has_numbers, times_of, report_of, stop_report_of, went_on, stopped, settled, transition_of, turn_running, turn_of}
 use Rattle.st_core.specs.Run.{Meets, turn_takes_memory, turn_without_memory}
 
 -- ---- numbers
@@ -75,6 +73,16 @@ module _ {S D C : Type 0} where
   settled_takes_memory callbacks old machine number called (Some reason) = refl
 
 -- ---- answers
+module _ {S D C : Type 0} (callbacks : Callbacks S D C) (old machine : MachineState S D C) (number : ℕ) (called : Called S D C) where
+  -- the callbacks give no reason to stop
+  pub goes_on : called.reason ≡ None → settled callbacks old machine number called called.reason ≡ went_on old machine number called
+  goes_on none = ap (λ (reason : Option ℕ). settled callbacks old machine number called reason) none
+
+  -- they give one
+  pub stops : (reason : ℕ) → called.reason ≡ Some reason
+      → settled callbacks old machine number called called.reason ≡ stopped callbacks machine number called reason
+  stops reason some = ap (λ (reason : Option ℕ). settled callbacks old machine number called reason) some
+
 module _ {S D C : Type 0} (old machine after : MachineState S D C) (number : ℕ) (called : Called S D C) where
   -- too few numbers are left
   pub went_on_exhausted : has_numbers machine called.actions ≡ false
@@ -100,18 +108,50 @@ module _ {S D C : Type 0} (old machine after : MachineState S D C) (number : ℕ
       → Meets turn_takes_memory turn_without_memory (Ok (Reported report)) old after (stopped callbacks machine number called reason)
   stopped_is callbacks reason word same_word same_report same_after = rw (same_report, same_after, same_word) (inl (refl, refl))
 
+-- a call meets a definition that is the same
+pub meets_same : {A T : Type 0} (takes : A → Bool) (without answer : A) (old new : T) {definition other : A × T} → other ≡ definition
+    → Meets takes without answer old new definition → Meets takes without answer old new other
+meets_same takes without answer old new same meets = rw same meets
+
+-- new data stand in the place of data that stand in the place of others
+pub or_old_twice : {D : Type 0} (held : D) (new before : Option D) → or_old held (option_or new before) ≡ or_old (or_old held before) new
+or_old_twice held None before = refl
+or_old_twice held (Some new) before = refl
+
 module _ {S D C : Type 0} (callbacks : Callbacks S D C) (machine : MachineState S D C) (now : ℕ) where
-  -- a turn of a machine that runs is what comes of the outcome of `handle`
-  pub turn_is : (number : ℕ) (kind : Kind) (content : C) (outcome : Outcome S D C) → machine.ended ≡ None → now < 2 ^ 63
-      → next_event_of machine ≡ Some (record { number = number; kind = kind; content = content })
-      → outcome ≡ callbacks.handle_is kind content machine.state machine.data
-      → turn_of callbacks machine now ≡ settled callbacks machine (with_moment machine now) number
-      (called_with callbacks.same_state (Handle number kind machine.state ∷ []) machine.state machine.data outcome) (reason_of outcome)
-  turn_is number kind content outcome ended early next outcome_is =
-      let running : turn_running callbacks machine now ≡ settled callbacks machine (with_moment machine now) number
-      (called_with callbacks.same_state (Handle number kind machine.state ∷ []) machine.state machine.data outcome) (reason_of outcome) =
-      rw (lt-ltb now (2 ^ 63) early, next, outcome_is) refl in
-      ap (λ (end : Option (ℕ × ℕ)). unless_ended end (λ refusal. Err refusal) machine (turn_running callbacks machine now)) ended ∙ running
+  -- a turn of a machine that runs is what comes of the callbacks
+  pub turn_is : (event : Event C) → machine.ended ≡ None → now < 2 ^ 63 → next_event_of machine ≡ Some event
+      → turn_of callbacks machine now ≡ settled callbacks machine (with_moment machine now) event.number
+      (called_of callbacks machine event) (called_of callbacks machine event).reason
+  turn_is event ended early next =
+      let running : turn_running callbacks machine now ≡ transition_of callbacks machine (with_moment machine now) (next_event_of machine) =
+      rw (lt-ltb now (2 ^ 63) early) refl in
+      ap (λ (end : Option (ℕ × ℕ)). unless_ended end (λ refusal. Err refusal) machine (turn_running callbacks machine now)) ended
+      ∙ running ∙ ap (λ (e : Option (Event C)). transition_of callbacks machine (with_moment machine now) e) next
+
+  -- with no enter call
+  pub turn_concludes : (event : Event C) → machine.ended ≡ None → now < 2 ^ 63 → next_event_of machine ≡ Some event
+      → is_entered callbacks machine.state (outcome_of callbacks machine event) ≡ false
+      → turn_of callbacks machine now ≡ settled callbacks machine (with_moment machine now) event.number
+      (handled_with callbacks.same_state event.number event.kind machine.state machine.data (outcome_of callbacks machine event))
+      (handled_with callbacks.same_state event.number event.kind machine.state machine.data (outcome_of callbacks machine event)).reason
+  turn_concludes event ended early next no_call =
+      let handled = handled_with callbacks.same_state event.number event.kind machine.state machine.data (outcome_of callbacks machine event) in
+      turn_is event ended early next
+      ∙ ap (λ (enters : Bool). settled callbacks machine (with_moment machine now) event.number
+      (if enters then entered_by callbacks machine.state handled else handled) (if enters then entered_by callbacks machine.state handled else handled).reason) no_call
+
+  -- with an enter call
+  pub turn_enters : (event : Event C) → machine.ended ≡ None → now < 2 ^ 63 → next_event_of machine ≡ Some event
+      → is_entered callbacks machine.state (outcome_of callbacks machine event) ≡ true
+      → turn_of callbacks machine now ≡ settled callbacks machine (with_moment machine now) event.number
+      (entered_by callbacks machine.state (handled_with callbacks.same_state event.number event.kind machine.state machine.data (outcome_of callbacks machine event)))
+      (entered_by callbacks machine.state (handled_with callbacks.same_state event.number event.kind machine.state machine.data (outcome_of callbacks machine event))).reason
+  turn_enters event ended early next call =
+      let handled = handled_with callbacks.same_state event.number event.kind machine.state machine.data (outcome_of callbacks machine event) in
+      turn_is event ended early next
+      ∙ ap (λ (enters : Bool). settled callbacks machine (with_moment machine now) event.number
+      (if enters then entered_by callbacks machine.state handled else handled) (if enters then entered_by callbacks machine.state handled else handled).reason) call
 
   -- without an event it is idle
   pub idle_is : machine.ended ≡ None → now < 2 ^ 63 → next_event_of machine ≡ None

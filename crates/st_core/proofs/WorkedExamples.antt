@@ -13,7 +13,7 @@ use Rattle.st_events.specs.declared.refusal.Refusal.TheVariants.{NoMemory, Exhau
 use Rattle.st_events.specs.declared.refusal.Refusal.TheVariants as refusal
 use Rattle.st_events.specs.declared.refused.Refused.{Refused}
 use Rattle.st_core.specs.declared.entry.Entry.TheVariants.{Cast, Info}
-use Rattle.st_core.specs.declared.call.Call.TheVariants.{Handle, Terminate}
+use Rattle.st_core.specs.declared.call.Call.TheVariants.{Handle, Enter, Terminate}
 use Rattle.st_core.specs.declared.done.Done.{Done}
 use Rattle.st_core.specs.declared.done.Done.TheVariants.{Started, Finished, PutOff, Ended}
 use Rattle.st_core.specs.declared.report.Report.{Report}
@@ -34,15 +34,22 @@ use Rattle.st_core.specs.Choice.{is_ready_of, waiting_of, timers_of}
 use Rattle.st_core.specs.Start.{start_of, start_refused, Starts}
 use Rattle.st_core.specs.Stop.{stop_of}
 use Rattle.st_core.specs.Run.{takes_memory, step_of, Runs}
-use Rattle.st_core.specs.WorkedTable.{handled_by_table, begun_by_table}
+use Rattle.st_core.specs.WorkedTable.{handled_by_table, enters_by_table, entered_by_table, begun_by_table}
 use Rattle.st_core.proofs.RunLemmas.{runs_with_memory}
 
-abbrev table : Callbacks ℕ ℕ ℕ
-table = record {
+-- the callbacks of the module with this number
+abbrev table_of : ℕ → Callbacks ℕ ℕ ℕ
+table_of number = record {
   handle_is = λ kind content state held. handled_by_table content state held;
+  enters_is = enters_by_table number;
+  enter_is = λ old state held. entered_by_table number old state held;
   terminate_is = λ reason state held. held;
   same_state = λ state other. state == other;
 }
+
+-- that of most examples has no enter calls
+abbrev table : Callbacks ℕ ℕ ℕ
+table = table_of 50
 
 abbrev id : MachineId
 id = record { slot = 0; serial = 1 }
@@ -395,7 +402,7 @@ the_last_numbers_are_inserted = runs_with_memory table numbers_enough last_inser
 
 -- starts: running with a report, ignored, stopped, and refused at the first moment out of range
 abbrev started : ℕ → ℕ → ℕ → Result (Start ℕ ℕ ℕ ℕ ℕ) (Refused ℕ)
-started arg now first = start_of 50 id (begun_by_table arg) now first
+started arg now first = start_of table 50 id (begun_by_table arg) now first
 
 abbrev start_report : List ℕ → List (Timer × Time) → Report ℕ
 start_report inserted set = record {
@@ -592,3 +599,96 @@ two_numbers_are_lacking : Runs table (at_rest 0 7 0 9223372036854775806) (cast 2
     (posted 9223372036854775806 ∷ not_turned Exhausted ∷ [])
     (with_items (at_rest 0 7 0 9223372036854775807) (Posted (cast_event 9223372036854775806 22) ∷ []) [])
 two_numbers_are_lacking = runs_with_memory table (at_rest 0 7 0 9223372036854775806) (cast 22 ∷ turn 4 ∷ [])
+
+-- ---- enter calls and repeated states
+-- a start with enter calls: the first state is entered, with itself as the old one
+abbrev started_as : ℕ → Result (Start ℕ ℕ ℕ ℕ ℕ) (Refused ℕ)
+started_as number = start_of (table_of number) number id (begun_by_table 0) 0 1
+
+first_entered : started_as 60
+    ≡ Ok (Running (record { module_ = 60; machine = fresh }) (record (start_report [] []) { calls = Enter 0 0 ∷ [] }))
+first_entered = refl
+
+-- the first enter call stops: there is a machine, which has ended
+first_stops : started_as 70
+    ≡ Ok (Running (record { module_ = 70; machine = at_end fresh 4 7 })
+    (record (start_report [] []) { done = Ended 4 7; calls = Enter 0 0 ∷ Terminate 4 0 7 ∷ [] }))
+first_stops = refl
+
+-- its actions follow those of `init`
+first_sets : started_as 62
+    ≡ Ok (Running (record { module_ = 62; machine = with_timers (at_rest 0 7 0 3) (runs timer.State 1 (At 20) ∷ runs (timer.Named 1) 2 (At 9) ∷ []) })
+    (record (start_report [] ((timer.State, After 20) ∷ (timer.Named 1, After 9) ∷ [])) { calls = Enter 0 0 ∷ [] }))
+first_sets = refl
+
+-- a cast is finished, and its state entered
+abbrev entered : ℕ → ℕ → ℕ → Answer ℕ ℕ
+entered number before after = reported (record (report number kind.Cast before after Finished []) {
+  calls = Handle number kind.Cast before ∷ Enter before after ∷ [];
+})
+
+-- a state that is the same is not entered, and nothing is retried
+abbrev same_again : List (Command ℕ)
+same_again = cast 10 ∷ turn 0 ∷ cast 9 ∷ turn 0 ∷ turn 0 ∷ []
+
+same_state_not_entered : Runs (table_of 60) fresh same_again
+    (posted 1 ∷ put_off 1 0 0 [] ∷ posted 2 ∷ finished 2 0 0 ∷ idle ∷ [])
+    (with_items (at_rest 0 7 0 3) (Received (cast_event 1 10) ∷ []) (1 ∷ []))
+same_state_not_entered = runs_with_memory (table_of 60) fresh same_again
+
+-- a state that is repeated is entered, and nothing is retried
+abbrev repeated : List (Command ℕ)
+repeated = cast 10 ∷ turn 0 ∷ cast 32 ∷ turn 0 ∷ cast 33 ∷ turn 0 ∷ turn 0 ∷ []
+
+repeated_state_entered : Runs (table_of 60) fresh repeated
+    (posted 1 ∷ put_off 1 0 0 [] ∷ posted 2 ∷ entered 2 0 0 ∷ posted 3 ∷ entered 3 0 0 ∷ idle ∷ [])
+    (with_items (at_rest 0 9 0 4) (Received (cast_event 1 10) ∷ []) (1 ∷ []))
+repeated_state_entered = runs_with_memory (table_of 60) fresh repeated
+
+-- without enter calls it is kept
+repeated_state_kept : Runs table fresh repeated
+    (posted 1 ∷ put_off 1 0 0 [] ∷ posted 2 ∷ finished 2 0 0 ∷ posted 3 ∷ finished 3 0 0 ∷ idle ∷ [])
+    (with_items (at_rest 0 9 0 4) (Received (cast_event 1 10) ∷ []) (1 ∷ []))
+repeated_state_kept = runs_with_memory table fresh repeated
+
+-- its time-out runs on
+repeated_state_times_out : Runs (table_of 60) fresh (cast 28 ∷ turn 0 ∷ cast 32 ∷ turn 3 ∷ tick 5 ∷ [])
+    (posted 1 ∷ setting 1 ((timer.State, After 5) ∷ []) ∷ posted 3 ∷ entered 3 0 0 ∷ ticked 1 ∷ [])
+    (with_timers (with_items (at_rest 0 7 5 4) (Expiry timer.State ∷ []) []) (runs timer.State 2 (At 5) ∷ []))
+repeated_state_times_out = runs_with_memory (table_of 60) fresh (cast 28 ∷ turn 0 ∷ cast 32 ∷ turn 3 ∷ tick 5 ∷ [])
+
+-- the enter call is handed the old state and then the new one
+entered_from : Runs (table_of 61) fresh (cast 3 ∷ turn 0 ∷ cast 9 ∷ turn 0 ∷ [])
+    (posted 1 ∷ entered 1 0 1 ∷ posted 2 ∷ entered 2 1 0 ∷ [])
+    (at_rest 0 32 0 3)
+entered_from = runs_with_memory (table_of 61) fresh (cast 3 ∷ turn 0 ∷ cast 9 ∷ turn 0 ∷ [])
+
+-- it is handed the new data
+entered_with_new_data : Runs (table_of 64) fresh (cast 34 ∷ turn 0 ∷ [])
+    (posted 1 ∷ entered 1 0 2 ∷ [])
+    (at_rest 2 40 0 2)
+entered_with_new_data = runs_with_memory (table_of 64) fresh (cast 34 ∷ turn 0 ∷ [])
+
+-- its actions follow those of the event, as if in one list: the event is postponed, and of a timer the
+-- later request decides
+both_lists : Runs (table_of 62) fresh (cast 35 ∷ turn 4 ∷ [])
+    (posted 1
+    ∷ reported (record (report 1 kind.Cast 0 1 PutOff []) {
+      calls = Handle 1 kind.Cast 0 ∷ Enter 0 1 ∷ [];
+      set = (timer.Named 2, After 5) ∷ (timer.State, After 20) ∷ (timer.Named 1, After 9) ∷ [];
+    }) ∷ [])
+    (with_timers (with_items (at_rest 1 7 4 5) (Received (cast_event 1 35) ∷ []) [])
+    (runs (timer.Named 2) 2 (At 9) ∷ runs timer.State 3 (At 24) ∷ runs (timer.Named 1) 4 (At 13) ∷ []))
+both_lists = runs_with_memory (table_of 62) fresh (cast 35 ∷ turn 4 ∷ [])
+
+-- it stops: the new state stands, with the data of the enter call or else of `handle`
+abbrev stops_at : ℕ → Answer ℕ ℕ
+stops_at held = reported (record (report 1 kind.Cast 0 2 (Ended 4 held) []) {
+  calls = Handle 1 kind.Cast 0 ∷ Enter 0 2 ∷ Terminate 4 2 held ∷ [];
+})
+
+entering_stops_with_data : Runs (table_of 71) fresh (cast 34 ∷ turn 0 ∷ []) (posted 1 ∷ stops_at 8 ∷ []) (at_end (at_rest 2 8 0 2) 4 8)
+entering_stops_with_data = runs_with_memory (table_of 71) fresh (cast 34 ∷ turn 0 ∷ [])
+
+entering_stops : Runs (table_of 72) fresh (cast 34 ∷ turn 0 ∷ []) (posted 1 ∷ stops_at 9 ∷ []) (at_end (at_rest 2 9 0 2) 4 9)
+entering_stops = runs_with_memory (table_of 72) fresh (cast 34 ∷ turn 0 ∷ [])

@@ -1,18 +1,24 @@
 -- What a module's callbacks answer, and the callbacks that a transition makes.
-use Rattle.std.specs.Prelude.{ℕ, Bool, false, not, Option, Some, None, List, [], ◌∷◌}
+use Rattle.std.specs.Prelude.{ℕ, Bool, true, false, not, ◌&&◌, ◌||◌, Option, Some, None, List, [], ◌∷◌, ◌++◌, if◌then◌else◌}
 use Rattle.st_events.specs.declared.action.Action.{Action}
+use Rattle.st_events.specs.declared.enter_action.EnterAction.{EnterAction}
+use Rattle.st_events.specs.declared.enter_outcome.EnterOutcome.{EnterOutcome}
+use Rattle.st_events.specs.declared.enter_outcome.EnterOutcome.TheVariants as enter
 use Rattle.st_events.specs.declared.kind.Kind.{Kind}
 use Rattle.st_events.specs.declared.event.Event.{Event}
 use Rattle.st_events.specs.declared.outcome.Outcome.{Outcome}
-use Rattle.st_events.specs.declared.outcome.Outcome.TheVariants.{NextState, KeepState, KeepStateAndData, Stop, StopAndReply}
+use Rattle.st_events.specs.declared.outcome.Outcome.TheVariants.{NextState, KeepState, KeepStateAndData, RepeatState, RepeatStateAndData, Stop, StopAndReply}
 use Rattle.st_events.specs.declared.module.Module.{Ghosts}
+use Rattle.st_actions.specs.Joined.{as_actions}
 use Rattle.st_core.specs.declared.call.Call.{Call}
-use Rattle.st_core.specs.declared.call.Call.TheVariants.{Handle}
+use Rattle.st_core.specs.declared.call.Call.TheVariants.{Handle, Enter}
 use Rattle.st_core.specs.MachineState.{MachineState}
 
 -- the definitions of a module's callbacks, with the module put in, and the equality of its states
 pub record Callbacks (S D C : Type 0) : Type 0 where
   pub handle_is : Kind → C → S → D → Outcome S D C
+  pub enters_is : Bool
+  pub enter_is : S → S → D → EnterOutcome D C
   pub terminate_is : ℕ → S → D → ℕ
   pub same_state : S → S → Bool
 
@@ -20,6 +26,8 @@ pub record Callbacks (S D C : Type 0) : Type 0 where
 abbrev pub callbacks_of : {M S D C A : Type 0} → Ghosts M S D C A → (S → S → Bool) → M → Callbacks S D C
 callbacks_of bound same_state module_ = record {
   handle_is = bound.handle_is module_;
+  enters_is = bound.enters_is module_;
+  enter_is = bound.enter_is module_;
   terminate_is = bound.terminate_is module_;
   same_state = same_state;
 }
@@ -35,6 +43,8 @@ module _ {S D C : Type 0} where
   state_after old (NextState state held actions) = state
   state_after old (KeepState held actions) = old
   state_after old (KeepStateAndData actions) = old
+  state_after old (RepeatState held actions) = old
+  state_after old (RepeatStateAndData actions) = old
   state_after old (Stop reason held) = old
   state_after old (StopAndReply reason replies held) = old
 
@@ -43,6 +53,8 @@ module _ {S D C : Type 0} where
   data_after old (NextState state held actions) = held
   data_after old (KeepState held actions) = held
   data_after old (KeepStateAndData actions) = old
+  data_after old (RepeatState held actions) = held
+  data_after old (RepeatStateAndData actions) = old
   data_after old (Stop reason held) = or_old old held
   data_after old (StopAndReply reason replies held) = or_old old held
 
@@ -51,14 +63,28 @@ module _ {S D C : Type 0} where
   changes_state same_state old (NextState state held actions) = not (same_state old state)
   changes_state same_state old (KeepState held actions) = false
   changes_state same_state old (KeepStateAndData actions) = false
+  changes_state same_state old (RepeatState held actions) = false
+  changes_state same_state old (RepeatStateAndData actions) = false
   changes_state same_state old (Stop reason held) = false
   changes_state same_state old (StopAndReply reason replies held) = false
+
+  -- whether an outcome has the state entered again, which is no change
+  abbrev pub repeats_state : Outcome S D C → Bool
+  repeats_state (NextState state held actions) = false
+  repeats_state (KeepState held actions) = false
+  repeats_state (KeepStateAndData actions) = false
+  repeats_state (RepeatState held actions) = true
+  repeats_state (RepeatStateAndData actions) = true
+  repeats_state (Stop reason held) = false
+  repeats_state (StopAndReply reason replies held) = false
 
   -- the actions of an outcome; one that stops has none
   abbrev pub actions_of : Outcome S D C → List (Action C)
   actions_of (NextState state held actions) = actions
   actions_of (KeepState held actions) = actions
   actions_of (KeepStateAndData actions) = actions
+  actions_of (RepeatState held actions) = actions
+  actions_of (RepeatStateAndData actions) = actions
   actions_of (Stop reason held) = []
   actions_of (StopAndReply reason replies held) = []
 
@@ -67,11 +93,36 @@ module _ {S D C : Type 0} where
   reason_of (NextState state held actions) = None
   reason_of (KeepState held actions) = None
   reason_of (KeepStateAndData actions) = None
+  reason_of (RepeatState held actions) = None
+  reason_of (RepeatStateAndData actions) = None
   reason_of (Stop reason held) = Some reason
   reason_of (StopAndReply reason replies held) = Some reason
 
+module _ {D C : Type 0} where
+  -- the data after an enter call
+  abbrev pub entered_data : D → EnterOutcome D C → D
+  entered_data old (enter.KeepState held actions) = held
+  entered_data old (enter.KeepStateAndData actions) = old
+  entered_data old (enter.Stop reason held) = or_old old held
+  entered_data old (enter.StopAndReply reason replies held) = or_old old held
+
+  -- the actions of an enter call; one that stops has none
+  abbrev pub entered_actions : EnterOutcome D C → List (EnterAction C)
+  entered_actions (enter.KeepState held actions) = actions
+  entered_actions (enter.KeepStateAndData actions) = actions
+  entered_actions (enter.Stop reason held) = []
+  entered_actions (enter.StopAndReply reason replies held) = []
+
+  -- the reason for which an enter call stops the machine, if it does
+  abbrev pub entered_reason : EnterOutcome D C → Option ℕ
+  entered_reason (enter.KeepState held actions) = None
+  entered_reason (enter.KeepStateAndData actions) = None
+  entered_reason (enter.Stop reason held) = Some reason
+  entered_reason (enter.StopAndReply reason replies held) = Some reason
+
 -- what the callbacks of a transition come to: the calls in order, the state and data after them,
--- whether the state changed, the actions, and the reason to stop, if there is one
+-- whether the state changed, the actions of all of them as one list, and the reason to stop, if there
+-- is one
 pub record Called (S D C : Type 0) : Type 0 where
   pub calls : List (Call S)
   pub state : S
@@ -96,8 +147,56 @@ module _ {S D C : Type 0} where
     reason = reason_of outcome;
   }
 
-  -- the callbacks for an event: `handle` is called once
+  -- what `handle` comes to, called for an event with this number and kind
+  abbrev pub handled_with : (S → S → Bool) → ℕ → Kind → S → D → Outcome S D C → Called S D C
+  handled_with same_state number kind state held outcome =
+      called_with same_state (Handle number kind state ∷ []) state held outcome
+
+  -- the enter call answers this: its data stand, its actions follow those before, and it may stop
+  abbrev pub entered_with : S → Called S D C → EnterOutcome D C → Called S D C
+  entered_with old called outcome = record {
+    calls = called.calls ++ Enter old called.state ∷ [];
+    state = called.state;
+    «data» = entered_data called.data outcome;
+    changed = called.changed;
+    actions = called.actions ++ as_actions (entered_actions outcome);
+    reason = entered_reason outcome;
+  }
+
+  -- the state that was come to is entered from the old one
+  abbrev pub entered_by : Callbacks S D C → S → Called S D C → Called S D C
+  entered_by callbacks old called = entered_with old called (callbacks.enter_is old called.state called.data)
+
+  -- whether there is an enter call after an outcome: at a state change, and where the state is repeated
+  abbrev pub is_entered : Callbacks S D C → S → Outcome S D C → Bool
+  is_entered callbacks old outcome =
+      callbacks.enters_is && (changes_state callbacks.same_state old outcome || repeats_state outcome)
+
+  -- the callbacks for an event with this number and kind, to which `handle` answers this outcome
+  abbrev pub called_after : Callbacks S D C → MachineState S D C → ℕ → Kind → Outcome S D C → Called S D C
+  called_after callbacks machine number kind outcome =
+      let handled = handled_with callbacks.same_state number kind machine.state machine.data outcome in
+      if is_entered callbacks machine.state outcome then entered_by callbacks machine.state handled else handled
+
+  -- the callbacks for an event: `handle` is called once, and then `enter` at most once
   abbrev pub called_of : Callbacks S D C → MachineState S D C → Event C → Called S D C
   called_of callbacks machine event =
-      called_with callbacks.same_state (Handle event.number event.kind machine.state ∷ []) machine.state machine.data
-      (outcome_of callbacks machine event)
+      called_after callbacks machine event.number event.kind (outcome_of callbacks machine event)
+
+  -- what `init` comes to, with this state, data and actions
+  abbrev pub begun_with : S → D → List (Action C) → Called S D C
+  begun_with state held actions = record {
+    calls = [];
+    state = state;
+    «data» = held;
+    changed = false;
+    actions = actions;
+    reason = None;
+  }
+
+  -- the callbacks of a start after `init`: with enter calls the first state is entered, from itself
+  abbrev pub begun_by : Callbacks S D C → S → D → List (Action C) → Called S D C
+  begun_by callbacks state held actions =
+      if callbacks.enters_is
+      then entered_by callbacks state (begun_with state held actions)
+      else begun_with state held actions

@@ -1,5 +1,5 @@
 -- A machine starts.
-use Rattle.std.specs.Prelude.{◌≡◌, ℕ, ◌^◌, ◌⊎◌, Bool, true, Result, Ok, Err, None, List, [], nat_lt, if◌then◌else◌}
+use Rattle.std.specs.Prelude.{◌≡◌, ℕ, ◌^◌, ◌⊎◌, Bool, true, Result, Ok, Err, Option, Some, None, List, [], ◌∷◌, ◌++◌, nat_lt, if◌then◌else◌}
 use Rattle.st_events.specs.declared.machine_id.MachineId.{MachineId}
 use Rattle.st_events.specs.declared.action.Action.{Action}
 use Rattle.st_events.specs.declared.init.Init.{Init}
@@ -11,20 +11,25 @@ use Rattle.st_events.specs.declared.time.Time.{Time}
 use Rattle.st_events.specs.declared.timer.Timer.{Timer}
 use Rattle.st_actions.specs.Plan.{inserts_of, requests_of}
 use Rattle.st_agenda.specs.Agenda.{inserted_in, all_set_in}
-use Rattle.st_core.specs.declared.done.Done.TheVariants.{Started}
+use Rattle.st_core.specs.declared.call.Call.{Call}
+use Rattle.st_core.specs.declared.call.Call.TheVariants.{Terminate}
+use Rattle.st_core.specs.declared.done.Done.{Done}
+use Rattle.st_core.specs.declared.done.Done.TheVariants.{Started, Ended}
 use Rattle.st_core.specs.declared.report.Report.{Report}
 use Rattle.st_core.specs.declared.start.Start.{Start}
 use Rattle.st_core.specs.declared.start.Start.TheVariants.{Running, Ignored, Stopped}
 use Rattle.st_core.specs.MachineState.{MachineState}
+use Rattle.st_core.specs.Callbacks.{Callbacks, Called, begun_by}
+use Rattle.st_core.specs.Stop.{with_ended}
 use Rattle.st_core.specs.Transition.{has_numbers, inserted_by, times_of, comes_after_callbacks}
 
--- what a start reports: no event, `init`'s state before and after it, what was inserted, and the timers
--- that were set
-abbrev pub start_report_of : {S : Type 0} → S → List ℕ → List (Timer × Time) → Report S
-start_report_of state inserted set = record {
+-- what a start reports: no event, how it ended, the calls after `init`'s, `init`'s state before and after,
+-- what was inserted, and the timers that were set
+abbrev pub start_report_of : {S : Type 0} → Done → List (Call S) → S → List ℕ → List (Timer × Time) → Report S
+start_report_of done calls state inserted set = record {
   event = None;
-  done = Started;
-  calls = [];
+  done = done;
+  calls = calls;
   before = state;
   after = state;
   replied = [];
@@ -43,7 +48,7 @@ first_state id state held now first = record {
   ended = None;
 }
 
--- what the actions of `init` ask for is done: events are inserted, and then timers are set
+-- what the actions of a start ask for is done: events are inserted, and then timers are set
 abbrev pub with_begun : {S D C : Type 0} → MachineState S D C → List (Action C) → MachineState S D C
 with_begun machine actions = record machine {
   schedule = all_set_in machine.latest (inserted_in machine.schedule (inserts_of actions)) (requests_of actions);
@@ -54,25 +59,43 @@ module _ {M S D C A : Type 0} where
   abbrev pub start_refused : M → Refusal → Result (Start M S D C A) (Refused M)
   start_refused module_ refusal = Err (record { refusal = refusal; value = module_ })
 
-  -- a machine runs that does what the actions of `init` ask for; a Postpone is ignored
-  abbrev pub started_with : M → MachineState S D C → List (Action C) → Result (Start M S D C A) (Refused M)
-  started_with module_ machine actions =
-      if has_numbers machine actions
+  -- a machine runs that does what the actions of `init` and of the enter call ask for; a Postpone is ignored
+  abbrev pub started_with : M → MachineState S D C → Called S D C → Result (Start M S D C A) (Refused M)
+  started_with module_ machine called =
+      if has_numbers machine called.actions
       then Ok (Running
-      (record { module_ = module_; machine = with_begun machine actions })
-      (start_report_of machine.state (inserted_by machine actions) (times_of (requests_of actions))))
+      (record { module_ = module_; machine = with_begun machine called.actions })
+      (start_report_of Started called.calls machine.state (inserted_by machine called.actions) (times_of (requests_of called.actions))))
       else start_refused module_ Exhausted
 
+  -- the first enter call stops: there is a machine, which has ended, and nothing was inserted or set
+  abbrev pub ended_with : Callbacks S D C → M → MachineState S D C → Called S D C → ℕ → Result (Start M S D C A) (Refused M)
+  ended_with callbacks module_ machine called reason =
+      let word = callbacks.terminate_is reason machine.state machine.data in
+      Ok (Running
+      (record { module_ = module_; machine = with_ended machine reason word })
+      (start_report_of (Ended reason word) (called.calls ++ Terminate reason machine.state word ∷ []) machine.state [] []))
+
+  -- what comes of the callbacks of a start
+  abbrev pub begun_on : Callbacks S D C → M → MachineState S D C → Called S D C → Option ℕ → Result (Start M S D C A) (Refused M)
+  begun_on callbacks module_ machine called None = started_with module_ machine called
+  begun_on callbacks module_ machine called (Some reason) = ended_with callbacks module_ machine called reason
+
+  -- a machine begins with what the callbacks come to
+  abbrev pub begun_as : Callbacks S D C → M → MachineId → Called S D C → ℕ → ℕ → Result (Start M S D C A) (Refused M)
+  begun_as callbacks module_ id called now first =
+      begun_on callbacks module_ (first_state id called.state called.data now first) called called.reason
+
   -- what comes of `init`'s answer
-  abbrev pub started_by : M → MachineId → Init S D C → ℕ → ℕ → Result (Start M S D C A) (Refused M)
-  started_by module_ id (init.Ok state held actions) now first = started_with module_ (first_state id state held now first) actions
-  started_by module_ id (init.Stop reason) now first = Ok (Stopped reason)
-  started_by module_ id init.Ignore now first = Ok Ignored
+  abbrev pub started_by : Callbacks S D C → M → MachineId → Init S D C → ℕ → ℕ → Result (Start M S D C A) (Refused M)
+  started_by callbacks module_ id (init.Ok state held actions) now first = begun_as callbacks module_ id (begun_by callbacks state held actions) now first
+  started_by callbacks module_ id (init.Stop reason) now first = Ok (Stopped reason)
+  started_by callbacks module_ id init.Ignore now first = Ok Ignored
 
   -- a start with `init`'s answer, at a moment, with the number of the first event: what it answers
-  abbrev pub start_of : M → MachineId → Init S D C → ℕ → ℕ → Result (Start M S D C A) (Refused M)
-  start_of module_ id answer now first =
-      if nat_lt now (2 ^ 63) then started_by module_ id answer now first else start_refused module_ Moment
+  abbrev pub start_of : Callbacks S D C → M → MachineId → Init S D C → ℕ → ℕ → Result (Start M S D C A) (Refused M)
+  start_of callbacks module_ id answer now first =
+      if nat_lt now (2 ^ 63) then started_by callbacks module_ id answer now first else start_refused module_ Moment
 
   -- a start takes memory where it comes to calling `init`
   abbrev pub start_takes_memory : Result (Start M S D C A) (Refused M) → Bool

@@ -1,12 +1,16 @@
 -- The module of the examples and of the tests, by a table: states, data and contents are numbers.
-use Rattle.std.specs.Prelude.{ℕ, ◌==◌, if◌then◌else◌, true, false, Some, None, List, [], ◌∷◌}
+use Rattle.std.specs.Prelude.{ℕ, Bool, ◌==◌, nat_le, if◌then◌else◌, true, false, Some, None, List, [], ◌∷◌}
 use Rattle.st_events.specs.declared.action.Action.{Action}
 use Rattle.st_events.specs.declared.action.Action.TheVariants.{Reply, Postpone, NextEvent, Set, Hibernate}
+use Rattle.st_events.specs.declared.enter_action.EnterAction.{EnterAction}
+use Rattle.st_events.specs.declared.enter_action.EnterAction.TheVariants as enter_action
+use Rattle.st_events.specs.declared.enter_outcome.EnterOutcome.{EnterOutcome}
+use Rattle.st_events.specs.declared.enter_outcome.EnterOutcome.TheVariants as enter
 use Rattle.st_events.specs.declared.init.Init.{Init}
 use Rattle.st_events.specs.declared.init.Init.TheVariants as init
 use Rattle.st_events.specs.declared.kind.Kind.TheVariants.{Cast, Internal}
 use Rattle.st_events.specs.declared.outcome.Outcome.{Outcome}
-use Rattle.st_events.specs.declared.outcome.Outcome.TheVariants.{NextState, KeepState, KeepStateAndData, Stop, StopAndReply}
+use Rattle.st_events.specs.declared.outcome.Outcome.TheVariants.{NextState, KeepState, KeepStateAndData, RepeatState, RepeatStateAndData, Stop, StopAndReply}
 use Rattle.st_events.specs.declared.tag.Tag.{Tag}
 use Rattle.st_events.specs.declared.time.Time.TheVariants.{After, Infinity}
 use Rattle.st_events.specs.declared.timer.Timer.TheVariants as timer
@@ -23,6 +27,16 @@ five_actions = Hibernate ∷ Hibernate ∷ Hibernate ∷ Hibernate ∷ Hibernate
 abbrev pub two_inserts : List (Action ℕ)
 two_inserts = NextEvent Internal 20 ∷ NextEvent Cast 21 ∷ []
 
+-- what `handle` answers to the contents that have a state entered
+abbrev pub handled_by_entering : ℕ → ℕ → Outcome ℕ ℕ ℕ
+handled_by_entering content held =
+    if content == 32 then RepeatStateAndData []
+    else (if content == 33 then RepeatState 9 []
+    else (if content == 34 then NextState 2 9 []
+    else (if content == 35 then NextState 1 held (Postpone true ∷ Set (timer.Named 1) (After 5) 0 ∷ Set timer.State (After 10) 0 ∷ Set (timer.Named 2) (After 5) 0 ∷ [])
+    else (if content == 36 then RepeatStateAndData (Postpone true ∷ [])
+    else KeepStateAndData []))))
+
 -- what `handle` answers to the contents that set timers
 abbrev pub handled_by_setting : ℕ → ℕ → Outcome ℕ ℕ ℕ
 handled_by_setting content held =
@@ -36,7 +50,7 @@ handled_by_setting content held =
     else (if content == 29 then KeepStateAndData (Set timer.Event (After 5) 0 ∷ [])
     else (if content == 30 then KeepStateAndData (Set (timer.Named 2) (After 0) 10 ∷ [])
     else (if content == 31 then KeepStateAndData (Set (timer.Named 1) (After 5) 0 ∷ Set (timer.Named 1) (After 7) 0 ∷ [])
-    else KeepStateAndData [])))))))))
+    else handled_by_entering content held)))))))))
 
 -- what `handle` answers in any state, where the content is not one of those of the first state
 abbrev pub handled_anywhere : ℕ → ℕ → Outcome ℕ ℕ ℕ
@@ -67,6 +81,36 @@ handled_at_first content held =
 abbrev pub handled_by_table : ℕ → ℕ → ℕ → Outcome ℕ ℕ ℕ
 handled_by_table content state held =
     if state == 0 then handled_at_first content held else handled_anywhere content held
+
+-- whether the module with this number has enter calls
+abbrev pub enters_by_table : ℕ → Bool
+enters_by_table number = nat_le 60 number
+
+-- the actions of the module 62's enter call
+abbrev pub entering_actions : List (EnterAction ℕ)
+entering_actions = enter_action.Reply first_tag 60 ∷ enter_action.Set timer.State (After 20) 0 ∷ enter_action.Set (timer.Named 1) (After 9) 0 ∷ []
+
+-- five actions of an enter call
+abbrev pub five_enter_actions : List (EnterAction ℕ)
+five_enter_actions = enter_action.Hibernate ∷ enter_action.Hibernate ∷ enter_action.Hibernate ∷ enter_action.Hibernate ∷ enter_action.Hibernate ∷ []
+
+-- what `enter` answers where a state is come to from another
+abbrev pub changed_by_table : ℕ → ℕ → ℕ → EnterOutcome ℕ ℕ
+changed_by_table number old held =
+    if number == 61 then enter.KeepState (if old == 0 then 31 else 32) []
+    else (if number == 71 then enter.StopAndReply 4 ((first_tag, 61) ∷ []) (Some 8)
+    else (if number == 72 then enter.Stop 4 None
+    else enter.KeepStateAndData []))
+
+-- what `enter` of the module with this number answers, for the old state and the new, with data
+abbrev pub entered_by_table : ℕ → ℕ → ℕ → ℕ → EnterOutcome ℕ ℕ
+entered_by_table number old state held =
+    if number == 62 then enter.KeepStateAndData entering_actions
+    else (if number == 63 then enter.KeepStateAndData five_enter_actions
+    else (if number == 64 then enter.KeepState (if held == 9 then 40 else 41) []
+    else (if number == 70 then enter.Stop 4 None
+    else (if old == state then enter.KeepStateAndData []
+    else changed_by_table number old held))))
 
 -- three timers are set, two of them for the same time
 abbrev pub three_settings : List (Action ℕ)

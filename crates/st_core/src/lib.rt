@@ -4,12 +4,16 @@
 
 mod answer;
 mod call;
+mod calls;
 mod command;
 mod done;
 mod engine;
+mod entered;
 mod entry;
+mod new_data;
 mod numbers;
 mod outcomes;
+mod planning;
 mod post;
 mod prepared;
 mod report;

@@ -3,7 +3,7 @@ ghost use Rattle.std.specs.Prelude.{◌≡◌};
 ghost use Rattle.std.specs.Mem.{FitsInMemory};
 ghost use Rattle.st_events.specs.contracts.outcome.Outcome.{the_row as outcome_row};
 ghost use Rattle.st_events.specs.Rows.{RepliesFit};
-ghost use Rattle.st_core.specs.Callbacks.{state_after, data_after, changes_state, actions_of, reason_of, or_old};
+ghost use Rattle.st_core.specs.Callbacks.{state_after, data_after, changes_state, repeats_state, actions_of, reason_of, or_old};
 
 use st_events::{Actions, Outcome, Reason};
 use std::alloc::Global;
@@ -17,6 +17,8 @@ pub(crate) fn state_after<S: Copy, D, C>(old: S, outcome: &Outcome<S, D, C>) -> 
         Outcome::NextState(state, _, _) => *state,
         Outcome::KeepState(..)
         | Outcome::KeepStateAndData(..)
+        | Outcome::RepeatState(..)
+        | Outcome::RepeatStateAndData(..)
         | Outcome::Stop(..)
         | Outcome::StopAndReply(..) => old,
     }
@@ -28,7 +30,22 @@ pub(crate) fn changes_state<S: Copy + Eq, D, C>(old: S, outcome: &Outcome<S, D, 
 {
     match outcome {
         Outcome::NextState(state, _, _) => old != *state,
+        Outcome::RepeatState(..) | Outcome::RepeatStateAndData(..) => false,
         Outcome::KeepState(..)
+        | Outcome::KeepStateAndData(..)
+        | Outcome::Stop(..)
+        | Outcome::StopAndReply(..) => false,
+    }
+}
+
+/// Whether an outcome has the state entered again.
+pub(crate) fn repeats_state<S, D, C>(outcome: &Outcome<S, D, C>) -> bool
+    ensures { result ≡ repeats_state outcome.now }
+{
+    match outcome {
+        Outcome::RepeatState(..) | Outcome::RepeatStateAndData(..) => true,
+        Outcome::NextState(..)
+        | Outcome::KeepState(..)
         | Outcome::KeepStateAndData(..)
         | Outcome::Stop(..)
         | Outcome::StopAndReply(..) => false,
@@ -40,7 +57,11 @@ pub(crate) fn reason_of<S, D, C>(outcome: &Outcome<S, D, C>) -> Option<Reason>
     ensures { result ≡ reason_of outcome.now }
 {
     match outcome {
-        Outcome::NextState(..) | Outcome::KeepState(..) | Outcome::KeepStateAndData(..) => None,
+        Outcome::NextState(..)
+        | Outcome::KeepState(..)
+        | Outcome::KeepStateAndData(..)
+        | Outcome::RepeatState(..)
+        | Outcome::RepeatStateAndData(..) => None,
         Outcome::Stop(reason, _) => Some(*reason),
         Outcome::StopAndReply(reason, _, _) => Some(*reason),
     }
@@ -58,44 +79,25 @@ pub(crate) fn take_actions<S: Drop, D: Drop, C: Drop>(
         Outcome::NextState(_, _, actions) => mem::replace(actions, Actions::new(alloc)),
         Outcome::KeepState(_, actions) => mem::replace(actions, Actions::new(alloc)),
         Outcome::KeepStateAndData(actions) => mem::replace(actions, Actions::new(alloc)),
+        Outcome::RepeatState(_, actions) => mem::replace(actions, Actions::new(alloc)),
+        Outcome::RepeatStateAndData(actions) => mem::replace(actions, Actions::new(alloc)),
         Outcome::Stop(..) | Outcome::StopAndReply(..) => Actions::new(alloc),
     }
 }
 
-/// The new data of an outcome, or else the old.
-pub(crate) fn data_after<'a, S, D, C>(old: &'a D, outcome: &'a Outcome<S, D, C>) -> &'a D
-    ensures { result.now ≡ data_after old.now outcome.now }
-{
-    match outcome {
-        Outcome::NextState(_, new, _) => new,
-        Outcome::KeepState(new, _) => new,
-        Outcome::KeepStateAndData(_) => old,
-        Outcome::Stop(_, Some(new)) => new,
-        Outcome::StopAndReply(_, _, Some(new)) => new,
-        Outcome::Stop(_, None) | Outcome::StopAndReply(_, _, None) => old,
-    }
-}
-
-/// Puts new data in the place of the old.
-fn replace<D: Drop>(held: &mut D, new: Option<D>)
-    ensures { held.new ≡ or_old held.old new }
-{
-    if let Some(new) = new {
-        *held = new;
-    }
-}
-
-/// Puts the data of an outcome in the place of the old.
-pub(crate) fn replace_data<S: Drop, D: Drop, C: Drop>(held: &mut D, outcome: Outcome<S, D, C>)
+/// The new data of an outcome, where there are some.
+pub(crate) fn new_data<S: Drop, D: Drop, C: Drop>(outcome: Outcome<S, D, C>) -> Option<D>
     requires outcome_fits { FitsInMemory (outcome_row S.row D.row C.row) }
     requires replies_fit { RepliesFit C.row }
-    ensures { held.new ≡ data_after held.old outcome }
+    ensures { (held : D) → or_old held result ≡ data_after held outcome }
 {
     match outcome {
-        Outcome::NextState(_state, new, _actions) => *held = new,
-        Outcome::KeepState(new, _actions) => *held = new,
-        Outcome::KeepStateAndData(_actions) => {}
-        Outcome::Stop(_reason, new) => replace(held, new),
-        Outcome::StopAndReply(_reason, _replies, new) => replace(held, new),
+        Outcome::NextState(_state, new, _actions) => Some(new),
+        Outcome::KeepState(new, _actions) => Some(new),
+        Outcome::KeepStateAndData(_actions) => None,
+        Outcome::RepeatState(new, _actions) => Some(new),
+        Outcome::RepeatStateAndData(_actions) => None,
+        Outcome::Stop(_reason, new) => new,
+        Outcome::StopAndReply(_reason, _replies, new) => new,
     }
 }

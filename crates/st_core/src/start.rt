@@ -1,15 +1,19 @@
 //! A machine starts.
 ghost use Rattle.std.specs.Prelude.{◌≡◌, ◌≤◌, ◌<◌, ◌^◌};
-ghost use Rattle.st_core.specs.Start.{start_of, started_with, Starts, first_state, start_report_of};
+ghost use Rattle.st_actions.specs.Plan.{plan_of};
+ghost use Rattle.st_core.specs.Callbacks.{Called, callbacks_of, begun_with, entered_by};
+ghost use Rattle.st_core.specs.Start.{start_of, begun_as, started_with, ended_with, Starts, first_state};
 
+use crate::calls::{one_call, with_call};
 use crate::engine::LIMIT;
-use crate::prepared::{Prepared, prepare};
-use crate::{Core, Done, Report};
-use st_actions::plan;
+use crate::entered::{entered_reason, new_entered_data, take_entered_actions};
+use crate::new_data::replace;
+use crate::planning::plan_both;
+use crate::prepared::prepare;
+use crate::{Call, Core, Done, Report};
+use st_actions::{Planned, plan};
 use st_agenda::Agenda;
-use st_events::{
-    Actions, Init, MachineId, Module, PlainList, Reason, Refusal, Refused, Time, Timer,
-};
+use st_events::{Actions, Init, MachineId, Module, PlainList, Reason, Refusal, Refused};
 use std::alloc::Global;
 
 /// What comes of a start.
@@ -32,34 +36,20 @@ fn refused<M>(refusal: Refusal, value: M) -> Refused<M>
     Refused { refusal, value }
 }
 
-/// What a start reports that inserted these events and set these timers.
-fn start_report<S: Copy>(alloc: Global, state: S, prepared: Prepared) -> Report<S>
-    ensures { result ≡ start_report_of state prepared.inserted prepared.set }
-{
-    Report {
-        event: None,
-        done: Done::Started,
-        calls: PlainList::new(alloc),
-        before: state,
-        after: state,
-        replied: PlainList::new(alloc),
-        inserted: prepared.inserted,
-        set: prepared.set,
-    }
-}
-
 impl<M: Module> Core<M> {
     /// Starts a machine at a moment, in milliseconds: calls the module's `init` on the argument. The
     /// first event gets the number 1.
     ///
-    /// What `init` asks for is done: its events are inserted, and then its timers are set. There is no event
-    /// that could be postponed, so a Postpone is ignored.
+    /// With enter calls the first state is entered, with itself as the old one. What the actions of `init`
+    /// and then of `enter` ask for is done: events are inserted, and then timers are set. There is no event
+    /// that could be postponed, so a Postpone is ignored. Where the enter call stops, there is a machine, which
+    /// has ended.
     ///
     /// Refused with `Moment` at 2^63 or later, before `init` is called, with `Exhausted` where too few
     /// numbers are left for these events and time-outs, and with `NoMemory` where memory is wanted. A
     /// refusal gives the module back.
     ///
-    /// Manual: `start/3`, `Module:init/1`.
+    /// Manual: `start/3`, `Module:init/1`, `state_enter()`.
     pub fn start(
         alloc: Global,
         module: M,
@@ -67,7 +57,7 @@ impl<M: Module> Core<M> {
         arg: &M::Arg,
         now: u64,
     ) -> Result<Start<M>, Refused<M>>
-        ensures start { Starts «module» result (start_of «module» id (M.init_is «module» arg.now) now 1) }
+        ensures start { Starts «module» result (start_of (callbacks_of M.Module M.State.eq «module») «module» id (M.init_is «module» arg.now) now 1) }
     {
         Core::start_from(alloc, module, id, arg, now, 1)
     }
@@ -85,7 +75,7 @@ impl<M: Module> Core<M> {
     ) -> Result<Start<M>, Refused<M>>
         requires least { 1 ≤ first }
         requires greatest { first < 2 ^ 63 }
-        ensures start { Starts «module» result (start_of «module» id (M.init_is «module» arg.now) now first) }
+        ensures start { Starts «module» result (start_of (callbacks_of M.Module M.State.eq «module») «module» id (M.init_is «module» arg.now) now first) }
     {
         if now >= LIMIT {
             return Err(refused(Refusal::Moment, module));
@@ -95,12 +85,16 @@ impl<M: Module> Core<M> {
             Ok(Init::Ignore) => Ok(Start::Ignored),
             Ok(Init::Stop(reason)) => Ok(Start::Stopped(reason)),
             Ok(Init::Ok(state, data, actions)) => {
-                Core::begin(alloc, module, id, state, data, actions, now, first)
+                if module.enters() {
+                    Core::begin_entered(alloc, module, id, state, data, actions, now, first)
+                } else {
+                    Core::begin(alloc, module, id, state, data, actions, now, first)
+                }
             }
         }
     }
 
-    /// Starts a machine in a state with data, and does what `init` asked for. A Postpone is ignored.
+    /// Begins in a state with data, and does what `init` asked for, with no enter call.
     fn begin(
         alloc: Global,
         module: M,
@@ -113,16 +107,74 @@ impl<M: Module> Core<M> {
     ) -> Result<Start<M>, Refused<M>>
         requires moment { now < 2 ^ 63 }
         requires greatest { first < 2 ^ 63 }
-        ensures start { Starts «module» result (started_with «module» (first_state id state «data» now first) actions) }
+        ensures start { Starts «module» result (started_with «module» (first_state id state «data» now first) (begun_with state «data» actions)) }
     {
         let Ok(planned) = plan(alloc, actions) else {
             return Err(refused(Refusal::NoMemory, module));
         };
+        let calls = PlainList::new(alloc);
+        Core::run_from(alloc, module, id, calls, state, data, planned, now, first)
+    }
+
+    /// Begins in a state with data, which is entered, and does what `init` and the enter call asked for.
+    fn begin_entered(
+        alloc: Global,
+        module: M,
+        id: MachineId,
+        state: M::State,
+        mut data: M::Data,
+        actions: Actions<M::Content>,
+        now: u64,
+        first: u64,
+    ) -> Result<Start<M>, Refused<M>>
+        requires moment { now < 2 ^ 63 }
+        requires greatest { first < 2 ^ 63 }
+        ensures start { (called : Called M.State M.Data M.Content)
+            → called ≡ entered_by (callbacks_of M.Module M.State.eq «module») state (begun_with state «data» actions)
+            → Starts «module» result (begun_as (callbacks_of M.Module M.State.eq «module») «module» id called now first) }
+    {
+        let Ok(mut entered) = module.enter(alloc, state, state, &data) else {
+            return Err(refused(Refusal::NoMemory, module));
+        };
+        let Ok(calls) = one_call(alloc, Call::Enter { old: state, state }) else {
+            return Err(refused(Refusal::NoMemory, module));
+        };
+        let reason = entered_reason(&entered);
+        let later = take_entered_actions(alloc, &mut entered);
+        replace(&mut data, new_entered_data(entered));
+        if let Some(reason) = reason {
+            return Core::end_at(alloc, module, id, calls, state, data, now, first, reason);
+        }
+        let Ok(planned) = plan_both(alloc, actions, later) else {
+            return Err(refused(Refusal::NoMemory, module));
+        };
+        Core::run_from(alloc, module, id, calls, state, data, planned, now, first)
+    }
+
+    /// A machine runs in a state with data, after these callbacks, and does what the actions ask for. A
+    /// Postpone is ignored.
+    fn run_from(
+        alloc: Global,
+        module: M,
+        id: MachineId,
+        calls: PlainList<Call<M::State>>,
+        state: M::State,
+        data: M::Data,
+        planned: Planned<M::Content>,
+        now: u64,
+        first: u64,
+    ) -> Result<Start<M>, Refused<M>>
+        requires moment { now < 2 ^ 63 }
+        requires greatest { first < 2 ^ 63 }
+        ensures start { (called : Called M.State M.Data M.Content) → called.calls ≡ calls → plan_of called.actions ≡ planned
+            → Starts «module» result (started_with «module» (first_state id state «data» now first) called) }
+    {
         let mut agenda = Agenda::new(alloc, first);
         let prepared = match prepare(alloc, &mut agenda, &planned) {
             Ok(prepared) => prepared,
             Err(refusal) => return Err(refused(refusal, module)),
         };
+        // Nothing fails from here on.
         agenda.insert(planned.inserts);
         agenda.set_all(now, planned.requests);
         let core = Core {
@@ -135,6 +187,66 @@ impl<M: Module> Core<M> {
             latest: now,
             ended: None,
         };
-        Ok(Start::Running(core, start_report(alloc, state, prepared)))
+        let report = Report {
+            event: None,
+            done: Done::Started,
+            calls,
+            before: state,
+            after: state,
+            replied: PlainList::new(alloc),
+            inserted: prepared.inserted,
+            set: prepared.set,
+        };
+        Ok(Start::Running(core, report))
+    }
+
+    /// The first enter call stops for a reason, after these callbacks, in a state with data: there is a
+    /// machine, which has ended.
+    fn end_at(
+        alloc: Global,
+        module: M,
+        id: MachineId,
+        calls: PlainList<Call<M::State>>,
+        state: M::State,
+        data: M::Data,
+        now: u64,
+        first: u64,
+        reason: Reason,
+    ) -> Result<Start<M>, Refused<M>>
+        requires moment { now < 2 ^ 63 }
+        requires greatest { first < 2 ^ 63 }
+        ensures start { (called : Called M.State M.Data M.Content) → called.calls ≡ calls
+            → Starts «module» result (ended_with (callbacks_of M.Module M.State.eq «module») «module» (first_state id state «data» now first) called reason) }
+    {
+        let word = module.terminate(reason, state, &data);
+        let terminate = Call::Terminate {
+            reason,
+            state,
+            word,
+        };
+        let Ok(calls) = with_call(calls, terminate) else {
+            return Err(refused(Refusal::NoMemory, module));
+        };
+        let core = Core {
+            alloc,
+            module,
+            id,
+            state,
+            data,
+            agenda: Agenda::new(alloc, first),
+            latest: now,
+            ended: Some((reason, word)),
+        };
+        let report = Report {
+            event: None,
+            done: Done::Ended(reason, word),
+            calls,
+            before: state,
+            after: state,
+            replied: PlainList::new(alloc),
+            inserted: PlainList::new(alloc),
+            set: PlainList::new(alloc),
+        };
+        Ok(Start::Running(core, report))
     }
 }

@@ -2,7 +2,9 @@
 
 mod answers;
 mod compared;
+mod enters;
 mod lamp;
+mod lamps;
 mod postponing;
 mod runs;
 mod starts;

@@ -2,46 +2,68 @@
 //! order; what can fail is done before anything changes.
 ghost use Rattle.std.specs.Prelude.{◌≡◌, ◌<◌, ◌^◌, [], ◌∷◌, Some, IfOk, OnErr};
 ghost use Rattle.std.specs.Option.{option_map};
-ghost use Rattle.st_core.specs.declared.call.Call.TheVariants.{Handle};
-ghost use Rattle.st_core.specs.Callbacks.{callbacks_of, called_with};
+ghost use Rattle.st_actions.specs.Plan.{plan_of};
+ghost use Rattle.st_core.specs.declared.call.Call.TheVariants.{Handle, Enter};
+ghost use Rattle.st_core.specs.Callbacks.{Called, callbacks_of, or_old, handled_with, entered_by, is_entered};
 ghost use Rattle.st_core.specs.Choice.{next_event_of};
-ghost use Rattle.st_core.specs.Transition.{with_moment, done_by, went_on, stopped, turn_of};
+ghost use Rattle.st_core.specs.Transition.{with_moment, done_by, went_on, stopped, settled, turn_of};
 ghost use Rattle.st_core.specs.Run.{Meets, turn_takes_memory, turn_without_memory};
 
+use crate::calls::{one_call, with_call};
 use crate::engine::LIMIT;
+use crate::entered::{entered_reason, new_entered_data, take_entered_actions};
+use crate::new_data::{or_old, replace};
 use crate::outcomes::{
-    changes_state, data_after, reason_of, replace_data, state_after, take_actions,
+    changes_state, new_data, reason_of, repeats_state, state_after, take_actions,
 };
+use crate::planning::plan_both;
 use crate::prepared::prepare;
 use crate::{Call, Core, Done, Report, Turned};
-use st_actions::plan;
+use st_actions::{Planned, plan};
 use st_events::{Kind, Module, Outcome, PlainList, Reason, Refusal};
 use std::alloc::{AllocError, Global};
 
 /// What a module's `handle` answers.
 type OutcomeOf<M> = Outcome<<M as Module>::State, <M as Module>::Data, <M as Module>::Content>;
 
-/// The list of one call.
-fn one_call<S: Drop>(alloc: Global, call: Call<S>) -> Result<PlainList<Call<S>>, AllocError>
-    ensures { IfOk result (λ calls. calls ≡ call ∷ []) }
+/// The list of the call of an event's `handle`.
+fn handle_alone<S: Drop>(
+    alloc: Global,
+    number: u64,
+    kind: Kind,
+    state: S,
+) -> Result<PlainList<Call<S>>, AllocError>
+    ensures { IfOk result (λ calls. calls ≡ Handle number kind state ∷ []) }
 {
-    let mut calls = Vec::new(alloc);
-    calls.push(call)?;
-    Ok(PlainList::from(calls))
+    let handle = Call::Handle {
+        number,
+        kind,
+        state,
+    };
+    one_call(alloc, handle)
 }
 
-/// The list of two calls.
-fn two_calls<S: Drop>(
+/// The list of the calls of an event's `handle` and of the `enter` after it.
+fn handle_and_enter<S: Copy + Drop>(
     alloc: Global,
-    first: Call<S>,
-    second: Call<S>,
+    number: u64,
+    kind: Kind,
+    old: S,
+    state: S,
 ) -> Result<PlainList<Call<S>>, AllocError>
-    ensures { IfOk result (λ calls. calls ≡ first ∷ second ∷ []) }
+    ensures { IfOk result (λ calls. calls ≡ Handle number kind old ∷ Enter old state ∷ []) }
 {
-    let mut calls = Vec::new(alloc);
-    calls.push(first)?;
-    calls.push(second)?;
-    Ok(PlainList::from(calls))
+    with_call(
+        handle_alone(alloc, number, kind, old)?,
+        Call::Enter { old, state },
+    )
+}
+
+/// Says whether there is an enter call after an outcome.
+fn is_entered<M: Module>(module: &M, old: M::State, outcome: &OutcomeOf<M>) -> bool
+    ensures { result ≡ is_entered (callbacks_of M.Module M.State.eq «module».now) old outcome.now }
+{
+    module.enters() && (changes_state(old, outcome) || repeats_state(outcome))
 }
 
 /// How an event ends that is postponed or not.
@@ -57,7 +79,9 @@ fn done_by(postpone: bool) -> Done
 
 impl<M: Module> Core<M> {
     /// Handles the next event at a moment, in milliseconds: calls the module back, and changes the
-    /// machine as it answers. Without an event the answer is `Idle`. A moment before the latest one
+    /// machine as it answers. With enter calls a new state is entered, or the same one where it is
+    /// repeated, by one call of `enter`; its actions follow those of `handle`, as if in one list, and it may
+    /// stop. Without an event the answer is `Idle`. A moment before the latest one
     /// counts as the latest.
     ///
     /// Refused with `Stopped` once the machine has ended, with `Moment` at 2^63 or later, with
@@ -66,7 +90,7 @@ impl<M: Module> Core<M> {
     /// A refusal changes nothing, the latest moment included, and a turn that was refused for memory may
     /// be tried again with the same result.
     ///
-    /// Manual: `transition_option()`, the steps of a state transition.
+    /// Manual: `transition_option()`, the steps of a state transition; `state_enter()`.
     pub fn turn(&mut self, now: u64) -> Result<Turned<M::State>, Refusal>
         ensures step { Meets turn_takes_memory turn_without_memory result self.old.machine self.new.machine (turn_of (callbacks_of M.Module M.State.eq self.old.module_) self.old.machine now) }
         ensures unchanged_module { self.new.module_ ≡ self.old.module_ }
@@ -92,14 +116,15 @@ impl<M: Module> Core<M> {
         else {
             return Err(Refusal::NoMemory);
         };
-        match reason_of(&outcome) {
-            None => self.go_on(now, number, kind, outcome),
-            Some(reason) => self.stop_at(now, number, kind, outcome, reason),
+        if is_entered(&self.module, self.state, &outcome) {
+            self.enter(now, number, kind, outcome)
+        } else {
+            self.conclude(now, number, kind, outcome)
         }
     }
 
-    /// The machine goes on after the next event, which has this number and kind.
-    fn go_on(
+    /// Does what `handle` answered to the next event, which has this number and kind, with no enter call.
+    fn conclude(
         &mut self,
         now: u64,
         number: u64,
@@ -108,36 +133,106 @@ impl<M: Module> Core<M> {
     ) -> Result<Turned<M::State>, Refusal>
         requires moment { now < 2 ^ 63 }
         requires number_is { option_map (λ event. event.number) (next_event_of self.old.machine) ≡ Some number }
-        ensures step { Meets turn_takes_memory turn_without_memory result self.old.machine self.new.machine
-            (went_on self.old.machine (with_moment self.old.machine now) number
-            (called_with M.State.eq (Handle number kind self.old.machine.state ∷ []) self.old.machine.state self.old.machine.data outcome)) }
+        ensures step { (called : Called M.State M.Data M.Content)
+            → called ≡ handled_with M.State.eq number kind self.old.machine.state self.old.machine.data outcome
+            → Meets turn_takes_memory turn_without_memory result self.old.machine self.new.machine
+            (settled (callbacks_of M.Module M.State.eq self.old.module_) self.old.machine (with_moment self.old.machine now) number called called.reason) }
         ensures unchanged_module { self.new.module_ ≡ self.old.module_ }
 
         ensures unchanged { OnErr result (self.new ≡ self.old) }
     {
-        let before = self.state;
-        let after = state_after(before, &outcome);
-        let changed = changes_state(before, &outcome);
-        let handle = Call::Handle {
-            number,
-            kind,
-            state: before,
-        };
-        let Ok(calls) = one_call(self.alloc, handle) else {
+        let after = state_after(self.state, &outcome);
+        let changed = changes_state(self.state, &outcome);
+        let reason = reason_of(&outcome);
+        let actions = take_actions(self.alloc, &mut outcome);
+        let data = new_data(outcome);
+        let Ok(calls) = handle_alone(self.alloc, number, kind, self.state) else {
             return Err(Refusal::NoMemory);
         };
-        let actions = take_actions(self.alloc, &mut outcome);
+        if let Some(reason) = reason {
+            return self.stop_at(now, number, calls, after, data, reason);
+        }
         let Ok(planned) = plan(self.alloc, actions) else {
             return Err(Refusal::NoMemory);
         };
+        self.go_on(now, number, calls, after, data, changed, planned)
+    }
+
+    /// Does what `handle` answered to the next event, which has this number and kind, and calls `enter` for
+    /// the state that it leads to.
+    fn enter(
+        &mut self,
+        now: u64,
+        number: u64,
+        kind: Kind,
+        mut outcome: OutcomeOf<M>,
+    ) -> Result<Turned<M::State>, Refusal>
+        requires moment { now < 2 ^ 63 }
+        requires number_is { option_map (λ event. event.number) (next_event_of self.old.machine) ≡ Some number }
+        ensures step { (called : Called M.State M.Data M.Content)
+            → called ≡ entered_by (callbacks_of M.Module M.State.eq self.old.module_) self.old.machine.state
+            (handled_with M.State.eq number kind self.old.machine.state self.old.machine.data outcome)
+            → Meets turn_takes_memory turn_without_memory result self.old.machine self.new.machine
+            (settled (callbacks_of M.Module M.State.eq self.old.module_) self.old.machine (with_moment self.old.machine now) number called called.reason) }
+        ensures unchanged_module { self.new.module_ ≡ self.old.module_ }
+
+        ensures unchanged { OnErr result (self.new ≡ self.old) }
+    {
+        let after = state_after(self.state, &outcome);
+        let changed = changes_state(self.state, &outcome);
+        let actions = take_actions(self.alloc, &mut outcome);
+        let data = new_data(outcome);
+        let held = or_old(&self.data, &data);
+        let Ok(mut entered) = self.module.enter(self.alloc, self.state, after, held) else {
+            return Err(Refusal::NoMemory);
+        };
+        let reason = entered_reason(&entered);
+        let later = take_entered_actions(self.alloc, &mut entered);
+        let data = new_entered_data(entered).or(data);
+        let Ok(calls) = handle_and_enter(self.alloc, number, kind, self.state, after) else {
+            return Err(Refusal::NoMemory);
+        };
+        if let Some(reason) = reason {
+            return self.stop_at(now, number, calls, after, data, reason);
+        }
+        let Ok(planned) = plan_both(self.alloc, actions, later) else {
+            return Err(Refusal::NoMemory);
+        };
+        self.go_on(now, number, calls, after, data, changed, planned)
+    }
+
+    /// The machine goes on after the next event, which has this number, and after these callbacks, with a
+    /// state, new data where there are some, and what the actions ask for.
+    fn go_on(
+        &mut self,
+        now: u64,
+        number: u64,
+        calls: PlainList<Call<M::State>>,
+        after: M::State,
+        data: Option<M::Data>,
+        changed: bool,
+        planned: Planned<M::Content>,
+    ) -> Result<Turned<M::State>, Refusal>
+        requires moment { now < 2 ^ 63 }
+        requires number_is { option_map (λ event. event.number) (next_event_of self.old.machine) ≡ Some number }
+        ensures step { (called : Called M.State M.Data M.Content)
+            → called.calls ≡ calls → called.state ≡ after → called.data ≡ or_old self.old.machine.data «data» → called.changed ≡ changed
+            → plan_of called.actions ≡ planned
+            → Meets turn_takes_memory turn_without_memory result self.old.machine self.new.machine
+            (went_on self.old.machine (with_moment self.old.machine now) number called) }
+        ensures unchanged_module { self.new.module_ ≡ self.old.module_ }
+
+        ensures unchanged { OnErr result (self.new ≡ self.old) }
+    {
         let prepared = match prepare(self.alloc, &mut self.agenda, &planned) {
             Ok(prepared) => prepared,
             Err(refusal) => return Err(refusal),
         };
         // Nothing fails from here on.
+        let before = self.state;
         self.latest = self.latest.max(now);
         self.state = after;
-        replace_data(&mut self.data, outcome);
+        replace(&mut self.data, data);
         let done = done_by(planned.postpone);
         self.agenda.settle(
             self.latest,
@@ -159,45 +254,42 @@ impl<M: Module> Core<M> {
         }))
     }
 
-    /// The machine stops for a reason at the next event, which has this number and kind.
+    /// The machine stops for a reason at the next event, which has this number, and after these callbacks,
+    /// with a state and new data where there are some.
     fn stop_at(
         &mut self,
         now: u64,
         number: u64,
-        kind: Kind,
-        outcome: OutcomeOf<M>,
+        calls: PlainList<Call<M::State>>,
+        after: M::State,
+        data: Option<M::Data>,
         reason: Reason,
     ) -> Result<Turned<M::State>, Refusal>
         requires moment { now < 2 ^ 63 }
-        ensures step { Meets turn_takes_memory turn_without_memory result self.old.machine self.new.machine
-            (stopped (callbacks_of M.Module M.State.eq self.old.module_) (with_moment self.old.machine now) number
-            (called_with M.State.eq (Handle number kind self.old.machine.state ∷ []) self.old.machine.state self.old.machine.data outcome) reason) }
+        ensures step { (called : Called M.State M.Data M.Content)
+            → called.calls ≡ calls → called.state ≡ after → called.data ≡ or_old self.old.machine.data «data»
+            → Meets turn_takes_memory turn_without_memory result self.old.machine self.new.machine
+            (stopped (callbacks_of M.Module M.State.eq self.old.module_) (with_moment self.old.machine now) number called reason) }
         ensures unchanged_module { self.new.module_ ≡ self.old.module_ }
 
         ensures unchanged { OnErr result (self.new ≡ self.old) }
     {
-        let before = self.state;
-        let after = state_after(before, &outcome);
         let word = self
             .module
-            .terminate(reason, after, data_after(&self.data, &outcome));
-        let handle = Call::Handle {
-            number,
-            kind,
-            state: before,
-        };
+            .terminate(reason, after, or_old(&self.data, &data));
         let terminate = Call::Terminate {
             reason,
             state: after,
             word,
         };
-        let Ok(calls) = two_calls(self.alloc, handle, terminate) else {
+        let Ok(calls) = with_call(calls, terminate) else {
             return Err(Refusal::NoMemory);
         };
         // Nothing fails from here on.
+        let before = self.state;
         self.latest = self.latest.max(now);
         self.state = after;
-        replace_data(&mut self.data, outcome);
+        replace(&mut self.data, data);
         self.end(reason, word);
         Ok(Turned::Reported(Report {
             event: Some(number),

@@ -8,3 +8,4 @@ pub mod SettlingLemmas
 pub mod TickingLemmas
 pub mod ScriptLemmas
 pub mod WorkedScripts
+pub mod WorkedTurns

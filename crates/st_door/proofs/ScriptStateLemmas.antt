@@ -299,10 +299,10 @@ started-state script code core report started = elim (cases_Bool (nat_lt script.
 -- the id that a start is given is the next one
 pub given-id : (script : ScriptState) (code : List ℕ) (id : MachineId) → slots_of script.doors ≡ upward 0 (length script.doors) → script.started ≡ length script.doors
     → id ≡ record { slot = length script.doors; serial = length script.doors + 1 }
-    → start_of the_door id (init_of code) script.moment 1 ≡ door_start_of script code
+    → start_of door_callbacks the_door id (init_of code) script.moment 1 ≡ door_start_of script code
 given-id script code id numbered counted same =
     let next : id ≡ next_id_of script = rw (same, free-slot script.doors numbered, counted) refl in
-    ap (λ (id : MachineId). start_of the_door id (init_of code) script.moment 1) next
+    ap (λ (id : MachineId). start_of door_callbacks the_door id (init_of code) script.moment 1) next
 
 -- the script with a door that runs
 pub started-script : (script : ScriptState) (name code : List ℕ) (core : DoorCore) (report : Report DoorState) (after : List NamedDoor)

@@ -1,26 +1,42 @@
 -- Turns until the doors rest.
 use Rattle.std.proofs.Common.{◌≡◌, ℕ, zero, suc, ◌+◌, ◌<◌, ◌≤◌, ◌≢◌, Bool, true, false, nat_lt, List, [], ◌∷◌, length, get_or, set, map, refl, ap, ◌∙◌, arith, inl, inr, ◌^◌, Option, Some, None}
 use Rattle.std.specs.List.{list_any}
+use Rattle.std.proofs.Math.Path.{fun_ext}
 use Rattle.std.proofs.lemmas.Bool.{cases_Bool, cases_lt}
 use Rattle.std.proofs.lemmas.List.{get_or-set_other, get_or_default, length-set}
 use Rattle.st_core.specs.Choice.{next_event_of}
-use Rattle.st_core.specs.Callbacks.{Called, called_of}
+use Rattle.st_core.specs.Callbacks.{Called, callbacks_of, called_of}
 use Rattle.st_core.specs.Stop.{unless_ended}
 use Rattle.st_core.specs.Transition.{turn_of, turn_running, transition_of, with_moment, settled, went_on, has_numbers}
 use Rattle.st_core.specs.Start.{first_state}
 use Rattle.st_events.specs.declared.event.Event.{Event}
 use Rattle.st_events.specs.declared.machine_id.MachineId.{MachineId}
 use Rattle.st_events.specs.declared.refusal.Refusal.{Refusal}
+use Rattle.st_door.specs.contracts.door.DoorModule.TheImpl.{ghosts}
+use Rattle.st_door.specs.contracts.door_state.DoorStatePartialEq.TheImpl.{eq-value}
+use Rattle.st_door.specs.declared.door.Door.{Door}
 use Rattle.st_door.specs.declared.door_content.DoorContent.{DoorContent}
 use Rattle.st_door.specs.declared.door_data.DoorData.{DoorData}
 use Rattle.st_door.specs.declared.door_state.DoorState.{DoorState}
-use Rattle.st_door.specs.declared.door_state.DoorState.TheVariants.{Locked}
+use Rattle.st_door.specs.declared.door_state.DoorState.TheVariants.{Locked, Open}
+use Rattle.st_door.specs.Door.{is_same_state}
 use Rattle.st_door.specs.Doors.{NamedDoor, DoorMachine, IsFirst, door_callbacks, door_named, is_ready_door, turned_door, run_until_idle, RestsOutside, SameLabels}
 use Rattle.st_door.proofs.DoorLemmas.{IsFirst-changed}
 
 -- a door to speak of where there is none
 abbrev pub no_door : NamedDoor
 no_door = record { name = []; machine = first_state (record { slot = 0; serial = 0 }) Locked (record { code = []; buttons = [] }) 0 0 }
+
+-- states are compared as the definition compares them
+same-states : (one other : DoorState) → eq-value.it one other ≡ is_same_state one other
+same-states Locked Locked = refl
+same-states Locked Open = refl
+same-states Open Locked = refl
+same-states Open Open = refl
+
+-- the callbacks that the bound gives for a door are those of the definition
+pub given-callbacks : (door : Door) → callbacks_of ghosts eq-value.it door ≡ door_callbacks
+given-callbacks door = ap (λ same_state. record door_callbacks { same_state = same_state }) (fun_ext (λ one. fun_ext (λ other. same-states one other)))
 
 -- what the callbacks of a door come to
 abbrev DoorCalled : Type 0

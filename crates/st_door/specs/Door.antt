@@ -1,7 +1,12 @@
--- The door module: what `init`, `handle` and `terminate` answer, an equation for each row of its table.
+-- The door module: what `init`, `handle`, `enters`, `enter` and `terminate` answer, an equation for each
+-- row of its tables.
 use Rattle.std.specs.Prelude.{ℕ, Bool, true, false, List, [], ◌∷◌, ◌++◌, drop, length, nat_lt, bytes_eq, if◌then◌else◌}
 use Rattle.st_events.specs.declared.action.Action.{Action}
 use Rattle.st_events.specs.declared.action.Action.TheVariants.{Reply, Postpone, Set}
+use Rattle.st_events.specs.declared.enter_action.EnterAction.{EnterAction}
+use Rattle.st_events.specs.declared.enter_action.EnterAction.TheVariants as enter_action
+use Rattle.st_events.specs.declared.enter_outcome.EnterOutcome.{EnterOutcome}
+use Rattle.st_events.specs.declared.enter_outcome.EnterOutcome.TheVariants as enter_outcome
 use Rattle.st_events.specs.declared.init.Init.{Init}
 use Rattle.st_events.specs.declared.init.Init.TheVariants as init
 use Rattle.st_events.specs.declared.kind.Kind.{Kind}
@@ -21,6 +26,10 @@ use Rattle.st_door.specs.declared.door_state.DoorState.TheVariants.{Locked, Open
 abbrev pub DoorOutcome : Type 0
 DoorOutcome = Outcome DoorState DoorData DoorContent
 
+-- what a door's `enter` answers
+abbrev pub DoorEntered : Type 0
+DoorEntered = EnterOutcome DoorData DoorContent
+
 -- a door with this code begins locked, with no button pressed
 abbrev pub init_of : List ℕ → Init DoorState DoorData DoorContent
 init_of code = init.Ok Locked (record { code = code; buttons = [] }) []
@@ -30,6 +39,7 @@ abbrev pub with_button : List ℕ → List ℕ → ℕ → List ℕ
 with_button code buttons digit =
     if nat_lt (length buttons) (length code) then buttons ++ digit ∷ [] else drop 1 buttons ++ digit ∷ []
 
+-- the data with the same code and no button
 abbrev pub without_buttons : DoorData → DoorData
 without_buttons held = record { code = held.code; buttons = [] }
 
@@ -38,14 +48,14 @@ abbrev pub buttons_run_out : Action DoorContent
 buttons_run_out = Set timer.Event (After 30000) Nothing
 
 -- the state time-out: an open door is locked again after 10,000 milliseconds
-abbrev pub locks_again : Action DoorContent
-locks_again = Set timer.State (After 10000) Nothing
+abbrev pub locks_again : EnterAction DoorContent
+locks_again = enter_action.Set timer.State (After 10000) Nothing
 
 -- a locked door opens where its buttons are the code, and else keeps them
 abbrev pub unlocked_by : DoorData → List ℕ → DoorOutcome
 unlocked_by held buttons =
     if bytes_eq buttons held.code
-    then NextState Open (without_buttons held) (locks_again ∷ [])
+    then NextState Open (without_buttons held) []
     else NextState Locked (record { code = held.code; buttons = buttons }) (buttons_run_out ∷ [])
 
 -- a button of a locked door
@@ -63,7 +73,7 @@ cast_of Nothing state held = KeepStateAndData []
 -- a time-out: that of the event makes a locked door forget its buttons, that of the state locks an open one
 abbrev pub timeout_of : Timer → DoorState → DoorData → DoorOutcome
 timeout_of timer.Event Locked held = NextState Locked (without_buttons held) []
-timeout_of timer.State Open held = NextState Locked (without_buttons held) []
+timeout_of timer.State Open held = NextState Locked held []
 timeout_of _ _ held = KeepStateAndData []
 
 -- a call: the length of the code is told
@@ -80,6 +90,15 @@ handle_of Cast content state held = cast_of content state held
 handle_of Info content state held = KeepStateAndData []
 handle_of (Timeout timer) content state held = timeout_of timer state held
 handle_of Internal content state held = KeepStateAndData []
+
+-- a door has enter calls
+abbrev pub enters : Bool
+enters = true
+
+-- what a door answers where a state is entered: a locked one has no button, and an open one is to be locked again
+abbrev pub enter_of : DoorState → DoorState → DoorData → DoorEntered
+enter_of old Locked held = enter_outcome.KeepState (without_buttons held) []
+enter_of old Open held = enter_outcome.KeepStateAndData (locks_again ∷ [])
 
 -- a door's last word: how many buttons count
 abbrev pub terminate_of : ℕ → DoorState → DoorData → ℕ

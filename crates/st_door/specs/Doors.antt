@@ -15,7 +15,7 @@ use Rattle.st_events.specs.declared.refused.Refused.{Refused}
 use Rattle.st_door.specs.declared.door_content.DoorContent.{DoorContent}
 use Rattle.st_door.specs.declared.door_data.DoorData.{DoorData}
 use Rattle.st_door.specs.declared.door_state.DoorState.{DoorState}
-use Rattle.st_door.specs.Door.{handle_of, terminate_of, is_same_state}
+use Rattle.st_door.specs.Door.{handle_of, enters, enter_of, terminate_of, is_same_state}
 
 abbrev pub DoorMachine : Type 0
 DoorMachine = MachineState DoorState DoorData DoorContent
@@ -30,7 +30,13 @@ door_named name machine = record { name = name; machine = machine }
 
 -- the callbacks of a door, and the equality of its states
 abbrev pub door_callbacks : Callbacks DoorState DoorData DoorContent
-door_callbacks = record { handle_is = handle_of; terminate_is = terminate_of; same_state = is_same_state }
+door_callbacks = record {
+  handle_is = handle_of;
+  enters_is = enters;
+  enter_is = enter_of;
+  terminate_is = terminate_of;
+  same_state = is_same_state;
+}
 
 -- the first element that passes is changed
 abbrev pub change_first : {X : Type 0} → (X → Bool) → (X → X) → List X → List X

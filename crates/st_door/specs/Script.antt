@@ -19,7 +19,7 @@ use Rattle.st_door.specs.declared.line.Line.TheVariants as line
 use Rattle.st_door.specs.declared.reply.Reply.{Reply}
 use Rattle.st_door.specs.declared.reply.Reply.TheVariants.{Silent, Printed, Refuses, Malformed}
 use Rattle.st_door.specs.Door.{init_of}
-use Rattle.st_door.specs.Doors.{NamedDoor, DoorMachine, door_limit, door_of, with_machine, free_slot_of, run_until_idle, press_of, refusal_of, door_stop_of, stop_refusal_of, all_expired_of, ticked_doors}
+use Rattle.st_door.specs.Doors.{NamedDoor, DoorMachine, door_callbacks, door_limit, door_of, with_machine, free_slot_of, run_until_idle, press_of, refusal_of, door_stop_of, stop_refusal_of, all_expired_of, ticked_doors}
 use Rattle.st_door.specs.Grammar.{line_of}
 use Rattle.st_door.specs.Lines.{lines}
 use Rattle.st_door.specs.Printing.{status_of, names_text, expired_text, refused_text, malformed_text}
@@ -50,7 +50,7 @@ DoorStart = Result (Start Door DoorState DoorData DoorContent (List ℕ)) (Refus
 
 -- the start of a door with this code
 abbrev pub door_start_of : ScriptState → List ℕ → DoorStart
-door_start_of script code = start_of the_door (next_id_of script) (init_of code) script.moment 1
+door_start_of script code = start_of door_callbacks the_door (next_id_of script) (init_of code) script.moment 1
 
 -- what comes of a start: a door that runs goes to the end of the list; doors start always, so that
 -- the other answers of `init` leave the script as it is

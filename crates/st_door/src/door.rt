@@ -1,13 +1,13 @@
 //! The example module: a door with a code lock.
 ghost use Rattle.std.specs.Prelude.{◌≡◌, ◌∷◌, [], IfOk};
 ghost use Rattle.std.proofs.Common.{rules};
-ghost use Rattle.st_events.specs.declared.action.Action.TheVariants.{Set};
-ghost use Rattle.st_events.specs.declared.time.Time.TheVariants.{After};
-ghost use Rattle.st_door.specs.declared.door_content.DoorContent.TheVariants.{Nothing};
-ghost use Rattle.st_door.specs.Door.{init_of, handle_of, terminate_of, cast_of, timeout_of, call_of, pressed, with_button};
+ghost use Rattle.st_door.specs.Door.{init_of, handle_of, enters, enter_of, terminate_of, cast_of, timeout_of, call_of, pressed, with_button, without_buttons, buttons_run_out, locks_again};
 
 use crate::{Digits, DoorContent, DoorData, DoorState};
-use st_events::{Action, Actions, Init, Kind, Module, Outcome, Reason, Tag, Time, Timer};
+use st_events::{
+    Action, Actions, EnterAction, EnterActions, EnterOutcome, Init, Kind, Module, Outcome, Reason,
+    Tag, Time, Timer,
+};
 use std::alloc::{AllocError, Global};
 
 /// After how many milliseconds without an event a locked door forgets its buttons.
@@ -19,9 +19,15 @@ const OPEN_TIME: u32 = 10_000;
 /// What the door's `handle` answers.
 type DoorOutcome = Outcome<DoorState, DoorData, DoorContent>;
 
+/// What the door's `enter` answers.
+type DoorEntered = EnterOutcome<DoorData, DoorContent>;
+
 /// A door that opens on a code. It is locked at first; buttons that make up the code open it. After
 /// 10,000 milliseconds it is locked again. While it is locked, its buttons are forgotten after 30,000
 /// milliseconds in which no event came.
+///
+/// It has enter calls: that of the open door sets the time-out that locks it again, and that of the locked
+/// door, the first one too, forgets its buttons.
 #[derive(Debug, Drop)]
 pub struct Door;
 
@@ -50,28 +56,53 @@ fn with_buttons(alloc: Global, data: &DoorData, buttons: Digits) -> Result<DoorD
     Ok(DoorData { code, buttons })
 }
 
-/// The list of one action, that sets a timer to so many milliseconds.
-fn setting(alloc: Global, timer: Timer, time: u32) -> Result<Actions<DoorContent>, AllocError>
-    ensures { IfOk result (λ actions. actions ≡ Set timer (After time) Nothing ∷ []) }
+/// The data with no button and the same code.
+fn without_buttons(alloc: Global, data: &DoorData) -> Result<DoorData, AllocError>
+    ensures { IfOk result (λ after. after ≡ without_buttons «data».now) }
+{
+    with_buttons(alloc, data, Digits::new(alloc))
+}
+
+/// A copy of the data, equal to it.
+fn copied(alloc: Global, data: &DoorData) -> Result<DoorData, AllocError>
+    ensures { IfOk result (λ copy. copy ≡ «data».now) }
+{
+    let buttons = Digits::copied(alloc, data.buttons.as_slice())?;
+    with_buttons(alloc, data, buttons)
+}
+
+/// The list of one action, the event time-out that makes a locked door forget its buttons.
+fn buttons_run_out(alloc: Global) -> Result<Actions<DoorContent>, AllocError>
+    ensures { IfOk result (λ actions. actions ≡ buttons_run_out ∷ []) }
 {
     let mut actions = Actions::new(alloc);
-    actions.push(Action::Set(timer, Time::After(time), DoorContent::Nothing))?;
+    let time = Time::After(BUTTONS_TIME);
+    actions.push(Action::Set(Timer::Event, time, DoorContent::Nothing))?;
     Ok(actions)
 }
 
-/// A button in `Locked`: it opens the door for 10,000 milliseconds where it completes the code, and else
-/// counts for 30,000 milliseconds in which no other event comes.
+/// The list of one action, the state time-out that locks an open door again.
+fn locks_again(alloc: Global) -> Result<EnterActions<DoorContent>, AllocError>
+    ensures { IfOk result (λ actions. actions ≡ locks_again ∷ []) }
+{
+    let mut actions = EnterActions::new(alloc);
+    let time = Time::After(OPEN_TIME);
+    actions.push(EnterAction::Set(Timer::State, time, DoorContent::Nothing))?;
+    Ok(actions)
+}
+
+/// A button in `Locked`: it opens the door where it completes the code, and else counts for 30,000
+/// milliseconds in which no other event comes.
 fn pressed(alloc: Global, data: &DoorData, digit: u8) -> Result<DoorOutcome, AllocError>
     ensures { IfOk result (λ outcome. outcome ≡ pressed «data».now digit) }
 {
     let buttons = with_button(alloc, data.code.as_slice(), data.buttons.as_slice(), digit)?;
     if buttons.as_slice() == data.code.as_slice() {
-        let data = with_buttons(alloc, data, Digits::new(alloc))?;
-        let actions = setting(alloc, Timer::State, OPEN_TIME)?;
-        Ok(Outcome::NextState(DoorState::Open, data, actions))
+        let data = without_buttons(alloc, data)?;
+        Ok(Outcome::NextState(DoorState::Open, data, Actions::new(alloc)))
     } else {
         let data = with_buttons(alloc, data, buttons)?;
-        let actions = setting(alloc, Timer::Event, BUTTONS_TIME)?;
+        let actions = buttons_run_out(alloc)?;
         Ok(Outcome::NextState(DoorState::Locked, data, actions))
     }
 }
@@ -96,7 +127,8 @@ fn cast(
     }
 }
 
-/// A time-out: the buttons are forgotten, and an open door is locked.
+/// A time-out: that of the event makes a locked door forget its buttons, that of the state locks an open
+/// one.
 fn time_out(
     alloc: Global,
     timer: Timer,
@@ -106,8 +138,12 @@ fn time_out(
     ensures { IfOk result (λ outcome. outcome ≡ timeout_of timer state «data».now) }
 {
     match (timer, state) {
-        (Timer::Event, DoorState::Locked) | (Timer::State, DoorState::Open) => {
-            let data = with_buttons(alloc, data, Digits::new(alloc))?;
+        (Timer::Event, DoorState::Locked) => {
+            let data = without_buttons(alloc, data)?;
+            Ok(Outcome::NextState(DoorState::Locked, data, Actions::new(alloc)))
+        }
+        (Timer::State, DoorState::Open) => {
+            let data = copied(alloc, data)?;
             Ok(Outcome::NextState(DoorState::Locked, data, Actions::new(alloc)))
         }
         _ => Ok(Outcome::KeepStateAndData(Actions::new(alloc))),
@@ -143,6 +179,10 @@ impl Module for Door {
 
     ghost handle_is = { λ door kind content state held. handle_of kind content state held };
 
+    ghost enters_is = { λ door. enters };
+
+    ghost enter_is = { λ door old state held. enter_of old state held };
+
     ghost terminate_is = { λ door reason state held. terminate_of reason state held };
 
     fn init(
@@ -174,6 +214,26 @@ impl Module for Door {
         }
     }
 
+    fn enters(&self) -> bool {
+        true
+    }
+
+    fn enter(
+        &self,
+        alloc: Global,
+        _old: DoorState,
+        state: DoorState,
+        data: &DoorData,
+    ) -> Result<DoorEntered, AllocError> {
+        match state {
+            DoorState::Locked => {
+                let data = without_buttons(alloc, data)?;
+                Ok(EnterOutcome::KeepState(data, EnterActions::new(alloc)))
+            }
+            DoorState::Open => Ok(EnterOutcome::KeepStateAndData(locks_again(alloc)?)),
+        }
+    }
+
     fn terminate(&self, _reason: Reason, _state: DoorState, data: &DoorData) -> u32 {
         data.buttons.len() as u32
     }
@@ -187,17 +247,20 @@ impl Module for Door {
     }
 
     fn copy_data(&self, alloc: Global, data: &DoorData) -> Result<DoorData, AllocError> {
-        let buttons = Digits::copied(alloc, data.buttons.as_slice())?;
-        with_buttons(alloc, data, buttons)
+        copied(alloc, data)
     }
 
     ghost states_exact = { Prim.search rules };
 
     ghost outcome_fits = { Prim.search rules };
 
+    ghost enter_outcome_fits = { Prim.search rules };
+
     ghost init_fits = { Prim.search rules };
 
     ghost actions_fit = { Prim.search rules };
+
+    ghost enter_actions_fit = { Prim.search rules };
 
     ghost replies_fit = { Prim.search rules };
 

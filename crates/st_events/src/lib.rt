@@ -4,6 +4,7 @@
 
 mod action;
 mod enter_action;
+mod enter_outcome;
 mod event;
 mod init;
 mod insert;
@@ -25,6 +26,7 @@ mod timer;
 
 pub use action::{Action, Actions};
 pub use enter_action::{EnterAction, EnterActions};
+pub use enter_outcome::EnterOutcome;
 pub use event::Event;
 pub use init::Init;
 pub use insert::{Insert, Inserts};

@@ -1,14 +1,16 @@
 //! The callback module.
-ghost use Rattle.std.specs.Prelude.{◌≡◌, ℕ, true, IfOk};
+ghost use Rattle.std.specs.Prelude.{◌≡◌, ℕ, Bool, true, IfOk};
 ghost use Rattle.std.specs.Mem.{FitsInMemory};
 ghost use Rattle.st_events.specs.declared.kind.Kind.{Kind};
 ghost use Rattle.st_events.specs.declared.outcome.Outcome.{Outcome};
+ghost use Rattle.st_events.specs.declared.enter_outcome.EnterOutcome.{EnterOutcome};
 ghost use Rattle.st_events.specs.declared.init.Init.{Init};
 ghost use Rattle.st_events.specs.contracts.outcome.Outcome.{the_row as outcome_row};
+ghost use Rattle.st_events.specs.contracts.enter_outcome.EnterOutcome.{the_row as enter_outcome_row};
 ghost use Rattle.st_events.specs.contracts.init.Init.{the_row as init_row};
-ghost use Rattle.st_events.specs.Rows.{ActionsFit, RepliesFit, InsertsFit, SettingsFit, PlannedFits};
+ghost use Rattle.st_events.specs.Rows.{ActionsFit, EnterActionsFit, RepliesFit, InsertsFit, SettingsFit, PlannedFits};
 
-use crate::{Init, Kind, Outcome, Reason};
+use crate::{EnterOutcome, Init, Kind, Outcome, Reason};
 use std::alloc::{AllocError, Global};
 
 /// A callback module: what an embedder writes, and a machine runs.
@@ -16,7 +18,8 @@ use std::alloc::{AllocError, Global};
 /// Each call has a definition, its ghost member, which its answer must be; the one other answer is
 /// want of memory. So a callback is a function of what it is handed, and its effects are actions.
 ///
-/// Manual: Callback Functions, in the callback mode `handle_event_function`.
+/// Manual: Callback Functions, in the callback mode `handle_event_function`, with `state_enter()` where
+/// `enters` answers so.
 pub trait Module: Drop {
     /// The state. Equality of states is equality of values.
     type State: Copy + Eq + Drop + Send;
@@ -35,6 +38,12 @@ pub trait Module: Drop {
 
     // What `handle` answers to an event, in a state, with the data.
     ghost handle_is: { Self → Kind → Self.Content → Self.State → Self.Data → Outcome Self.State Self.Data Self.Content };
+
+    // Whether there are enter calls.
+    ghost enters_is: { Self → Bool };
+
+    // What `enter` answers where a state was left, or begun, and a state is entered, with the data.
+    ghost enter_is: { Self → Self.State → Self.State → Self.Data → EnterOutcome Self.Data Self.Content };
 
     // What `terminate` answers to a reason, in a state, with the data.
     ghost terminate_is: { Self → ℕ → Self.State → Self.Data → ℕ };
@@ -61,6 +70,26 @@ pub trait Module: Drop {
         data: &Self::Data,
     ) -> Result<Outcome<Self::State, Self::Data, Self::Content>, AllocError>
         ensures { IfOk result (λ outcome. outcome ≡ handle_is self.now kind content.now state «data».now) };
+
+    /// Says whether there are enter calls. It takes no memory.
+    ///
+    /// Manual: `state_enter()`, `Module:callback_mode/0`.
+    fn enters(&self) -> bool
+        ensures { result ≡ enters_is self.now };
+
+    /// Enters a state from the one that was left, with the data: where `enters` says so, this is called
+    /// where a machine starts, with the first state as both, after a `NextState` to another state, and
+    /// after `RepeatState` and `RepeatStateAndData`.
+    ///
+    /// Manual: `Module:handle_event/4` with the event type `enter`; `state_enter()`.
+    fn enter(
+        &self,
+        alloc: Global,
+        old: Self::State,
+        state: Self::State,
+        data: &Self::Data,
+    ) -> Result<EnterOutcome<Self::Data, Self::Content>, AllocError>
+        ensures { IfOk result (λ outcome. outcome ≡ enter_is self.now old state «data».now) };
 
     /// Ends: answers the machine's last word, for a reason, in a state, with the data. It takes no memory.
     ///
@@ -90,11 +119,17 @@ pub trait Module: Drop {
     // What `handle` answers fits in memory, with its inline actions.
     ghost outcome_fits: { FitsInMemory (outcome_row Self.State.row Self.Data.row Self.Content.row) };
 
+    // What `enter` answers fits in memory, with its inline actions.
+    ghost enter_outcome_fits: { FitsInMemory (enter_outcome_row Self.Data.row Self.Content.row) };
+
     // What `init` answers fits in memory, with its inline actions.
     ghost init_fits: { FitsInMemory (init_row Self.State.row Self.Data.row Self.Content.row) };
 
     // A list of actions fits in memory, with its inline actions.
     ghost actions_fit: { ActionsFit Self.Content.row };
+
+    // So does a list of an enter call's actions.
+    ghost enter_actions_fit: { EnterActionsFit Self.Content.row };
 
     // A list of replies fits in memory, with its inline replies.
     ghost replies_fit: { RepliesFit Self.Content.row };

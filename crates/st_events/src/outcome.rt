@@ -24,6 +24,12 @@ pub enum Outcome<S, D, C> {
     KeepState(D, Actions<C>),
     /// Both stay. Manual: `{keep_state_and_data, ..}`.
     KeepStateAndData(Actions<C>),
+    /// The state stays and is entered again, the data is this. Without enter calls it is as `KeepState`.
+    /// Nothing that is postponed is retried. Manual: `{repeat_state, ..}`.
+    RepeatState(D, Actions<C>),
+    /// Both stay, and the state is entered again, as by `RepeatState`. Manual:
+    /// `{repeat_state_and_data, ..}`.
+    RepeatStateAndData(Actions<C>),
     /// The machine ends for a reason, with this data, or the old. Manual: `{stop, ..}`.
     Stop(Reason, Option<D>),
     /// The replies are sent, and then the machine ends as by `Stop`. Manual: `{stop_and_reply, ..}`.

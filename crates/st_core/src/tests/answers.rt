@@ -33,6 +33,21 @@ fn two_calls<S: Copy>(
     PlainList::from(calls)
 }
 
+/// A list of three calls.
+fn three_calls<S: Copy>(
+    rt: &impl Abort,
+    alloc: Global,
+    first: Call<S>,
+    second: Call<S>,
+    third: Call<S>,
+) -> PlainList<Call<S>> {
+    let mut calls = room(rt, alloc, 3);
+    assert!(rt; calls.push(first).is_ok());
+    assert!(rt; calls.push(second).is_ok());
+    assert!(rt; calls.push(third).is_ok());
+    PlainList::from(calls)
+}
+
 /// A list of these elements.
 fn list<T: Copy>(rt: &impl Abort, alloc: Global, elements: &[T]) -> PlainList<T> {
     let mut copies = room(rt, alloc, elements.len());
@@ -61,15 +76,10 @@ fn report<S: Copy>(
     before: S,
     after: S,
 ) -> Report<S> {
-    let call = Call::Handle {
-        number,
-        kind,
-        state: before,
-    };
     Report {
         event: Some(number),
         done: Done::Finished,
-        calls: one_call(rt, alloc, call),
+        calls: one_call(rt, alloc, handle(number, kind, before)),
         before,
         after,
         replied: PlainList::new(alloc),
@@ -151,6 +161,94 @@ pub fn put_off_timeout<S: Copy, C>(
     })))
 }
 
+/// The call of an event's `handle`.
+fn handle<S: Copy>(number: u64, kind: Kind, state: S) -> Call<S> {
+    Call::Handle {
+        number,
+        kind,
+        state,
+    }
+}
+
+/// The call of the `enter` of a state.
+fn enter<S: Copy>(old: S, state: S) -> Call<S> {
+    Call::Enter { old, state }
+}
+
+/// What a turn answers that finishes an event and enters a state, and sets timers.
+pub fn entering<S: Copy, C>(
+    rt: &impl Abort,
+    alloc: Global,
+    number: u64,
+    kind: Kind,
+    before: S,
+    after: S,
+    set: &[(Timer, Time)],
+) -> Answer<S, C> {
+    Answer::Turn(Ok(Turned::Reported(Report {
+        calls: two_calls(
+            rt,
+            alloc,
+            handle(number, kind, before),
+            enter(before, after),
+        ),
+        set: list(rt, alloc, set),
+        ..report(rt, alloc, number, kind, before, after)
+    })))
+}
+
+/// What a turn answers that postpones a cast and enters a state, inserts other events, and sets timers.
+pub fn put_off_entering<S: Copy, C>(
+    rt: &impl Abort,
+    alloc: Global,
+    number: u64,
+    before: S,
+    after: S,
+    inserted: &[u64],
+    set: &[(Timer, Time)],
+) -> Answer<S, C> {
+    Answer::Turn(Ok(Turned::Reported(Report {
+        done: Done::PutOff,
+        calls: two_calls(
+            rt,
+            alloc,
+            handle(number, Kind::Cast, before),
+            enter(before, after),
+        ),
+        inserted: list(rt, alloc, inserted),
+        set: list(rt, alloc, set),
+        ..report(rt, alloc, number, Kind::Cast, before, after)
+    })))
+}
+
+/// What a turn answers at whose cast a state is entered, which stops.
+pub fn ended_entering<S: Copy, C>(
+    rt: &impl Abort,
+    alloc: Global,
+    number: u64,
+    before: S,
+    after: S,
+    reason: Reason,
+    word: u32,
+) -> Answer<S, C> {
+    let terminate = Call::Terminate {
+        reason,
+        state: after,
+        word,
+    };
+    Answer::Turn(Ok(Turned::Reported(Report {
+        done: Done::Ended(reason, word),
+        calls: three_calls(
+            rt,
+            alloc,
+            handle(number, Kind::Cast, before),
+            enter(before, after),
+            terminate,
+        ),
+        ..report(rt, alloc, number, Kind::Cast, before, after)
+    })))
+}
+
 /// What a tick answers at which so many time-outs expire.
 pub fn ticked<S, C>(count: u64) -> Answer<S, C> {
     Answer::Tick(Ok(count))
@@ -186,11 +284,6 @@ pub fn ended<S: Copy, C>(
     reason: Reason,
     word: u32,
 ) -> Answer<S, C> {
-    let handle = Call::Handle {
-        number,
-        kind: Kind::Cast,
-        state,
-    };
     let terminate = Call::Terminate {
         reason,
         state,
@@ -198,7 +291,7 @@ pub fn ended<S: Copy, C>(
     };
     Answer::Turn(Ok(Turned::Reported(Report {
         done: Done::Ended(reason, word),
-        calls: two_calls(rt, alloc, handle, terminate),
+        calls: two_calls(rt, alloc, handle(number, Kind::Cast, state), terminate),
         ..report(rt, alloc, number, Kind::Cast, state, state)
     })))
 }
@@ -223,23 +316,49 @@ pub fn not_stopped<S, C>(refusal: Refusal) -> Answer<S, C> {
     Answer::Stop(Err(refusal))
 }
 
-/// What a start reports that inserts events and sets timers.
+/// What a start reports that enters its state or does not, inserts events and sets timers.
 pub fn started<S: Copy>(
     rt: &impl Abort,
     alloc: Global,
+    is_entered: bool,
     state: S,
     inserted: &[u64],
     set: &[(Timer, Time)],
 ) -> Report<S> {
+    let calls = if is_entered {
+        one_call(rt, alloc, enter(state, state))
+    } else {
+        PlainList::new(alloc)
+    };
     Report {
         event: None,
         done: Done::Started,
-        calls: PlainList::new(alloc),
+        calls,
         before: state,
         after: state,
         replied: PlainList::new(alloc),
         inserted: list(rt, alloc, inserted),
         set: list(rt, alloc, set),
+    }
+}
+
+/// What a start reports whose enter call stops.
+pub fn ended_at_once<S: Copy>(
+    rt: &impl Abort,
+    alloc: Global,
+    state: S,
+    reason: Reason,
+    word: u32,
+) -> Report<S> {
+    let terminate = Call::Terminate {
+        reason,
+        state,
+        word,
+    };
+    Report {
+        done: Done::Ended(reason, word),
+        calls: two_calls(rt, alloc, enter(state, state), terminate),
+        ..started(rt, alloc, false, state, &[], &[])
     }
 }
 

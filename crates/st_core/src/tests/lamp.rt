@@ -1,16 +1,24 @@
 //! The module of a lamp: state, data and contents are types of its own.
-ghost use Rattle.std.specs.Prelude.{◌≡◌, ◌==◌, ◌-◌, if◌then◌else◌, [], refl};
+ghost use Rattle.std.specs.Prelude.{◌≡◌, ◌==◌, ◌-◌, true, if◌then◌else◌, [], ◌∷◌, refl};
 ghost use Rattle.std.proofs.Common.{rules};
+ghost use Rattle.st_events.specs.declared.enter_action.EnterAction.TheVariants.{Set};
+ghost use Rattle.st_events.specs.declared.enter_outcome.EnterOutcome.{EnterOutcome};
+ghost use Rattle.st_events.specs.declared.enter_outcome.EnterOutcome.TheVariants as enter_outcome;
 ghost use Rattle.st_events.specs.declared.outcome.Outcome.{Outcome};
 ghost use Rattle.st_events.specs.declared.outcome.Outcome.TheVariants as outcome;
 ghost use Rattle.st_events.specs.declared.init.Init.TheVariants as init;
+ghost use Rattle.st_events.specs.declared.time.Time.TheVariants.{After};
+ghost use Rattle.st_events.specs.declared.timer.Timer.TheVariants.{State as StateTimer};
 ghost use Rattle.st_core.specs.declared.tests.lamp.Light.{Light};
 ghost use Rattle.st_core.specs.declared.tests.lamp.Light.TheVariants as light;
 ghost use Rattle.st_core.specs.declared.tests.lamp.Bulb.{Bulb};
 ghost use Rattle.st_core.specs.declared.tests.lamp.Press.{Press};
 ghost use Rattle.st_core.specs.declared.tests.lamp.Press.TheVariants as press;
 
-use st_events::{Actions, Init, Kind, Module, Outcome, Reason};
+use st_events::{
+    Actions, EnterAction, EnterActions, EnterOutcome, Init, Kind, Module, Outcome, Reason, Time,
+    Timer,
+};
 use std::alloc::{AllocError, Global};
 
 /// Whether the lamp is on.
@@ -20,7 +28,7 @@ pub enum Light {
     On,
 }
 
-/// The bulb, and how often it can still be switched.
+/// The bulb, and how often it can still be turned on.
 #[derive(Clone, Copy, Debug, PartialEq, Eq)]
 pub struct Bulb {
     pub left: u8,
@@ -33,7 +41,8 @@ pub enum Press {
     Renew(Bulb),
 }
 
-/// A lamp. A switch turns it on or off while its bulb lasts, and another bulb leaves it as it is.
+/// A lamp. A switch turns it on while its bulb lasts, and off; it turns itself off after 10,000
+/// milliseconds. Another bulb leaves it as it is.
 #[derive(Clone, Copy, Debug, PartialEq, Eq)]
 pub struct Lamp;
 
@@ -49,9 +58,18 @@ impl Module for Lamp {
     ghost init_is = { λ lamp arg. init.Ok light.Off arg [] };
 
     ghost handle_is = { λ lamp kind content state held. elim content as (λ c. Outcome Light Bulb Press) [
-      | press.Switch ↦ (if held.left == 0 then outcome.KeepStateAndData []
-          else outcome.NextState (elim state as (λ s. Light) [ light.Off ↦ light.On | light.On ↦ light.Off ]) (record { left = held.left - 1 }) [])
+      | press.Switch ↦ elim state as (λ s. Outcome Light Bulb Press) [
+        | light.Off ↦ (if held.left == 0 then outcome.KeepStateAndData [] else outcome.NextState light.On held [])
+        | light.On ↦ outcome.NextState light.Off held []
+      ]
       | press.Renew bulb ↦ outcome.KeepState bulb []
+    ] };
+
+    ghost enters_is = { λ lamp. true };
+
+    ghost enter_is = { λ lamp old state held. elim state as (λ s. EnterOutcome Bulb Press) [
+      | light.Off ↦ enter_outcome.KeepStateAndData []
+      | light.On ↦ enter_outcome.KeepState (record { left = held.left - 1 }) (Set StateTimer (After 10000) press.Switch ∷ [])
     ] };
 
     ghost terminate_is = { λ lamp reason state held. held.left };
@@ -69,21 +87,34 @@ impl Module for Lamp {
         held: &Bulb,
     ) -> Result<Outcome<Light, Bulb, Press>, AllocError> {
         let none = Actions::new(alloc);
-        match content {
-            Press::Switch => {
-                if held.left == 0 {
-                    return Ok(Outcome::KeepStateAndData(none));
-                }
-                let other = match state {
-                    Light::Off => Light::On,
-                    Light::On => Light::Off,
-                };
-                let bulb = Bulb {
-                    left: held.left - 1,
-                };
-                Ok(Outcome::NextState(other, bulb, none))
+        match (content, state) {
+            (Press::Switch, Light::Off) if held.left == 0 => Ok(Outcome::KeepStateAndData(none)),
+            (Press::Switch, Light::Off) => Ok(Outcome::NextState(Light::On, *held, none)),
+            (Press::Switch, Light::On) => Ok(Outcome::NextState(Light::Off, *held, none)),
+            (Press::Renew(bulb), _) => Ok(Outcome::KeepState(*bulb, none)),
+        }
+    }
+
+    fn enters(&self) -> bool {
+        true
+    }
+
+    fn enter(
+        &self,
+        alloc: Global,
+        _old: Light,
+        state: Light,
+        held: &Bulb,
+    ) -> Result<EnterOutcome<Bulb, Press>, AllocError> {
+        let mut actions = EnterActions::new(alloc);
+        match state {
+            Light::Off => Ok(EnterOutcome::KeepStateAndData(actions)),
+            Light::On => {
+                let left = held.left.saturating_sub(1);
+                let off = EnterAction::Set(Timer::State, Time::After(10_000), Press::Switch);
+                actions.push(off)?;
+                Ok(EnterOutcome::KeepState(Bulb { left }, actions))
             }
-            Press::Renew(bulb) => Ok(Outcome::KeepState(*bulb, none)),
         }
     }
 
@@ -103,9 +134,13 @@ impl Module for Lamp {
 
     ghost outcome_fits = { Prim.search rules };
 
+    ghost enter_outcome_fits = { Prim.search rules };
+
     ghost init_fits = { Prim.search rules };
 
     ghost actions_fit = { Prim.search rules };
+
+    ghost enter_actions_fit = { Prim.search rules };
 
     ghost replies_fit = { Prim.search rules };
 

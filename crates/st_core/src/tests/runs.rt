@@ -77,51 +77,6 @@ fn moments_end(rt: HostRuntime) {
     tell_refusals(rt);
 }
 
-#[test]
-fn a_lamp_is_switched_until_its_bulb_is_spent(rt: HostRuntime) {
-    let switch = Told::Post(Entry::Cast, Press::Switch);
-    let told = [
-        switch,
-        switch,
-        switch,
-        Told::Post(Entry::Info, Press::Renew(Bulb { left: 6 })),
-        Told::Turn(1),
-        Told::Turn(2),
-        Told::Turn(3),
-        Told::Turn(4),
-        switch,
-    ];
-    let wanted = [
-        posted(1),
-        posted(2),
-        posted(3),
-        posted(4),
-        finished(&rt, rt.alloc(), 1, Kind::Cast, Light::Off, Light::On),
-        finished(&rt, rt.alloc(), 2, Kind::Cast, Light::On, Light::Off),
-        finished(&rt, rt.alloc(), 3, Kind::Cast, Light::Off, Light::Off),
-        finished(&rt, rt.alloc(), 4, Kind::Info, Light::Off, Light::Off),
-        posted(5),
-    ];
-    let begin = Begin {
-        module: Lamp,
-        arg: Bulb { left: 2 },
-        now: 0,
-        first: None,
-        inserted: &[],
-        set: &[],
-    };
-    let end = Seen {
-        is_ready: true,
-        state: Light::Off,
-        held: Bulb { left: 6 },
-        latest: 4,
-        waiting: 1,
-        ended: None,
-    };
-    answers_are(&rt, rt.alloc(), &begin, &told, &wanted, &end);
-    tell_refusals(rt);
-}
-
 /// Each call that takes memory, and among them those that take none: an idle turn, and a post for
 /// which no number is left.
 #[test]

@@ -99,39 +99,3 @@ fn a_callback_stops_with_a_reply(rt: HostRuntime) {
     stops_at(&rt, rt.alloc(), 17, 8);
     tell_refusals(rt);
 }
-
-#[test]
-fn a_lamp_is_taken_away(rt: HostRuntime) {
-    let told = [
-        Told::Post(Entry::Cast, Press::Switch),
-        Told::Post(Entry::Cast, Press::Switch),
-        Told::Turn(1),
-        Told::Stop(3),
-        Told::Turn(2),
-    ];
-    let wanted = [
-        posted(1),
-        posted(2),
-        finished(&rt, rt.alloc(), 1, Kind::Cast, Light::Off, Light::On),
-        stopped(5),
-        not_turned(Refusal::Stopped(3)),
-    ];
-    let begin = Begin {
-        module: Lamp,
-        arg: Bulb { left: 6 },
-        now: 0,
-        first: None,
-        inserted: &[],
-        set: &[],
-    };
-    let end = Seen {
-        is_ready: false,
-        state: Light::On,
-        held: Bulb { left: 5 },
-        latest: 1,
-        waiting: 0,
-        ended: Some((3, 5)),
-    };
-    answers_are(&rt, rt.alloc(), &begin, &told, &wanted, &end);
-    tell_refusals(rt);
-}

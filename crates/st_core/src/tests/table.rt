@@ -2,12 +2,14 @@
 ghost use Rattle.std.specs.Prelude.{◌≡◌, true, [], ◌∷◌, IfOk, refl};
 ghost use Rattle.std.proofs.Common.{rules};
 ghost use Rattle.st_events.specs.declared.action.Action.TheVariants as action;
+ghost use Rattle.st_events.specs.declared.enter_action.EnterAction.TheVariants as enter_action;
 ghost use Rattle.st_events.specs.declared.time.Time.TheVariants as time;
 ghost use Rattle.st_events.specs.declared.timer.Timer.TheVariants as timer;
-ghost use Rattle.st_core.specs.WorkedTable.{first_tag, five_actions, two_inserts, three_settings, handled_by_setting, handled_anywhere, handled_at_first, handled_by_table, begun_by_table};
+ghost use Rattle.st_core.specs.WorkedTable.{first_tag, five_actions, two_inserts, three_settings, handled_by_entering, handled_by_setting, handled_anywhere, handled_at_first, handled_by_table, enters_by_table, entering_actions, five_enter_actions, changed_by_table, entered_by_table, begun_by_table};
 
 use st_events::{
-    Action, Actions, Init, Kind, MachineId, Module, Outcome, Reason, Replies, Tag, Time, Timer,
+    Action, Actions, EnterAction, EnterActions, EnterOutcome, Init, Kind, MachineId, Module,
+    Outcome, Reason, Replies, Tag, Time, Timer,
 };
 use std::alloc::{AllocError, Global};
 
@@ -50,6 +52,11 @@ const TAG: Tag = Tag {
 /// | 29 | keeps both, and sets the event time-out for 5 |
 /// | 30 | keeps both, and sets the named timer 2 for 0, with the content 10 |
 /// | 31 | keeps both, and sets the named timer 1 for 5 and then for 7 |
+/// | 32 | repeats both |
+/// | 33 | repeats the state, with the data 9 |
+/// | 34 | leads to the state 2, with the data 9 |
+/// | 35 | leads to the state 1, is postponed, and sets the named timer 1 for 5, the state time-out for 10 and the named timer 2 for 5 |
+/// | 36 | repeats both, and is postponed |
 /// | other | keeps both |
 ///
 /// The contents of time-outs are 0, where no other is told.
@@ -66,7 +73,18 @@ const TAG: Tag = Tag {
 /// | 8 | a machine, sets the named timer 1 for 0, and inserts 20 as internal and 21 as a cast |
 /// | other | stops, and is the reason |
 ///
-/// The number tells one module from another.
+/// The number tells one module from another. From 60 on a module has enter calls.
+///
+/// | Number | Outcome of `enter` |
+/// |---|---|
+/// | 61 | keeps the data where the old state is the new one, and else gives 31 from the state 0 and 32 from another |
+/// | 62 | keeps the data, with a reply of 60, and sets the state time-out for 20 and the named timer 1 for 9 |
+/// | 63 | keeps the data, with five hibernations |
+/// | 64 | gives the data 40 where it is handed 9, and else 41 |
+/// | 70 | stops for the reason 4 |
+/// | 71 | stops for the reason 4, with a reply of 61 and the data 8, where the old state is not the new one |
+/// | 72 | stops for the reason 4 where the old state is not the new one |
+/// | other | keeps the data |
 #[derive(Clone, Copy, Debug, PartialEq, Eq)]
 pub struct Table {
     pub number: u64,
@@ -142,6 +160,34 @@ fn set(timer: Timer, milliseconds: u32) -> Action<u32>
     Action::Set(timer, Time::After(milliseconds), 0)
 }
 
+/// The event is postponed, and three timers are set.
+fn postpone_and_settings(alloc: Global) -> Result<Actions<u32>, AllocError>
+    ensures { IfOk result (λ actions. actions ≡ action.Postpone true ∷ action.Set (timer.Named 1) (time.After 5) 0 ∷ action.Set timer.State (time.After 10) 0 ∷ action.Set (timer.Named 2) (time.After 5) 0 ∷ []) }
+{
+    let mut actions = two(alloc, Action::Postpone(true), set(Timer::Named(1), 5))?;
+    actions.push(set(Timer::State, 10))?;
+    actions.push(set(Timer::Named(2), 5))?;
+    Ok(actions)
+}
+
+/// What `handle` answers to the contents that have a state entered.
+fn handle_entering(
+    alloc: Global,
+    content: u32,
+    held: u32,
+) -> Result<Outcome<u32, u32, u32>, AllocError>
+    ensures { IfOk result (λ outcome. outcome ≡ handled_by_entering content held) }
+{
+    match content {
+        32 => Ok(Outcome::RepeatStateAndData(Actions::new(alloc))),
+        33 => Ok(Outcome::RepeatState(9, Actions::new(alloc))),
+        34 => Ok(Outcome::NextState(2, 9, Actions::new(alloc))),
+        35 => Ok(Outcome::NextState(1, held, postpone_and_settings(alloc)?)),
+        36 => Ok(Outcome::RepeatStateAndData(one(alloc, Action::Postpone(true))?)),
+        _ => Ok(Outcome::KeepStateAndData(Actions::new(alloc))),
+    }
+}
+
 /// What `handle` answers to the contents that set timers.
 fn handle_setting(
     alloc: Global,
@@ -168,7 +214,7 @@ fn handle_setting(
         29 => one(alloc, set(Timer::Event, 5))?,
         30 => one(alloc, Action::Set(Timer::Named(2), Time::After(0), 10))?,
         31 => two(alloc, set(Timer::Named(1), 5), set(Timer::Named(1), 7))?,
-        _ => Actions::new(alloc),
+        _ => return handle_entering(alloc, content, held),
     };
     Ok(Outcome::KeepStateAndData(actions))
 }
@@ -245,6 +291,59 @@ fn handle_at_first(
     }
 }
 
+/// The actions of the module 62's enter call.
+fn entering(alloc: Global) -> Result<EnterActions<u32>, AllocError>
+    ensures { IfOk result (λ actions. actions ≡ entering_actions) }
+{
+    let mut actions = EnterActions::new(alloc);
+    actions.push(EnterAction::Reply(TAG, 60))?;
+    actions.push(EnterAction::Set(Timer::State, Time::After(20), 0))?;
+    actions.push(EnterAction::Set(Timer::Named(1), Time::After(9), 0))?;
+    Ok(actions)
+}
+
+/// Five hibernations of an enter call.
+fn five_entering(alloc: Global) -> Result<EnterActions<u32>, AllocError>
+    ensures { IfOk result (λ actions. actions ≡ five_enter_actions) }
+{
+    let mut actions = EnterActions::new(alloc);
+    actions.push(EnterAction::Hibernate)?;
+    actions.push(EnterAction::Hibernate)?;
+    actions.push(EnterAction::Hibernate)?;
+    actions.push(EnterAction::Hibernate)?;
+    actions.push(EnterAction::Hibernate)?;
+    Ok(actions)
+}
+
+/// The one reply of the module 71's enter call.
+fn entering_reply(alloc: Global) -> Result<Replies<u32>, AllocError>
+    ensures { IfOk result (λ replies. replies ≡ (first_tag, 61) ∷ []) }
+{
+    let mut replies = Replies::new(alloc);
+    replies.push((TAG, 61))?;
+    Ok(replies)
+}
+
+/// What `enter` answers where a state is come to from another.
+fn enter_changed(
+    alloc: Global,
+    number: u64,
+    old: u32,
+    held: u32,
+) -> Result<EnterOutcome<u32, u32>, AllocError>
+    ensures { IfOk result (λ outcome. outcome ≡ changed_by_table number old held) }
+{
+    match number {
+        61 => {
+            let data = if old == 0 { 31 } else { 32 };
+            Ok(EnterOutcome::KeepState(data, EnterActions::new(alloc)))
+        }
+        71 => Ok(EnterOutcome::StopAndReply(4, entering_reply(alloc)?, Some(8))),
+        72 => Ok(EnterOutcome::Stop(4, None)),
+        _ => Ok(EnterOutcome::KeepStateAndData(EnterActions::new(alloc))),
+    }
+}
+
 impl Module for Table {
     type State = u32;
 
@@ -257,6 +356,10 @@ impl Module for Table {
     ghost init_is = { λ table arg. begun_by_table arg };
 
     ghost handle_is = { λ table kind content state held. handled_by_table content state held };
+
+    ghost enters_is = { λ table. enters_by_table table.number };
+
+    ghost enter_is = { λ table old state held. entered_by_table table.number old state held };
 
     ghost terminate_is = { λ table reason state held. held };
 
@@ -292,6 +395,35 @@ impl Module for Table {
         }
     }
 
+    fn enters(&self) -> bool {
+        self.number >= 60
+    }
+
+    fn enter(
+        &self,
+        alloc: Global,
+        old: u32,
+        state: u32,
+        held: &u32,
+    ) -> Result<EnterOutcome<u32, u32>, AllocError> {
+        match self.number {
+            62 => Ok(EnterOutcome::KeepStateAndData(entering(alloc)?)),
+            63 => Ok(EnterOutcome::KeepStateAndData(five_entering(alloc)?)),
+            64 => {
+                let data = if *held == 9 { 40 } else { 41 };
+                Ok(EnterOutcome::KeepState(data, EnterActions::new(alloc)))
+            }
+            70 => Ok(EnterOutcome::Stop(4, None)),
+            number => {
+                if old == state {
+                    Ok(EnterOutcome::KeepStateAndData(EnterActions::new(alloc)))
+                } else {
+                    enter_changed(alloc, number, old, *held)
+                }
+            }
+        }
+    }
+
     fn terminate(&self, _reason: Reason, _state: u32, held: &u32) -> u32 {
         *held
     }
@@ -308,9 +440,13 @@ impl Module for Table {
 
     ghost outcome_fits = { Prim.search rules };
 
+    ghost enter_outcome_fits = { Prim.search rules };
+
     ghost init_fits = { Prim.search rules };
 
     ghost actions_fit = { Prim.search rules };
+
+    ghost enter_actions_fit = { Prim.search rules };
 
     ghost replies_fit = { Prim.search rules };
 

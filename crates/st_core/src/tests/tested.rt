@@ -96,7 +96,9 @@ where
     pub fn new(rt: &impl Abort, alloc: Global, begin: &Begin<M, M::Arg>) -> Tested<M> {
         match start(rt, alloc, begin) {
             Ok(Start::Running(core, report)) => {
-                let wanted = started(rt, alloc, core.state(), begin.inserted, begin.set);
+                let state = core.state();
+                let is_entered = begin.module.enters();
+                let wanted = started(rt, alloc, is_entered, state, begin.inserted, begin.set);
                 same_report(rt, &report, &wanted);
                 assert_eq!(rt; core.is_ready(), !begin.inserted.is_empty());
                 assert_eq!(rt; core.waiting(), begin.inserted.len());

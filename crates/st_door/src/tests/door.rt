@@ -3,12 +3,18 @@
 use super::calls::digits;
 use super::tell_refusals;
 use crate::{Door, DoorContent, DoorData, DoorState};
-use st_events::{Action, Init, Kind, MachineId, Module, Outcome, Reason, Tag, Time, Timer};
+use st_events::{
+    Action, EnterAction, EnterOutcome, Init, Kind, MachineId, Module, Outcome, Reason, Tag, Time,
+    Timer,
+};
 use std::alloc::{AllocError, Global};
 use std::process::Abort;
 
 /// What a callback answers to an event.
 type Handled<M> = Outcome<<M as Module>::State, <M as Module>::Data, <M as Module>::Content>;
+
+/// What a callback answers where a state is entered.
+type Entered<M> = EnterOutcome<<M as Module>::Data, <M as Module>::Content>;
 
 /// What a callback answers to a start.
 type Started<M> = Init<<M as Module>::State, <M as Module>::Data, <M as Module>::Content>;
@@ -32,6 +38,25 @@ fn handled<M: Module>(
 ) -> Result<Handled<M>, AllocError> {
     match module.handle(alloc, kind, content, state, held) {
         Err(AllocError) => module.handle(alloc, kind, content, state, held),
+        answer => answer,
+    }
+}
+
+/// Whether there are enter calls.
+fn has_enter_calls<M: Module>(module: &M) -> bool {
+    module.enters()
+}
+
+/// The answer where a state is entered. A call that finds no memory is made again.
+fn entered<M: Module>(
+    alloc: Global,
+    module: &M,
+    old: M::State,
+    state: M::State,
+    held: &M::Data,
+) -> Result<Entered<M>, AllocError> {
+    match module.enter(alloc, old, state, held) {
+        Err(AllocError) => module.enter(alloc, old, state, held),
         answer => answer,
     }
 }
@@ -87,6 +112,18 @@ fn answer(
 ) -> Handled<Door> {
     let held = data_with(rt, alloc, buttons);
     handled(alloc, &Door, kind, &content, state, &held).expect(rt, "memory")
+}
+
+/// What a door answers where a state is entered, with these buttons pressed.
+fn enters(
+    rt: &impl Abort,
+    alloc: Global,
+    old: DoorState,
+    state: DoorState,
+    buttons: &[u8],
+) -> Entered<Door> {
+    let held = data_with(rt, alloc, buttons);
+    entered(alloc, &Door, old, state, &held).expect(rt, "memory")
 }
 
 /// Sees that an outcome is a transition to a state, with these buttons and so many actions.
@@ -180,7 +217,7 @@ fn a_button_counts_for_30000_milliseconds_while_the_door_is_locked(rt: HostRunti
 }
 
 #[test]
-fn the_code_opens_the_door_for_10000_milliseconds(rt: HostRuntime) {
+fn the_last_digit_of_the_code_opens_the_door(rt: HostRuntime) {
     for before in [[1].as_slice(), [3, 1].as_slice()] {
         let button = DoorContent::Button(2);
         let outcome = answer(
@@ -191,8 +228,7 @@ fn the_code_opens_the_door_for_10000_milliseconds(rt: HostRuntime) {
             DoorState::Locked,
             before,
         );
-        goes_to(&rt, &outcome, DoorState::Open, &[], 1);
-        sets(&rt, &outcome, Timer::State, 10_000);
+        goes_to(&rt, &outcome, DoorState::Open, &[], 0);
     }
     tell_refusals(rt);
 }
@@ -209,9 +245,9 @@ fn a_button_of_an_open_door_is_postponed(rt: HostRuntime) {
 
 #[test]
 fn a_timeout_locks_the_door_or_forgets_its_buttons(rt: HostRuntime) {
-    for (timer, state) in [
-        (Timer::Event, DoorState::Locked),
-        (Timer::State, DoorState::Open),
+    for (timer, state, after) in [
+        (Timer::Event, DoorState::Locked, [].as_slice()),
+        (Timer::State, DoorState::Open, [1].as_slice()),
     ] {
         let outcome = answer(
             &rt,
@@ -221,7 +257,7 @@ fn a_timeout_locks_the_door_or_forgets_its_buttons(rt: HostRuntime) {
             state,
             &[1],
         );
-        goes_to(&rt, &outcome, DoorState::Locked, &[], 0);
+        goes_to(&rt, &outcome, DoorState::Locked, after, 0);
     }
     for (timer, state) in [
         (Timer::Event, DoorState::Open),
@@ -239,6 +275,41 @@ fn a_timeout_locks_the_door_or_forgets_its_buttons(rt: HostRuntime) {
         );
         stays(&rt, &outcome);
     }
+    tell_refusals(rt);
+}
+
+#[test]
+fn a_locked_door_is_entered_with_no_button(rt: HostRuntime) {
+    assert!(rt; has_enter_calls(&Door));
+    for (old, buttons) in [
+        (DoorState::Locked, [].as_slice()),
+        (DoorState::Open, [].as_slice()),
+        (DoorState::Open, [2, 1].as_slice()),
+    ] {
+        let outcome = enters(&rt, rt.alloc(), old, DoorState::Locked, buttons);
+        let EnterOutcome::KeepState(held, actions) = outcome else {
+            panic!(rt; "the data stays");
+        };
+        assert_eq!(rt; held.code.as_slice(), CODE);
+        assert_eq!(rt; held.buttons.len(), 0);
+        assert!(rt; actions.is_empty());
+    }
+    tell_refusals(rt);
+}
+
+#[test]
+fn an_open_door_is_entered_for_10000_milliseconds(rt: HostRuntime) {
+    let outcome = enters(&rt, rt.alloc(), DoorState::Locked, DoorState::Open, &[]);
+    let EnterOutcome::KeepStateAndData(actions) = outcome else {
+        panic!(rt; "the data may change");
+    };
+    assert_eq!(rt; actions.len(), 1);
+    let Some(EnterAction::Set(timer, time, content)) = actions.get(0) else {
+        panic!(rt; "no timer is set");
+    };
+    assert_eq!(rt; *timer, Timer::State);
+    assert_eq!(rt; *time, Time::After(10_000));
+    assert_eq!(rt; *content, DoorContent::Nothing);
     tell_refusals(rt);
 }
 

@@ -81,6 +81,38 @@ fn an_open_door_is_locked_after_10000_milliseconds(rt: HostRuntime) {
 }
 
 #[test]
+fn a_door_that_locked_itself_has_no_button(rt: HostRuntime) {
+    prints(
+        &rt,
+        rt.alloc(),
+        b"new a 12\n\
+          new b 12\n\
+          button a 1\n\
+          button a 2\n\
+          button b 1\n\
+          button b 2\n\
+          at 10000\n\
+          show a\n\
+          stop a 7\n\
+          button b 1\n\
+          stop b 7\n",
+        "a locked buttons 0 waiting 0\n\
+         b locked buttons 0 waiting 0\n\
+         a locked buttons 1 waiting 0\n\
+         a open buttons 0 waiting 0\n\
+         b locked buttons 1 waiting 0\n\
+         b open buttons 0 waiting 0\n\
+         at 10000 expired 2\n\
+         a locked buttons 0 waiting 0\n\
+         a stopped 7 word 0\n\
+         b locked buttons 1 waiting 0\n\
+         b stopped 7 word 1\n",
+        0,
+    );
+    tell_refusals(rt);
+}
+
+#[test]
 fn a_button_that_waited_may_open_the_door_again(rt: HostRuntime) {
     prints(
         &rt,

@@ -24,6 +24,22 @@ fn the_code_opens_the_door(rt: HostRuntime) {
 }
 
 #[test]
+fn only_the_last_digit_opens_the_door(rt: HostRuntime) {
+    prints(
+        &rt,
+        rt.alloc(),
+        b"new a 1234\nbutton a 1\nbutton a 2\nbutton a 3\nbutton a 4\n",
+        "a locked buttons 0 waiting 0\n\
+         a locked buttons 1 waiting 0\n\
+         a locked buttons 2 waiting 0\n\
+         a locked buttons 3 waiting 0\n\
+         a open buttons 0 waiting 0\n",
+        0,
+    );
+    tell_refusals(rt);
+}
+
+#[test]
 fn the_last_buttons_count(rt: HostRuntime) {
     prints(
         &rt,

@@ -1,60 +1,21 @@
-use Rattle.std.proofs.Common.{◌≡◌, ◌≤◌, ◌+◌, ◌^◌, true, length, refl, ap, arith}
-use Rattle.st_actions.specs.Plan.{inserts_of, requests_of}
-use Rattle.st_agenda.specs.Agenda.{Agenda, Schedule}
-use Rattle.st_agenda.specs.Items.{numbered, numbers_of}
-use Rattle.st_agenda.specs.Timing.{numbers_taken}
-use Rattle.st_core.specs.Start.{first_state}
-use Rattle.st_core.specs.Transition.{has_numbers, times_of}
-use Rattle.st_core.proofs.StartLemmas.{started_is, started_refused}
-use Rattle.st_core.proofs.TransitionLemmas.{enough_for_inserts, enough_for_all}
+use Rattle.std.proofs.Common.{sym}
+use Rattle.st_core.specs.Callbacks.{begun_with}
 use Rattle.st_core.proofs.engine.Core.begin.Goals as goal
 
--- the machine runs
+pub run_from-requires-send-M-State : goal.run_from-requires-send-M-State
+run_from-requires-send-M-State g c κs within = c.type_bounds.send-M-State
+
+pub run_from-requires-send-M-Data : goal.run_from-requires-send-M-Data
+run_from-requires-send-M-Data g c κs within = c.type_bounds.send-M-Data
+
+pub run_from-requires-send-M-Content : goal.run_from-requires-send-M-Content
+run_from-requires-send-M-Content g c κs within = c.type_bounds.send-M-Content
+
+pub run_from-requires-send-M-Arg : goal.run_from-requires-send-M-Arg
+run_from-requires-send-M-Arg g c κs within = c.type_bounds.send-M-Arg
+
+-- it is what `init` alone comes to
 pub returns : goal.returns
-returns g c =
-    let machine = first_state c.args.id c.args.state c.args.data c.args.now c.args.first in
-    let planned = c.in-Ok.ensures.planned in
-    let next : c.new-agenda.result.schedule.next ≡ c.args.first = ap (λ (a : Agenda _). a.schedule.next) c.new-agenda.ensures in
-    let enough : has_numbers machine c.args.actions ≡ true = rw (next, planned) at c.in-Ok-prepare.ensures.numbers in
-    let inserted : c.in-Ok-prepare.prepared.inserted ≡ numbers_of (numbered c.args.first (inserts_of c.args.actions)) =
-    rw (next, planned) at c.in-Ok-prepare.ensures.inserted in
-    let set : c.in-Ok-prepare.prepared.set ≡ times_of (requests_of c.args.actions) = rw planned at c.in-Ok-prepare.ensures.set in
-    record {
-      start = started_is _ c.args.module machine c.args.actions enough
-          (rw (c.set_all.ensures, c.insert.ensures, c.prepare.ensures.same_schedule, c.new-agenda.ensures, planned) refl)
-          (rw (c.start_report.ensures, inserted, set) refl);
-    }
-
--- numbers or memory are wanting
-pub returns-in-Err : goal.returns-in-Err
-returns-in-Err g c =
-    let machine = first_state c.args.id c.args.state c.args.data c.args.now c.args.first in
-    let next : c.new-agenda.result.schedule.next ≡ c.args.first = ap (λ (a : Agenda _). a.schedule.next) c.new-agenda.ensures in
-    record {
-      start = started_refused _ c.args.module machine c.args.actions c.in-Err.refusal (rw (next, c.in-Ok.ensures.planned) at c.in-Err.ensures.refusals)
-          (rw c.refused-in-Err.ensures refl);
-    }
-
-pub insert-requires : goal.insert-requires
-insert-requires g c =
-    let next : c.prepare.new.agenda.schedule.next ≡ c.new-agenda.result.schedule.next = ap (λ (s : Schedule _). s.next) c.prepare.ensures.same_schedule in
-    let enough = enough_for_inserts c.new-agenda.result.schedule.next (length c.in-Ok.planned.inserts) (numbers_taken c.in-Ok.planned.requests) c.in-Ok-prepare.ensures.numbers in
-    let room : length c.in-Ok.planned.inserts ≤ c.prepare.new.agenda.staged = omega (arith, c.in-Ok-prepare.ensures.staged) in
-    let numbers : c.prepare.new.agenda.schedule.next + length c.in-Ok.planned.inserts ≤ 2 ^ 63 = omega (arith, next, enough) in
-    (g.met.M.Module.inserts_fit, (room, numbers))
-
-pub set_all-requires : goal.set_all-requires
-set_all-requires g c =
-    let next : c.prepare.new.agenda.schedule.next ≡ c.new-agenda.result.schedule.next = ap (λ (s : Schedule _). s.next) c.prepare.ensures.same_schedule in
-    let enough = enough_for_all c.new-agenda.result.schedule.next (length c.in-Ok.planned.inserts) (numbers_taken c.in-Ok.planned.requests) c.in-Ok-prepare.ensures.numbers in
-    let more : c.insert.new.self.schedule.next ≡ c.prepare.new.agenda.schedule.next + length c.in-Ok.planned.inserts =
-    ap (λ (a : Agenda _). a.schedule.next) c.insert.ensures in
-    let kept : c.insert.new.self.room ≡ c.prepare.new.agenda.room = ap (λ (a : Agenda _). a.room) c.insert.ensures in
-    let room : length c.in-Ok.planned.requests ≤ c.insert.new.self.room = omega (arith, kept, c.in-Ok-prepare.ensures.room) in
-    let numbers : c.insert.new.self.schedule.next + numbers_taken c.in-Ok.planned.requests ≤ 2 ^ 63 = omega (arith, next, more, enough) in
-    let fits = g.met.M.Module.settings_fit in
-    (fits, (fits, (c.requires.moment, (room, numbers))))
-
--- the requests are dropped
-pub array_drop-planned-requires-in-Err-2 : goal.array_drop-planned-requires-in-Err-2
-array_drop-planned-requires-in-Err-2 g c = omega (arith, g.met.M.Module.settings_fit)
+returns g c = record {
+  start = c.run_from.ensures.start (begun_with c.args.state c.args.data c.args.actions) (sym c.new-calls.ensures) (sym c.in-Ok.ensures.planned);
+}

@@ -1,37 +1,99 @@
-use Rattle.std.proofs.Common.{◌≡◌, ◌<◌, ◌^◌, Some, sym, ◌∙◌, arith}
+use Rattle.std.proofs.Common.{◌≡◌, ◌<◌, ◌^◌, true, false, None, Some, refl, ap, sym, ◌∙◌, arith}
 use Rattle.std.specs.Option.{option_map}
 use Rattle.st_agenda.specs.Agenda.{name_of_event}
+use Rattle.st_events.specs.declared.event.Event.{Event}
+use Rattle.st_core.specs.Callbacks.{callbacks_of, outcome_of, handled_with, entered_by, is_entered}
 use Rattle.st_core.specs.Choice.{next_event_of}
-use Rattle.st_core.proofs.TransitionLemmas.{number_named}
+use Rattle.st_core.specs.Run.{turn_takes_memory, turn_without_memory}
+use Rattle.st_core.proofs.TransitionLemmas.{number_named, event_is, turn_concludes, turn_enters, meets_same}
 use Rattle.st_core.proofs.engine.Core.turn.Goals as goal
 
-pub go_on-requires-send-M-State : goal.go_on-requires-send-M-State
-go_on-requires-send-M-State g c κs le = c.type_bounds.send-M-State
+pub is_entered-requires-send-M-State : goal.is_entered-requires-send-M-State
+is_entered-requires-send-M-State g c κs within = c.type_bounds.send-M-State
 
-pub go_on-requires-send-M-Data : goal.go_on-requires-send-M-Data
-go_on-requires-send-M-Data g c κs le = c.type_bounds.send-M-Data
+pub is_entered-requires-send-M-Data : goal.is_entered-requires-send-M-Data
+is_entered-requires-send-M-Data g c κs within = c.type_bounds.send-M-Data
 
-pub go_on-requires-send-M-Content : goal.go_on-requires-send-M-Content
-go_on-requires-send-M-Content g c κs le = c.type_bounds.send-M-Content
+pub is_entered-requires-send-M-Content : goal.is_entered-requires-send-M-Content
+is_entered-requires-send-M-Content g c κs within = c.type_bounds.send-M-Content
 
-pub go_on-requires-send-M-Arg : goal.go_on-requires-send-M-Arg
-go_on-requires-send-M-Arg g c κs le = c.type_bounds.send-M-Arg
+pub is_entered-requires-send-M-Arg : goal.is_entered-requires-send-M-Arg
+is_entered-requires-send-M-Arg g c κs within = c.type_bounds.send-M-Arg
 
-pub stop_at-requires-send-M-State : goal.stop_at-requires-send-M-State
-stop_at-requires-send-M-State g c κs le = c.type_bounds.send-M-State
+pub enter-requires-send-M-State : goal.enter-requires-send-M-State
+enter-requires-send-M-State g c κs within = c.type_bounds.send-M-State
 
-pub stop_at-requires-send-M-Data : goal.stop_at-requires-send-M-Data
-stop_at-requires-send-M-Data g c κs le = c.type_bounds.send-M-Data
+pub enter-requires-send-M-Data : goal.enter-requires-send-M-Data
+enter-requires-send-M-Data g c κs within = c.type_bounds.send-M-Data
 
-pub stop_at-requires-send-M-Content : goal.stop_at-requires-send-M-Content
-stop_at-requires-send-M-Content g c κs le = c.type_bounds.send-M-Content
+pub enter-requires-send-M-Content : goal.enter-requires-send-M-Content
+enter-requires-send-M-Content g c κs within = c.type_bounds.send-M-Content
 
-pub stop_at-requires-send-M-Arg : goal.stop_at-requires-send-M-Arg
-stop_at-requires-send-M-Arg g c κs le = c.type_bounds.send-M-Arg
+pub enter-requires-send-M-Arg : goal.enter-requires-send-M-Arg
+enter-requires-send-M-Arg g c κs within = c.type_bounds.send-M-Arg
 
-pub go_on-requires-after_bounds : goal.go_on-requires-after_bounds
-go_on-requires-after_bounds g c κs le =
+pub conclude-requires-send-M-State : goal.conclude-requires-send-M-State
+conclude-requires-send-M-State g c κs within = c.type_bounds.send-M-State
+
+pub conclude-requires-send-M-Data : goal.conclude-requires-send-M-Data
+conclude-requires-send-M-Data g c κs within = c.type_bounds.send-M-Data
+
+pub conclude-requires-send-M-Content : goal.conclude-requires-send-M-Content
+conclude-requires-send-M-Content g c κs within = c.type_bounds.send-M-Content
+
+pub conclude-requires-send-M-Arg : goal.conclude-requires-send-M-Arg
+conclude-requires-send-M-Arg g c κs within = c.type_bounds.send-M-Arg
+
+pub enter-requires-after_bounds : goal.enter-requires-after_bounds
+enter-requires-after_bounds g c κs within =
     let early : c.args.now < 2 ^ 63 = omega (arith, c.if-now-ge-LIMIT.false) in
     let next = next_event_of c.args.self.now.machine in
     let named : option_map name_of_event next ≡ Some (c.in-Some-next_event.number, c.in-Some-next_event.kind) = rw (← c.self.view_is) (sym c.next_event.ensures ∙ c.in-Some-next_event.is) in
     (g.met.M.Module.outcome_fits, (early, number_named next (c.in-Some-next_event.number, c.in-Some-next_event.kind) named))
+
+pub conclude-requires-after_bounds : goal.conclude-requires-after_bounds
+conclude-requires-after_bounds g c κs within =
+    let early : c.args.now < 2 ^ 63 = omega (arith, c.if-now-ge-LIMIT.false) in
+    let next = next_event_of c.args.self.now.machine in
+    let named : option_map name_of_event next ≡ Some (c.in-Some-next_event.number, c.in-Some-next_event.kind) = rw (← c.self.view_is) (sym c.next_event.ensures ∙ c.in-Some-next_event.is) in
+    (g.met.M.Module.outcome_fits, (early, number_named next (c.in-Some-next_event.number, c.in-Some-next_event.kind) named))
+
+-- with an enter call
+pub returns-then-is_entered-clause-step : goal.returns-then-is_entered-clause-step
+returns-then-is_entered-clause-step g c =
+    let callbacks = callbacks_of g.M.Module g.M.State.PartialEq.eq c.args.self.now.module_ in
+    let machine = c.args.self.now.machine in
+    let next = next_event_of machine in
+    let event : Event _ = record { number = c.in-Some-next_event.number; kind = c.in-Some-next_event.kind; content = c.in-Some-next_content.content.now } in
+    let ended : machine.ended ≡ None = rw (← c.self.view_is) c.in_default.is in
+    let early : c.args.now < 2 ^ 63 = omega (arith, c.if-now-ge-LIMIT.false) in
+    let named : option_map name_of_event next ≡ Some (c.in-Some-next_event.number, c.in-Some-next_event.kind) = rw (← c.self.view_is) (sym c.next_event.ensures ∙ c.in-Some-next_event.is) in
+    let content : option_map (λ (e : Event _). e.content) next ≡ Some c.in-Some-next_content.content.now =
+    rw (← c.self.view_is) (sym c.next_content.ensures ∙ rw c.in-Some-next_content.is refl) in
+    let there = event_is next (c.in-Some-next_event.number, c.in-Some-next_event.kind) c.in-Some-next_content.content.now named content in
+    let answered : c.in-Ok.outcome ≡ outcome_of callbacks machine event = rw (c.in-Ok.ensures, ← c.self.view_is) refl in
+    let call : is_entered callbacks machine.state (outcome_of callbacks machine event) ≡ true =
+    rw (← answered) (rw (← c.self.view_is) (sym c.is_entered.ensures ∙ c.if-is_entered.true)) in
+    meets_same turn_takes_memory turn_without_memory _ _ _ (turn_enters callbacks machine c.args.now event ended early there call)
+    (c.enter.ensures.step (entered_by callbacks machine.state (handled_with callbacks.same_state event.number event.kind machine.state machine.data (outcome_of callbacks machine event)))
+    (ap (λ outcome. entered_by callbacks machine.state (handled_with callbacks.same_state event.number event.kind machine.state machine.data outcome)) (sym answered)))
+
+-- with none
+pub returns-else-is_entered-clause-step : goal.returns-else-is_entered-clause-step
+returns-else-is_entered-clause-step g c =
+    let callbacks = callbacks_of g.M.Module g.M.State.PartialEq.eq c.args.self.now.module_ in
+    let machine = c.args.self.now.machine in
+    let next = next_event_of machine in
+    let event : Event _ = record { number = c.in-Some-next_event.number; kind = c.in-Some-next_event.kind; content = c.in-Some-next_content.content.now } in
+    let ended : machine.ended ≡ None = rw (← c.self.view_is) c.in_default.is in
+    let early : c.args.now < 2 ^ 63 = omega (arith, c.if-now-ge-LIMIT.false) in
+    let named : option_map name_of_event next ≡ Some (c.in-Some-next_event.number, c.in-Some-next_event.kind) = rw (← c.self.view_is) (sym c.next_event.ensures ∙ c.in-Some-next_event.is) in
+    let content : option_map (λ (e : Event _). e.content) next ≡ Some c.in-Some-next_content.content.now =
+    rw (← c.self.view_is) (sym c.next_content.ensures ∙ rw c.in-Some-next_content.is refl) in
+    let there = event_is next (c.in-Some-next_event.number, c.in-Some-next_event.kind) c.in-Some-next_content.content.now named content in
+    let answered : c.in-Ok.outcome ≡ outcome_of callbacks machine event = rw (c.in-Ok.ensures, ← c.self.view_is) refl in
+    let none : is_entered callbacks machine.state (outcome_of callbacks machine event) ≡ false =
+    rw (← answered) (rw (← c.self.view_is) (sym c.is_entered.ensures ∙ c.if-is_entered.false)) in
+    meets_same turn_takes_memory turn_without_memory _ _ _ (turn_concludes callbacks machine c.args.now event ended early there none)
+    (c.conclude.ensures.step (handled_with callbacks.same_state event.number event.kind machine.state machine.data (outcome_of callbacks machine event))
+    (ap (λ outcome. handled_with callbacks.same_state event.number event.kind machine.state machine.data outcome) (sym answered)))

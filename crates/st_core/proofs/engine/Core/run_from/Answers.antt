@@ -1,0 +1,62 @@
+use Rattle.std.proofs.Common.{◌≡◌, ◌≤◌, ◌+◌, ◌^◌, true, length, refl, ap, sym, arith}
+use Rattle.st_actions.specs.Plan.{inserts_of, requests_of}
+use Rattle.st_agenda.specs.Agenda.{Agenda, Schedule}
+use Rattle.st_agenda.specs.Items.{numbered, numbers_of}
+use Rattle.st_agenda.specs.Timing.{numbers_taken}
+use Rattle.st_core.specs.Start.{first_state}
+use Rattle.st_core.specs.Transition.{has_numbers, times_of}
+use Rattle.st_core.proofs.StartLemmas.{started_is, started_refused}
+use Rattle.st_core.proofs.TransitionLemmas.{enough_for_inserts, enough_for_all}
+use Rattle.st_core.proofs.engine.Core.run_from.Goals as goal
+
+-- the machine runs
+pub returns : goal.returns
+returns g c =
+    record {
+      start = λ called same_calls same_plan.
+          let machine = first_state c.args.id c.args.state c.args.data c.args.now c.args.first in
+          let planned = sym same_plan in
+          let next : c.new-agenda.result.schedule.next ≡ c.args.first = ap (λ (a : Agenda _). a.schedule.next) c.new-agenda.ensures in
+          let enough : has_numbers machine called.actions ≡ true = rw (next, planned) at c.in-Ok.ensures.numbers in
+          let inserted : c.in-Ok.prepared.inserted ≡ numbers_of (numbered c.args.first (inserts_of called.actions)) =
+          rw (next, planned) at c.in-Ok.ensures.inserted in
+          let set : c.in-Ok.prepared.set ≡ times_of (requests_of called.actions) = rw planned at c.in-Ok.ensures.set in
+          started_is _ c.args.module machine called enough
+          (rw (c.set_all.ensures, c.insert.ensures, c.prepare.ensures.same_schedule, c.new-agenda.ensures, planned) refl)
+          (rw (c.new.ensures, inserted, set, same_calls) refl);
+    }
+
+-- numbers or memory are wanting
+pub returns-in-Err : goal.returns-in-Err
+returns-in-Err g c =
+    record {
+      start = λ called same_calls same_plan.
+          let machine = first_state c.args.id c.args.state c.args.data c.args.now c.args.first in
+          let next : c.new-agenda.result.schedule.next ≡ c.args.first = ap (λ (a : Agenda _). a.schedule.next) c.new-agenda.ensures in
+          started_refused _ c.args.module machine called c.in-Err.refusal (rw (next, sym same_plan) at c.in-Err.ensures.refusals)
+          (rw c.refused.ensures refl);
+    }
+
+pub insert-requires : goal.insert-requires
+insert-requires g c =
+    let next : c.prepare.new.agenda.schedule.next ≡ c.new-agenda.result.schedule.next = ap (λ (s : Schedule _). s.next) c.prepare.ensures.same_schedule in
+    let enough = enough_for_inserts c.new-agenda.result.schedule.next (length c.args.planned.inserts) (numbers_taken c.args.planned.requests) c.in-Ok.ensures.numbers in
+    let room : length c.args.planned.inserts ≤ c.prepare.new.agenda.staged = omega (arith, c.in-Ok.ensures.staged) in
+    let numbers : c.prepare.new.agenda.schedule.next + length c.args.planned.inserts ≤ 2 ^ 63 = omega (arith, next, enough) in
+    (g.met.M.Module.inserts_fit, (room, numbers))
+
+pub set_all-requires : goal.set_all-requires
+set_all-requires g c =
+    let next : c.prepare.new.agenda.schedule.next ≡ c.new-agenda.result.schedule.next = ap (λ (s : Schedule _). s.next) c.prepare.ensures.same_schedule in
+    let enough = enough_for_all c.new-agenda.result.schedule.next (length c.args.planned.inserts) (numbers_taken c.args.planned.requests) c.in-Ok.ensures.numbers in
+    let more : c.insert.new.self.schedule.next ≡ c.prepare.new.agenda.schedule.next + length c.args.planned.inserts =
+    ap (λ (a : Agenda _). a.schedule.next) c.insert.ensures in
+    let kept : c.insert.new.self.room ≡ c.prepare.new.agenda.room = ap (λ (a : Agenda _). a.room) c.insert.ensures in
+    let room : length c.args.planned.requests ≤ c.insert.new.self.room = omega (arith, kept, c.in-Ok.ensures.room) in
+    let numbers : c.insert.new.self.schedule.next + numbers_taken c.args.planned.requests ≤ 2 ^ 63 = omega (arith, next, more, enough) in
+    let fits = g.met.M.Module.settings_fit in
+    (fits, (fits, (c.requires.moment, (room, numbers))))
+
+-- the requests are dropped
+pub array_drop-planned-requires-in-Err-2 : goal.array_drop-planned-requires-in-Err-2
+array_drop-planned-requires-in-Err-2 g c = omega (arith, g.met.M.Module.settings_fit)
