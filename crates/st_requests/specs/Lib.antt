@@ -1,0 +1,2 @@
+-- What the requests to a machine are.
+pub mod Requests

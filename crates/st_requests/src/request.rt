@@ -1,0 +1,68 @@
+//! A request as it is kept.
+ghost use Rattle.std.specs.Prelude.{◌≡◌, Some, option_copied};
+ghost use Rattle.st_requests.specs.Requests.{is_waiting, reply_of, answered, collected_of, closed};
+
+use crate::{Collected, Held};
+use st_events::{Reason, Tag};
+
+/// A request: its tag, and what stands for it.
+///
+/// Manual: `from()`.
+#[derive(Debug, Drop)]
+pub struct Request<C> {
+    pub tag: Tag,
+    pub held: Held<C>,
+}
+
+impl<C> Request<C> {
+    /// Says whether it is open.
+    pub(crate) fn is_open(&self) -> bool
+        ensures { result ≡ is_waiting self.now.held }
+    {
+        matches!(self.held, Held::Open)
+    }
+
+    /// The reply, where one is kept.
+    pub(crate) fn reply(&self) -> Option<&C>
+        ensures { option_copied result ≡ reply_of (Some self.now.held) }
+    {
+        match &self.held {
+            Held::Reply(content) => Some(content),
+            Held::Open | Held::Stopped(_) => None,
+        }
+    }
+
+    /// What is collected of it.
+    pub(crate) fn into_collected(self) -> Collected<C>
+        ensures { result ≡ collected_of (Some self.held) }
+    {
+        match self.held {
+            Held::Open => Collected::Waiting,
+            Held::Reply(content) => Collected::Reply(content),
+            Held::Stopped(reason) => Collected::Stopped(reason),
+        }
+    }
+}
+
+impl<C: Drop> Request<C> {
+    /// Answers it, where it is open, and says whether it was.
+    pub(crate) fn answer(&mut self, content: C) -> bool
+        ensures was_open { result ≡ is_waiting self.old.held }
+        ensures answered { self.new ≡ record self.old { held = answered content self.old.held } }
+    {
+        let is_open = self.is_open();
+        if is_open {
+            self.held = Held::Reply(content);
+        }
+        is_open
+    }
+
+    /// Closes it for a reason, where it is open.
+    pub(crate) fn close(&mut self, reason: Reason)
+        ensures { self.new ≡ record self.old { held = closed reason self.old.held } }
+    {
+        if self.is_open() {
+            self.held = Held::Stopped(reason);
+        }
+    }
+}

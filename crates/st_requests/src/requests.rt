@@ -1,0 +1,139 @@
+//! The requests that are open or kept: in the order in which they were opened, searched by their tags.
+ghost use Rattle.std.specs.Prelude.{◌≡◌, ◌++◌, [], ◌∷◌, None, option_copied, position, OnOk, OnErr};
+ghost use Rattle.st_requests.specs.Requests.{is_for, held_for, reply_of, with_answer, is_open, collected_of, without_kept, closed_by};
+
+use crate::{Collected, Held, Request};
+use st_events::{Reason, Tag};
+use std::alloc::{AllocError, Global};
+use std::marker::Model;
+
+/// The requests to one machine that are open, and the replies and reasons that are kept, each tag at
+/// most once, in the order in which they were opened.
+///
+/// Only `open` takes memory.
+///
+/// Manual: `call/2`, `reply/2`.
+#[derive(Drop)]
+pub struct Requests<C> {
+    requests: Vec<Request<C>>,
+}
+
+impl<C> Model for Requests<C> {
+    ghost use Rattle.std.specs.Prelude.{List};
+    ghost use Rattle.st_requests.specs.declared.request.Request.{Request};
+    ghost use Rattle.st_requests.specs.Requests.{OneEach};
+
+    ghost Value = { List (Request C) };
+
+    ghost view = { λ requests. requests.requests.items };
+
+    ghost invariant = { λ requests. OneEach requests.requests.items };
+}
+
+impl<C> Requests<C> {
+    /// No request. It takes no memory.
+    ///
+    /// Manual: `call/2`.
+    pub fn new(alloc: Global) -> Requests<C>
+        ensures { result ≡ [] }
+    {
+        Requests {
+            requests: Vec::new(alloc),
+        }
+    }
+
+    /// Shows the reply that is kept for a tag, and leaves it there. Where none is kept, it answers `None`.
+    ///
+    /// Manual: `receive_response/1`; there a reply is only ever taken.
+    pub fn peek(&self, tag: Tag) -> Option<&C>
+        ensures { option_copied result ≡ reply_of (held_for self.now tag) }
+    {
+        let place = place_of(&self.requests, tag)?;
+        let request = &self.requests[place];
+        request.reply()
+    }
+}
+
+impl<C: Drop> Requests<C> {
+    /// Opens a request, behind all others. For its tag nothing may be held.
+    ///
+    /// Where there is no memory, it opens none, and all stays as it was.
+    ///
+    /// Manual: `call/2`, `send_request/2`.
+    pub fn open(&mut self, tag: Tag) -> Result<(), AllocError>
+        requires { held_for self.old tag ≡ None }
+        ensures opened { OnOk result (self.new ≡ self.old ++ record { tag = tag; held = Held.Open } ∷ []) }
+
+        ensures unchanged { OnErr result (self.new ≡ self.old) }
+    {
+        self.requests.reserve(1)?;
+        self.requests.push_reserved(Request {
+            tag,
+            held: Held::Open,
+        });
+        Ok(())
+    }
+
+    /// Answers an open request: the reply is kept until it is collected. It says whether the request
+    /// was open.
+    ///
+    /// Where it was not, for no such request was opened, or it was answered or collected, or the
+    /// machine has stopped, the content is let go, and all stays as it was.
+    ///
+    /// Manual: `reply/2`, `reply_action()`.
+    pub fn answer(&mut self, tag: Tag, content: C) -> bool
+        ensures was_open { result ≡ is_open self.old tag }
+        ensures answered { self.new ≡ with_answer self.old tag content }
+    {
+        let Some(place) = place_of(&self.requests, tag) else {
+            return false;
+        };
+        let request = &mut self.requests[place];
+        request.answer(content)
+    }
+
+    /// Hands out what is kept for a tag, once: the reply, or the reason for which the machine stopped.
+    ///
+    /// Where the request is open, it answers `Waiting`, and where nothing is held for the tag, `Gone`.
+    /// Both leave all as it was.
+    ///
+    /// Manual: `receive_response/1`.
+    pub fn collect(&mut self, tag: Tag) -> Collected<C>
+        ensures collected { result ≡ collected_of (held_for self.old tag) }
+        ensures left { self.new ≡ without_kept self.old tag }
+    {
+        let Some(place) = place_of(&self.requests, tag) else {
+            return Collected::Gone;
+        };
+        let request = &self.requests[place];
+        if request.is_open() {
+            return Collected::Waiting;
+        }
+        self.requests.remove(place).into_collected()
+    }
+
+    /// Closes the open requests, for the reason for which the machine stops. What is kept stays.
+    ///
+    /// Manual: `call/2`, on a machine that dies before it replies.
+    pub fn close(&mut self, reason: Reason)
+        ensures { self.new ≡ closed_by reason self.old }
+    {
+        close_all(&mut self.requests, reason);
+    }
+}
+
+/// The place of a tag's request.
+fn place_of<C>(requests: &[Request<C>], tag: Tag) -> Option<usize>
+    ensures { result ≡ position (is_for tag) requests.now }
+{
+    requests.iter().position(|request| request.tag == tag)
+}
+
+/// Closes those that are open.
+fn close_all<C: Drop>(requests: &mut [Request<C>], reason: Reason)
+    ensures { requests.new ≡ closed_by reason requests.old }
+{
+    for request in requests.iter_mut() {
+        request.close(reason);
+    }
+}

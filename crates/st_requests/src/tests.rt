@@ -1,0 +1,144 @@
+//! Each call once with memory at hand, and all of them where one allocation is refused.
+ghost use Rattle.std.specs.Prelude.{◌≡◌, ◌++◌, [], ◌∷◌, None};
+ghost use Rattle.st_requests.specs.Requests.{held_for};
+
+use crate::{Collected, Held, Requests};
+use st_events::{MachineId, Tag};
+use std::process::Abort;
+
+/// A request to one machine.
+fn tag(request: u64) -> Tag
+    ensures { result ≡ record { machine = record { slot = 0; serial = 1 }; request = request } }
+{
+    Tag {
+        machine: MachineId { slot: 0, serial: 1 },
+        request,
+    }
+}
+
+/// The replies that are kept for the first eight requests.
+fn replies(requests: &Requests<u32>) -> [Option<u32>; 8] {
+    let mut replies = [None; 8];
+    for (reply, request) in replies.iter_mut().zip(1..9) {
+        *reply = requests.peek(tag(request)).copied();
+    }
+    replies
+}
+
+/// Opens a request. A call that finds no memory changes nothing that can be read, and is made again.
+fn open(rt: &impl Abort, requests: &mut Requests<u32>, tag: Tag)
+    requires { held_for requests.old tag ≡ None }
+    ensures { requests.new ≡ requests.old ++ record { tag = tag; held = Held.Open } ∷ [] }
+{
+    let before = replies(requests);
+    if requests.open(tag).is_err() {
+        assert_eq!(rt; replies(requests), before);
+        assert!(rt; requests.open(tag).is_ok());
+    }
+}
+
+/// Prints a line where no allocation of the test was refused: then one of those made here is.
+/// `tools/refuse-each` reads it.
+fn tell_refusals(rt: HostRuntime) {
+    for _ in 0..10_000 {
+        if Box::new(rt.alloc(), 'x').is_err() {
+            let _ = println!(rt; "nothing was refused");
+            return;
+        }
+    }
+}
+
+#[test]
+fn each_call_answers(rt: HostRuntime) {
+    let mut requests = Requests::new(rt.alloc());
+    open(&rt, &mut requests, tag(1));
+    open(&rt, &mut requests, tag(2));
+    assert!(rt; matches!(requests.collect(tag(1)), Collected::Waiting));
+    assert!(rt; matches!(requests.collect(tag(3)), Collected::Gone));
+    assert_eq!(rt; requests.peek(tag(1)).copied(), None);
+    assert!(rt; requests.answer(tag(1), 50));
+    assert_eq!(rt; requests.peek(tag(1)).copied(), Some(50));
+    assert_eq!(rt; requests.peek(tag(2)).copied(), None);
+    assert!(rt; matches!(requests.collect(tag(1)), Collected::Reply(50)));
+    assert!(rt; matches!(requests.collect(tag(1)), Collected::Gone));
+    assert!(rt; !requests.answer(tag(1), 60));
+    requests.close(9);
+    assert!(rt; !requests.answer(tag(2), 60));
+    assert_eq!(rt; requests.peek(tag(2)).copied(), None);
+    assert!(rt; matches!(requests.collect(tag(2)), Collected::Stopped(9)));
+    assert!(rt; matches!(requests.collect(tag(2)), Collected::Gone));
+    tell_refusals(rt);
+}
+
+#[test]
+fn a_reply_outlives_the_machine(rt: HostRuntime) {
+    let mut requests = Requests::new(rt.alloc());
+    open(&rt, &mut requests, tag(1));
+    open(&rt, &mut requests, tag(2));
+    open(&rt, &mut requests, tag(3));
+    assert!(rt; requests.answer(tag(2), 50));
+    assert!(rt; !requests.answer(tag(2), 60));
+    assert!(rt; !requests.answer(tag(4), 70));
+    assert_eq!(rt; requests.peek(tag(2)).copied(), Some(50));
+    assert_eq!(rt; requests.peek(tag(4)).copied(), None);
+    requests.close(9);
+    requests.close(8);
+    assert_eq!(rt;
+        replies(&requests),
+        [None, Some(50), None, None, None, None, None, None]
+    );
+    assert!(rt; matches!(requests.collect(tag(1)), Collected::Stopped(9)));
+    assert!(rt; matches!(requests.collect(tag(2)), Collected::Reply(50)));
+    assert!(rt; matches!(requests.collect(tag(3)), Collected::Stopped(9)));
+    assert!(rt; matches!(requests.collect(tag(1)), Collected::Gone));
+    assert!(rt; matches!(requests.collect(tag(2)), Collected::Gone));
+    assert!(rt; matches!(requests.collect(tag(3)), Collected::Gone));
+    tell_refusals(rt);
+}
+
+#[test]
+fn another_machine_has_requests_of_its_own(rt: HostRuntime) {
+    let mut requests = Requests::new(rt.alloc());
+    let elsewhere = Tag {
+        machine: MachineId { slot: 1, serial: 1 },
+        request: 1,
+    };
+    let later = Tag {
+        machine: MachineId { slot: 0, serial: 2 },
+        request: 1,
+    };
+    open(&rt, &mut requests, tag(1));
+    assert!(rt; !requests.answer(elsewhere, 60));
+    assert!(rt; !requests.answer(later, 60));
+    assert!(rt; matches!(requests.collect(elsewhere), Collected::Gone));
+    assert!(rt; matches!(requests.collect(later), Collected::Gone));
+    assert!(rt; matches!(requests.collect(tag(1)), Collected::Waiting));
+    tell_refusals(rt);
+}
+
+#[test]
+fn a_refused_call_changes_nothing(rt: HostRuntime) {
+    let mut requests = Requests::new(rt.alloc());
+    open(&rt, &mut requests, tag(1));
+    open(&rt, &mut requests, tag(2));
+    assert!(rt; requests.answer(tag(1), 50));
+    requests.close(9);
+    open(&rt, &mut requests, tag(3));
+    open(&rt, &mut requests, tag(4));
+    assert!(rt; requests.answer(tag(3), 70));
+    open(&rt, &mut requests, tag(5));
+    open(&rt, &mut requests, tag(6));
+    assert_eq!(rt;
+        replies(&requests),
+        [Some(50), None, Some(70), None, None, None, None, None]
+    );
+    assert!(rt; matches!(requests.collect(tag(4)), Collected::Waiting));
+    assert!(rt; matches!(requests.collect(tag(5)), Collected::Waiting));
+    assert!(rt; matches!(requests.collect(tag(6)), Collected::Waiting));
+    assert!(rt; matches!(requests.collect(tag(2)), Collected::Stopped(9)));
+    assert!(rt; matches!(requests.collect(tag(1)), Collected::Reply(50)));
+    assert!(rt; matches!(requests.collect(tag(3)), Collected::Reply(70)));
+    assert!(rt; matches!(requests.collect(tag(4)), Collected::Waiting));
+    assert!(rt; matches!(requests.collect(tag(1)), Collected::Gone));
+    tell_refusals(rt);
+}
