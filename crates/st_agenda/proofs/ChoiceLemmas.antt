@@ -111,7 +111,7 @@ module _ {C : Type 0} where
   running_zero_by one running others true n f k = let equal : one ≡ running = cc in rw (equal, timer_self running.timer) refl
   running_zero_by one running others false n f k = other_runs one running others (same_timer running.timer one.timer) refl n (k f)
 
-  running_zero : (all : List (Running C)) (running : Running C) → OneEach all → first_zero_of all ≡ Some running → running_of running.timer all ≡ Some running
+  pub running_zero : (all : List (Running C)) (running : Running C) → OneEach all → first_zero_of all ≡ Some running → running_of running.timer all ≡ Some running
   running_zero [] running o f = cc
   running_zero (one ∷ others) running o f =
       running_zero_by one running others (is_zero one.due) o.0 f (running_zero others running o.1)

@@ -4,5 +4,6 @@ pub mod Items
 pub mod Choice
 pub mod Timing
 pub mod Agenda
+pub mod Lawful
 pub mod Slots
 pub mod Waiting

@@ -9,7 +9,7 @@ use Rattle.st_requests.specs.declared.collected.Collected.TheVariants as collect
 use Rattle.st_requests.specs.declared.held.Held.{Held}
 use Rattle.st_requests.specs.declared.held.Held.TheVariants.{Open, Reply, Stopped}
 use Rattle.st_requests.specs.declared.request.Request.{Request}
-use Rattle.st_requests.specs.Requests.{same_tag, is_for, held_for, OneEach, is_waiting, is_some_waiting, is_open, answered, with_answer, collected_of, without_kept, closed, closed_by}
+use Rattle.st_requests.specs.Requests.{same_tag, is_for, held_for, OneEach, is_waiting, is_some_waiting, is_open, answered, with_answer, collected_of, without_kept, without_request, closed, closed_by}
 
 -- ---- tags compared
 same_number : (n : ℕ) → (n == n) ≡ true
@@ -105,13 +105,22 @@ module _ {C : Type 0} where
   none_more tag (first ∷ others) request h other =
       let parts = not_first tag first others h in rw parts.0 (none_more tag others request parts.1 other)
 
-  pub one_each_more : (requests : List (Request C)) (request : Request C) → OneEach requests → held_for requests request.tag ≡ None
-      → OneEach (requests ++ request ∷ [])
-  one_each_more [] request each none = (refl, tt)
-  one_each_more (first ∷ others) request each none =
-      let parts = not_first request.tag first others none in
-      let other = same_tag_flips first.tag request.tag ∙ parts.0 in
-      (none_more first.tag others request each.0 other, one_each_more others request each.1 parts.1)
+  pub one_each_opened : (tag : Tag) (requests : List (Request C)) → held_for requests tag ≡ None → OneEach requests
+      → OneEach (requests ++ record { tag = tag; held = Open } ∷ [])
+  one_each_opened tag [] none each = (refl, tt)
+  one_each_opened tag (first ∷ others) none each =
+      let parts = not_first tag first others none in
+      let other = same_tag_flips first.tag tag ∙ parts.0 in
+      (none_more first.tag others (record { tag = tag; held = Open }) each.0 other, one_each_opened tag others parts.1 each.1)
+
+  -- ---- a request is taken back
+  -- right after it was opened, nothing is left of it
+  pub withdrawn : (requests : List (Request C)) (tag : Tag) → held_for requests tag ≡ None
+      → without_request (requests ++ record { tag = tag; held = Open } ∷ []) tag ≡ requests
+  withdrawn [] tag none = rw (same_tag_self tag) refl
+  withdrawn (first ∷ others) tag none =
+      let parts = not_first tag first others none in
+      rw parts.0 (ap (λ t. first ∷ t) (withdrawn others tag parts.1))
 
   -- ---- a request is answered
   abbrev pub answers : C → Request C → Request C
@@ -167,16 +176,16 @@ module _ {C : Type 0} where
       let parts = not_first other request others h in
       none_answered_by (is_for tag request) other content request (with_answer others tag content) parts.0 (none_answered tag other content others parts.1)
 
-  one_each_answered_by : (b : Bool) (content : C) (request : Request C) (rest : List (Request C)) → held_for rest request.tag ≡ None → OneEach rest
+  one_each_answer_by : (b : Bool) (content : C) (request : Request C) (rest : List (Request C)) → held_for rest request.tag ≡ None → OneEach rest
       → OneEach ((if b then answers content request else request) ∷ rest)
-  one_each_answered_by true content request rest none each = (none, each)
-  one_each_answered_by false content request rest none each = (none, each)
+  one_each_answer_by true content request rest none each = (none, each)
+  one_each_answer_by false content request rest none each = (none, each)
 
-  pub one_each_answered : (tag : Tag) (content : C) (requests : List (Request C)) → OneEach requests → OneEach (with_answer requests tag content)
-  one_each_answered tag content [] each = tt
-  one_each_answered tag content (request ∷ others) each =
-      one_each_answered_by (is_for tag request) content request (with_answer others tag content) (none_answered tag request.tag content others each.0)
-      (one_each_answered tag content others each.1)
+  pub one_each_answer : (tag : Tag) (content : C) (requests : List (Request C)) → OneEach requests → OneEach (with_answer requests tag content)
+  one_each_answer tag content [] each = tt
+  one_each_answer tag content (request ∷ others) each =
+      one_each_answer_by (is_for tag request) content request (with_answer others tag content) (none_answered tag request.tag content others each.0)
+      (one_each_answer tag content others each.1)
 
   -- ---- what is kept is collected
   kept_none : (tag : Tag) (requests : List (Request C)) → held_for requests tag ≡ None → without_kept requests tag ≡ requests
@@ -254,8 +263,11 @@ module _ {C : Type 0} where
   one_each_fewer test (request ∷ others) each =
       one_each_fewer_by (test request) request (filter test others) (none_fewer test request.tag others each.0) (one_each_fewer test others each.1)
 
-  pub one_each_collected : (tag : Tag) (requests : List (Request C)) → OneEach requests → OneEach (without_kept requests tag)
-  one_each_collected tag requests each = one_each_fewer (λ (request : Request C). not (is_for tag request) || is_waiting request.held) requests each
+  pub one_each_kept : (tag : Tag) (requests : List (Request C)) → OneEach requests → OneEach (without_kept requests tag)
+  one_each_kept tag requests each = one_each_fewer (λ (request : Request C). not (is_for tag request) || is_waiting request.held) requests each
+
+  pub one_each_withdrawn : (tag : Tag) (requests : List (Request C)) → OneEach requests → OneEach (without_request requests tag)
+  one_each_withdrawn tag requests each = one_each_fewer (λ (request : Request C). not (is_for tag request)) requests each
 
   -- ---- the open requests are closed
   none_closed : (tag : Tag) (reason : ℕ) (requests : List (Request C)) → held_for requests tag ≡ None → held_for (closed_by reason requests) tag ≡ None

@@ -1,13 +1,13 @@
 -- The definitions computed on examples: three requests are opened, the second is answered, the machine
--- stops, and each is collected.
-use Rattle.std.proofs.Common.{◌≡◌, ℕ, true, false, List, [], ◌∷◌, ◌++◌, refl}
+-- stops, and each is collected; one is taken back; and replies come in a list.
+use Rattle.std.proofs.Common.{◌≡◌, ℕ, true, false, arith, List, [], ◌∷◌, ◌++◌, refl}
 use Rattle.std.specs.Prelude.{Some, None}
 use Rattle.st_events.specs.declared.tag.Tag.{Tag}
 use Rattle.st_requests.specs.declared.collected.Collected.TheVariants as collected
 use Rattle.st_requests.specs.declared.held.Held.{Held}
 use Rattle.st_requests.specs.declared.held.Held.TheVariants.{Open, Reply, Stopped}
 use Rattle.st_requests.specs.declared.request.Request.{Request}
-use Rattle.st_requests.specs.Requests.{same_tag, held_for, is_open, reply_of, with_answer, collected_of, without_kept, closed_by}
+use Rattle.st_requests.specs.Requests.{same_tag, held_for, is_open, reply_of, with_answer, with_answers, taken_by, collected_of, without_kept, without_request, closed_by, AreOf, NoneOpen}
 
 -- a request to the machine at place 0 with the serial 1
 abbrev tag : ℕ → Tag
@@ -118,3 +118,39 @@ second_is_gone = refl
 
 third_is_gone : collected_of (held_for (without_kept stopped (tag 3)) (tag 3)) ≡ collected.Gone
 third_is_gone = refl
+
+-- ---- a request is taken back: an open one, one that is answered, and one that was never opened
+takes_it_back : without_request opened (tag 3) ≡ request 1 Open ∷ request 2 Open ∷ []
+takes_it_back = refl
+
+lets_a_reply_go : without_request replied (tag 2) ≡ request 1 Open ∷ request 3 Open ∷ []
+lets_a_reply_go = refl
+
+takes_none_back : without_request replied (tag 4) ≡ replied
+takes_none_back = refl
+
+-- ---- replies to the second, to one that was never opened, to the first, and to the second once more
+abbrev four : List (Tag × ℕ)
+four = (tag 2, 50) ∷ (tag 4, 60) ∷ (tag 1, 70) ∷ (tag 2, 80) ∷ []
+
+answers_in_order : with_answers opened four ≡ request 1 (Reply 70) ∷ request 2 (Reply 50) ∷ request 3 Open ∷ []
+answers_in_order = refl
+
+takes_two : taken_by opened four ≡ tag 2 ∷ tag 1 ∷ []
+takes_two = refl
+
+takes_none : taken_by stopped four ≡ []
+takes_none = refl
+
+-- ---- whose they are, and whether one is open
+are_below : AreOf (record { slot = 0; serial = 1 }) 4 opened
+are_below = (refl, omega arith, (refl, omega arith, (refl, omega arith, tt)))
+
+are_not_below : AreOf (record { slot = 0; serial = 1 }) 3 opened → ⊥
+are_not_below are = omega (arith, are.2.2.1)
+
+none_is_open : NoneOpen stopped
+none_is_open = (refl, (refl, (refl, tt)))
+
+one_is_open : NoneOpen replied → ⊥
+one_is_open none = let waits : true ≡ false = none.0 in cc

@@ -1,5 +1,6 @@
 -- The requests that are open or kept, in the order in which they were opened, and what each call makes of them.
-use Rattle.std.specs.Prelude.{◌≡◌, ℕ, Bool, true, false, not, ◌&&◌, ◌||◌, ◌==◌, if◌then◌else◌, Option, Some, None, List, [], ◌∷◌, map, filter}
+use Rattle.std.specs.Prelude.{◌≡◌, ℕ, ◌<◌, Bool, true, false, not, ◌&&◌, ◌||◌, ◌==◌, if◌then◌else◌, Option, Some, None, List, [], ◌∷◌, map, filter}
+use Rattle.st_events.specs.declared.machine_id.MachineId.{MachineId}
 use Rattle.st_events.specs.declared.tag.Tag.{Tag}
 use Rattle.st_requests.specs.declared.collected.Collected.{Collected}
 use Rattle.st_requests.specs.declared.collected.Collected.TheVariants as collected
@@ -80,3 +81,29 @@ module _ {C : Type 0} where
   -- each open request is stopped for the reason, in its place
   abbrev pub closed_by : ℕ → List (Request C) → List (Request C)
   closed_by reason requests = map (λ (request : Request C). record request { held = closed reason request.held }) requests
+
+  -- no request of this tag stays, whatever it holds
+  abbrev pub without_request : List (Request C) → Tag → List (Request C)
+  without_request requests tag = filter (λ (request : Request C). not (is_for tag request)) requests
+
+  -- open requests are answered by replies, one after another, each in its place
+  abbrev pub with_answers : List (Request C) → List (Tag × C) → List (Request C)
+  with_answers requests [] = requests
+  with_answers requests (reply ∷ replies) = with_answers (with_answer requests reply.0 reply.1) replies
+
+  -- the tags whose request is open when their reply comes, in the order of the replies
+  abbrev pub taken_by : List (Request C) → List (Tag × C) → List Tag
+  taken_by requests [] = []
+  taken_by requests (reply ∷ replies) =
+      if is_open requests reply.0 then reply.0 ∷ taken_by (with_answer requests reply.0 reply.1) replies
+      else taken_by (with_answer requests reply.0 reply.1) replies
+
+  -- each is a request to this machine, with a number below this one
+  abbrev pub AreOf : MachineId → ℕ → List (Request C) → Type 0
+  AreOf id bound [] = Unit {0}
+  AreOf id bound (request ∷ others) = (request.tag.machine ≡ id) × (request.tag.request < bound) × AreOf id bound others
+
+  -- none waits for its reply
+  abbrev pub NoneOpen : List (Request C) → Type 0
+  NoneOpen [] = Unit {0}
+  NoneOpen (request ∷ others) = (is_waiting request.held ≡ false) × NoneOpen others

@@ -1,9 +1,10 @@
 //! The requests that are open or kept: in the order in which they were opened, searched by their tags.
-ghost use Rattle.std.specs.Prelude.{◌≡◌, ◌++◌, [], ◌∷◌, None, option_copied, position, OnOk, OnErr};
-ghost use Rattle.st_requests.specs.Requests.{is_for, held_for, reply_of, with_answer, is_open, collected_of, without_kept, closed_by};
+ghost use Rattle.std.specs.Prelude.{◌≡◌, ◌+◌, ◌≤◌, ◌++◌, [], ◌∷◌, None, length, option_copied, position, vec_capacity, OnOk, OnErr};
+ghost use Rattle.st_events.specs.Rows.{RepliesFit};
+ghost use Rattle.st_requests.specs.Requests.{is_for, held_for, reply_of, with_answer, with_answers, taken_by, is_open, collected_of, without_kept, without_request, closed_by};
 
 use crate::{Collected, Held, Request};
-use st_events::{Reason, Tag};
+use st_events::{Reason, Replies, Tag};
 use std::alloc::{AllocError, Global};
 use std::marker::Model;
 
@@ -74,6 +75,18 @@ impl<C: Drop> Requests<C> {
         Ok(())
     }
 
+    /// Takes a request back, as where no memory is left for its event: what is held for the tag is let
+    /// go, whatever it is. The others stay, in their order. It takes no memory.
+    ///
+    /// Where nothing is held for the tag, all stays as it was.
+    ///
+    /// Manual: `call/2`, `send_request/2`; there no call is refused for want of memory.
+    pub fn withdraw(&mut self, tag: Tag)
+        ensures { self.new ≡ without_request self.old tag }
+    {
+        self.requests.retain(|request| request.tag != tag);
+    }
+
     /// Answers an open request: the reply is kept until it is collected. It says whether the request
     /// was open.
     ///
@@ -90,6 +103,28 @@ impl<C: Drop> Requests<C> {
         };
         let request = &mut self.requests[place];
         request.answer(content)
+    }
+
+    /// Answers requests, each as `answer` does, in the order of the replies, and adds the tags whose
+    /// request was open to a list, in room that was got before. It takes no memory.
+    ///
+    /// Where a request is not open when its reply comes, the content is let go, its tag is not listed,
+    /// and what is held for it stays.
+    ///
+    /// Manual: `reply/1`, `reply_action()`.
+    pub fn answer_all(&mut self, replies: Replies<C>, taken: &mut Vec<Tag>)
+        requires replies_fit { RepliesFit C.row }
+        requires room { length taken.old.items + length replies ≤ vec_capacity taken.old }
+        ensures answered { self.new ≡ with_answers self.old replies }
+        ensures taken { taken.new.items ≡ taken.old.items ++ taken_by self.old replies }
+    {
+        let mut left = replies;
+        left.reverse();
+        while let Some((tag, content)) = left.pop() {
+            if self.answer(tag, content) {
+                taken.push_reserved(tag);
+            }
+        }
     }
 
     /// Hands out what is kept for a tag, once: the reply, or the reason for which the machine stopped.

@@ -1,9 +1,10 @@
 //! Each call once with memory at hand, and all of them where one allocation is refused.
-ghost use Rattle.std.specs.Prelude.{◌≡◌, ◌++◌, [], ◌∷◌, None};
+ghost use Rattle.std.specs.Prelude.{◌≡◌, ◌++◌, [], ◌∷◌, None, vec_capacity};
 ghost use Rattle.st_requests.specs.Requests.{held_for};
 
 use crate::{Collected, Held, Requests};
-use st_events::{MachineId, Tag};
+use st_events::{MachineId, Replies, SmallList, Tag};
+use std::alloc::Global;
 use std::process::Abort;
 
 /// A request to one machine.
@@ -34,6 +35,17 @@ fn open(rt: &impl Abort, requests: &mut Requests<u32>, tag: Tag)
     if requests.open(tag).is_err() {
         assert_eq!(rt; replies(requests), before);
         assert!(rt; requests.open(tag).is_ok());
+    }
+}
+
+/// Room for so many tags. Where memory was refused, it is got again.
+fn room_for(rt: &impl Abort, alloc: Global, count: usize) -> Vec<Tag>
+    ensures empty { result.items ≡ [] }
+    ensures room { vec_capacity result ≡ count }
+{
+    match Vec::with_capacity(alloc, count) {
+        Ok(tags) => tags,
+        Err(_) => Vec::with_capacity(alloc, count).expect(rt, "one allocation alone is refused"),
     }
 }
 
@@ -140,5 +152,51 @@ fn a_refused_call_changes_nothing(rt: HostRuntime) {
     assert!(rt; matches!(requests.collect(tag(3)), Collected::Reply(70)));
     assert!(rt; matches!(requests.collect(tag(4)), Collected::Waiting));
     assert!(rt; matches!(requests.collect(tag(1)), Collected::Gone));
+    tell_refusals(rt);
+}
+
+#[test]
+fn a_request_is_taken_back(rt: HostRuntime) {
+    let mut requests = Requests::new(rt.alloc());
+    open(&rt, &mut requests, tag(1));
+    open(&rt, &mut requests, tag(2));
+    open(&rt, &mut requests, tag(3));
+    assert!(rt; requests.answer(tag(2), 50));
+    requests.withdraw(tag(3));
+    assert!(rt; matches!(requests.collect(tag(3)), Collected::Gone));
+    assert!(rt; !requests.answer(tag(3), 60));
+    requests.withdraw(tag(4));
+    assert_eq!(rt; requests.peek(tag(2)).copied(), Some(50));
+    assert!(rt; matches!(requests.collect(tag(1)), Collected::Waiting));
+    requests.withdraw(tag(2));
+    assert!(rt; matches!(requests.collect(tag(2)), Collected::Gone));
+    assert!(rt; requests.answer(tag(1), 70));
+    assert!(rt; matches!(requests.collect(tag(1)), Collected::Reply(70)));
+    tell_refusals(rt);
+}
+
+#[test]
+fn replies_are_taken_in_order(rt: HostRuntime) {
+    let mut requests = Requests::new(rt.alloc());
+    open(&rt, &mut requests, tag(1));
+    open(&rt, &mut requests, tag(2));
+    open(&rt, &mut requests, tag(3));
+    let mut taken = room_for(&rt, rt.alloc(), 5);
+    taken.push_reserved(tag(9));
+    // Four replies lie in the list itself. To the fourth request none was opened, and the second is
+    // answered twice.
+    let mut answers: Replies<u32> = SmallList::new(rt.alloc());
+    for (request, content) in [(2, 50), (4, 60), (1, 70), (2, 80)] {
+        assert!(rt; answers.push((tag(request), content)).is_ok());
+    }
+    assert_eq!(rt; answers.len(), 4);
+    requests.answer_all(answers, &mut taken);
+    assert_eq!(rt; taken.as_slice(), [tag(9), tag(2), tag(1)].as_slice());
+    assert_eq!(rt;
+        replies(&requests),
+        [Some(70), Some(50), None, None, None, None, None, None]
+    );
+    assert!(rt; matches!(requests.collect(tag(3)), Collected::Waiting));
+    assert!(rt; matches!(requests.collect(tag(4)), Collected::Gone));
     tell_refusals(rt);
 }

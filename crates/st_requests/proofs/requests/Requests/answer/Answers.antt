@@ -1,5 +1,5 @@
 use Rattle.std.proofs.Common.{refl, sym, ◌∙◌}
-use Rattle.st_requests.proofs.RequestLemmas.{not_found, found_at, answered_at, answered_nowhere, one_each_answered}
+use Rattle.st_requests.proofs.RequestLemmas.{not_found, found_at, answered_at, answered_nowhere, one_each_answer}
 use Rattle.st_requests.proofs.requests.Requests.answer.Goals as goal
 
 pub returns-in_default-clause-was_open : goal.returns-in_default-clause-was_open
@@ -17,7 +17,7 @@ invariant_of-self g c =
     let requests = c.self.inside.requests.items in
     let at = rw c.deref.ensures.value at (sym c.place_of.ensures ∙ c.in-Some.is) in
     rw (c.answer.ensures.answered, answered_at c.args.tag c.args.content requests c.in-Some.place c.index_mut-request.result.now c.self.invariant at c.index_mut-request.ensures.value)
-    (one_each_answered c.args.tag c.args.content requests c.self.invariant)
+    (one_each_answer c.args.tag c.args.content requests c.self.invariant)
 
 pub returns-clause-was_open : goal.returns-clause-was_open
 returns-clause-was_open g c =

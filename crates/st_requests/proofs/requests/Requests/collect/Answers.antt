@@ -1,6 +1,6 @@
 use Rattle.std.proofs.Common.{◌≡◌, true, false, refl, sym, ◌∙◌}
 use Rattle.st_requests.specs.Requests.{is_open}
-use Rattle.st_requests.proofs.RequestLemmas.{not_found, found_at, waiting_collected, waiting_stays, collected_nowhere, removed_at, one_each_collected}
+use Rattle.st_requests.proofs.RequestLemmas.{not_found, found_at, waiting_collected, waiting_stays, collected_nowhere, removed_at, one_each_kept}
 use Rattle.st_requests.proofs.requests.Requests.collect.Goals as goal
 
 pub returns-in_default-clause-collected : goal.returns-in_default-clause-collected
@@ -35,7 +35,7 @@ invariant_of-self g c =
     let held = found_at c.args.tag requests c.in-Some.place c.index-request.result.now at c.index-request.ensures in
     let kept : is_open requests c.args.tag ≡ false = rw held (sym c.is_open.ensures ∙ c.if-is_open.false) in
     rw (c.remove.ensures.items, removed_at c.args.tag requests c.in-Some.place c.self.invariant at kept)
-    (one_each_collected c.args.tag requests c.self.invariant)
+    (one_each_kept c.args.tag requests c.self.invariant)
 
 pub returns-clause-collected : goal.returns-clause-collected
 returns-clause-collected g c =
