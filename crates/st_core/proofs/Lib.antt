@@ -2,4 +2,8 @@
 pub mod RunLemmas
 pub mod StartLemmas
 pub mod TransitionLemmas
+pub mod PlanningLemmas
+pub mod StateLemmas
+pub mod LawfulLemmas
+pub mod AccountingLemmas
 pub mod WorkedExamples

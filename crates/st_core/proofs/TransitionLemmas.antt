@@ -15,6 +15,7 @@ use Rattle.st_events.specs.declared.refusal.Refusal.TheVariants.{Exhausted, NoMe
 use Rattle.st_events.specs.declared.setting.Setting.{Setting}
 use Rattle.st_events.specs.declared.time.Time.{Time}
 use Rattle.st_events.specs.declared.time.Time.TheVariants.{After, Infinity}
+use Rattle.st_requests.specs.declared.request.Request.{Request}
 use Rattle.st_agenda.specs.Agenda.{Schedule, name_of_event, settled_in}
 use Rattle.st_agenda.specs.Items.{numbered, numbers_of}
 use Rattle.st_agenda.specs.Timing.{number_taken, numbers_taken}
@@ -26,7 +27,9 @@ use Rattle.st_core.specs.Callbacks.{Callbacks, Called, or_old, called_of, outcom
 use Rattle.st_core.specs.Choice.{next_event_of}
 use Rattle.st_core.specs.Stop.{with_ended, unless_ended}
 use Rattle.st_core.specs.Transition.{with_moment, with_called, with_settled, has_numbers, times_of, report_of, stop_report_of, went_on, stopped, settled, transition_of, turn_running, turn_of}
-use Rattle.st_core.specs.Run.{Meets, turn_takes_memory, turn_without_memory}
+use Rattle.st_core.specs.declared.entry.Entry.{Entry}
+use Rattle.st_core.specs.Post.{post_of, post_running, post_refused}
+use Rattle.st_core.specs.Run.{Meets, turn_takes_memory, turn_without_memory, post_takes_memory}
 
 -- ---- numbers
 range_with_len_more : (first count : ℕ) → range_with_len first (count + 1) ≡ range_with_len first count ++ (first + count) ∷ []
@@ -41,7 +44,7 @@ pub one_number_more : (first count number : ℕ) {numbers after : List ℕ} → 
     → after ≡ numbers ++ number ∷ [] → after ≡ range_with_len first (count + 1)
 one_number_more first count number same is_number change = rw (change, same, is_number) (sym (range_with_len_more first count))
 
-none_not_some : {A : Type 0} (found : Option A) (a : A) → found ≡ None → found ≡ Some a → ⊥
+pub none_not_some : {A : Type 0} (found : Option A) (a : A) → found ≡ None → found ≡ Some a → ⊥
 none_not_some found a none some = cc
 
 some_injective : {A : Type 0} {a b : A} → Some a ≡ Some b → a ≡ b
@@ -160,17 +163,24 @@ module _ {S D C : Type 0} (callbacks : Callbacks S D C) (machine : MachineState 
       let running : turn_running callbacks machine now ≡ (Ok Idle, with_moment machine now) = rw (lt-ltb now (2 ^ 63) early, next) refl in
       ap (λ (end : Option (ℕ × ℕ)). unless_ended end (λ refusal. Err refusal) machine (turn_running callbacks machine now)) ended ∙ running
 
+module _ {S D C : Type 0} (machine : MachineState S D C) (entry : Entry) (content : C) where
+  -- a post to a machine that runs takes memory where a number is left
+  pub post_wants_memory : machine.ended ≡ None → machine.schedule.next < 2 ^ 63 → post_takes_memory (post_of machine entry content).0 ≡ true
+  post_wants_memory running free =
+      let posted : post_takes_memory (post_running machine entry content).0 ≡ true = rw (lt-ltb machine.schedule.next (2 ^ 63) free) refl in
+      ap (λ (end : Option (ℕ × ℕ)). post_takes_memory (unless_ended end (post_refused content) machine (post_running machine entry content)).0) running ∙ posted
+
 -- ---- what is left, by its parts
 module _ {S D C : Type 0} where
-  abbrev machine_of : MachineId → S → D → Schedule C → ℕ → Option (ℕ × ℕ) → MachineState S D C
-  machine_of id state held schedule latest ended =
-      record { id = id; state = state; «data» = held; schedule = schedule; latest = latest; ended = ended }
+  abbrev pub machine_of : MachineId → S → D → Schedule C → List (Request C) → ℕ → Option (ℕ × ℕ) → MachineState S D C
+  machine_of id state held schedule requests latest ended =
+      record { id = id; state = state; «data» = held; schedule = schedule; requests = requests; latest = latest; ended = ended }
 
-  pub machine_is : {id id2 : MachineId} {state state2 : S} {held held2 : D} {schedule schedule2 : Schedule C} {latest latest2 : ℕ} {ended ended2 : Option (ℕ × ℕ)}
-      → id ≡ id2 → state ≡ state2 → held ≡ held2 → schedule ≡ schedule2 → latest ≡ latest2 → ended ≡ ended2
-      → machine_of id state held schedule latest ended ≡ machine_of id2 state2 held2 schedule2 latest2 ended2
-  machine_is same_id same_state same_data same_schedule same_latest same_end =
-      rw (same_id, same_state, same_data, same_schedule, same_latest, same_end) refl
+  pub machine_is : {id id2 : MachineId} {state state2 : S} {held held2 : D} {schedule schedule2 : Schedule C} {requests requests2 : List (Request C)} {latest latest2 : ℕ} {ended ended2 : Option (ℕ × ℕ)}
+      → id ≡ id2 → state ≡ state2 → held ≡ held2 → schedule ≡ schedule2 → requests ≡ requests2 → latest ≡ latest2 → ended ≡ ended2
+      → machine_of id state held schedule requests latest ended ≡ machine_of id2 state2 held2 schedule2 requests2 latest2 ended2
+  machine_is same_id same_state same_data same_schedule same_requests same_latest same_end =
+      rw (same_id, same_state, same_data, same_schedule, same_requests, same_latest, same_end) refl
 
 module _ {C : Type 0} (number : ℕ) where
   pub settled_is : {latest latest2 : ℕ} {schedule schedule2 : Schedule C} {postpone postpone2 changed changed2 : Bool} {inserts inserts2 : List (Insert C)} {requests requests2 : List (Setting C)}

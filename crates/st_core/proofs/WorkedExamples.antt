@@ -12,7 +12,9 @@ use Rattle.st_events.specs.declared.timer.Timer.TheVariants as timer
 use Rattle.st_events.specs.declared.refusal.Refusal.TheVariants.{NoMemory, Exhausted, Moment}
 use Rattle.st_events.specs.declared.refusal.Refusal.TheVariants as refusal
 use Rattle.st_events.specs.declared.refused.Refused.{Refused}
-use Rattle.st_core.specs.declared.entry.Entry.TheVariants.{Cast, Info}
+use Rattle.st_events.specs.declared.tag.Tag.{Tag}
+use Rattle.st_requests.specs.declared.collected.Collected.TheVariants as collected
+use Rattle.st_core.specs.declared.entry.Entry.TheVariants.{Call, Cast, Info}
 use Rattle.st_core.specs.declared.call.Call.TheVariants.{Handle, Enter, Terminate}
 use Rattle.st_core.specs.declared.done.Done.{Done}
 use Rattle.st_core.specs.declared.done.Done.TheVariants.{Started, Finished, PutOff, Ended}
@@ -34,7 +36,8 @@ use Rattle.st_core.specs.Choice.{is_ready_of, waiting_of, timers_of}
 use Rattle.st_core.specs.Start.{start_of, start_refused, Starts}
 use Rattle.st_core.specs.Stop.{stop_of}
 use Rattle.st_core.specs.Run.{takes_memory, step_of, Runs}
-use Rattle.st_core.specs.WorkedTable.{handled_by_table, enters_by_table, entered_by_table, begun_by_table}
+use Rattle.st_core.specs.Accounting.{accepted_in, finished_in}
+use Rattle.st_core.specs.WorkedTable.{foreign_tag, handled_by_table, enters_by_table, entered_by_table, begun_by_table}
 use Rattle.st_core.proofs.RunLemmas.{runs_with_memory}
 
 -- the callbacks of the module with this number
@@ -61,6 +64,7 @@ at_rest state held latest next = record {
   state = state;
   «data» = held;
   schedule = record { pending = []; postponed = []; running = []; next = next };
+  requests = [];
   latest = latest;
   ended = None;
 }
@@ -692,3 +696,105 @@ entering_stops_with_data = runs_with_memory (table_of 71) fresh (cast 34 ∷ tur
 
 entering_stops : Runs (table_of 72) fresh (cast 34 ∷ turn 0 ∷ []) (posted 1 ∷ stops_at 9 ∷ []) (at_end (at_rest 2 9 0 2) 4 9)
 entering_stops = runs_with_memory (table_of 72) fresh (cast 34 ∷ turn 0 ∷ [])
+
+-- ---- requests
+abbrev call : ℕ → Command ℕ
+call content = command.Post Call content
+
+-- the tag of the call whose event has this number
+abbrev tag_of : ℕ → Tag
+tag_of request = record { machine = id; request = request }
+
+abbrev reply : ℕ → ℕ → Command ℕ
+reply request content = command.Reply (tag_of request) content
+
+abbrev collect : ℕ → Command ℕ
+collect request = command.Collect (tag_of request)
+
+abbrev collected_reply : ℕ → Answer ℕ ℕ
+collected_reply content = answer.Collect (collected.Reply content)
+
+-- a call is handled in a state that leads to another, and these requests are answered
+abbrev replying : ℕ → ℕ → ℕ → List Tag → Report ℕ
+replying number before after replied = record (report number (kind.Call (tag_of number)) before after Finished []) { replied = replied }
+
+-- three calls wait, and the second is answered from outside; the first stops with a reply to itself and
+-- one to the second, which is answered; the third is closed. What is kept is collected once
+abbrev three_calls : List (Command ℕ)
+three_calls = call 37 ∷ call 0 ∷ call 0 ∷ reply 2 50 ∷ turn 0 ∷ collect 1 ∷ collect 2 ∷ collect 3 ∷ collect 3 ∷ []
+
+a_stop_answers_some_and_closes_the_others : Runs table fresh three_calls
+    (posted 1 ∷ posted 2 ∷ posted 3 ∷ answer.Reply true
+    ∷ reported (record (replying 1 0 0 (tag_of 1 ∷ [])) {
+      done = Ended 9 7;
+      calls = Handle 1 (kind.Call (tag_of 1)) 0 ∷ Terminate 9 0 7 ∷ [];
+    })
+    ∷ collected_reply 40 ∷ collected_reply 50 ∷ answer.Collect (collected.Stopped 9) ∷ answer.Collect collected.Gone ∷ [])
+    (at_end (at_rest 0 7 0 4) 9 7)
+a_stop_answers_some_and_closes_the_others = runs_with_memory table fresh three_calls
+
+-- a request waits until it is answered; the second reply, from the same list or later, is not taken
+abbrev two_replies : List (Command ℕ)
+two_replies = call 39 ∷ collect 1 ∷ turn 0 ∷ reply 1 8 ∷ collect 1 ∷ collect 1 ∷ reply 1 9 ∷ []
+
+the_first_reply_counts : Runs table fresh two_replies
+    (posted 1 ∷ answer.Collect collected.Waiting ∷ reported (replying 1 0 0 (tag_of 1 ∷ [])) ∷ answer.Reply false ∷ collected_reply 50
+    ∷ answer.Collect collected.Gone ∷ answer.Reply false ∷ [])
+    (at_rest 0 7 0 2)
+the_first_reply_counts = runs_with_memory table fresh two_replies
+
+-- a tag that is that of a cast, one that was not given, one of another machine
+abbrev strays : List (Command ℕ)
+strays = cast 0 ∷ reply 1 5 ∷ reply 3 5 ∷ command.Reply foreign_tag 5 ∷ collect 1 ∷ command.Collect foreign_tag ∷ []
+
+strays_do_nothing : Runs table fresh strays
+    (posted 1 ∷ answer.Reply false ∷ answer.Reply false ∷ answer.Reply false ∷ answer.Collect collected.Gone ∷ answer.Collect collected.Gone ∷ [])
+    (with_items (at_rest 0 7 0 2) (Posted (cast_event 1 0) ∷ []) [])
+strays_do_nothing = runs_with_memory table fresh strays
+
+-- the replies of `handle` come before those of `enter`, also where the enter call stops
+abbrev both_reply : List (Command ℕ)
+both_reply = call 38 ∷ call 0 ∷ turn 0 ∷ collect 1 ∷ collect 2 ∷ []
+
+enter_replies_later : Runs (table_of 65) fresh both_reply
+    (posted 1 ∷ posted 2
+    ∷ reported (record (replying 1 0 1 (tag_of 2 ∷ tag_of 1 ∷ [])) { calls = Handle 1 (kind.Call (tag_of 1)) 0 ∷ Enter 0 1 ∷ [] })
+    ∷ collected_reply 62 ∷ collected_reply 52 ∷ [])
+    (with_items (at_rest 1 7 0 3) (Posted (record { number = 2; kind = kind.Call (tag_of 2); content = 0 }) ∷ []) [])
+enter_replies_later = runs_with_memory (table_of 65) fresh both_reply
+
+enter_stops_with_replies : Runs (table_of 71) fresh both_reply
+    (posted 1 ∷ posted 2
+    ∷ reported (record (replying 1 0 1 (tag_of 2 ∷ tag_of 1 ∷ [])) {
+      done = Ended 4 8;
+      calls = Handle 1 (kind.Call (tag_of 1)) 0 ∷ Enter 0 1 ∷ Terminate 4 1 8 ∷ [];
+    })
+    ∷ collected_reply 61 ∷ collected_reply 52 ∷ [])
+    (at_end (at_rest 1 8 0 3) 4 8)
+enter_stops_with_replies = runs_with_memory (table_of 71) fresh both_reply
+
+-- a stop from outside closes the request that is open, and keeps the reply that is there; it takes no memory
+abbrev calls_and_stop : List (Command ℕ)
+calls_and_stop = call 0 ∷ call 0 ∷ reply 1 6 ∷ command.Stop 5 ∷ reply 2 6 ∷ collect 2 ∷ collect 1 ∷ []
+
+a_stop_keeps_what_is_kept : Runs table fresh calls_and_stop
+    (posted 1 ∷ posted 2 ∷ answer.Reply true ∷ answer.Stop (Ok 7) ∷ answer.Reply false ∷ answer.Collect (collected.Stopped 5) ∷ collected_reply 6 ∷ [])
+    (at_end (at_rest 0 7 0 3) 5 7)
+a_stop_keeps_what_is_kept = runs_with_memory table fresh calls_and_stop
+
+a_reply_takes_no_memory : takes_memory (step_of table fresh (reply 1 6)).0 ≡ false
+a_reply_takes_no_memory = refl
+
+a_collect_takes_no_memory : takes_memory (step_of table fresh (collect 1)).0 ≡ false
+a_collect_takes_no_memory = refl
+
+-- ---- the accounting
+-- a postponed cast, one that inserts two and is postponed, a time-out: what is accepted and what is finished
+abbrev counted : List (Answer ℕ ℕ)
+counted = posted 1 ∷ posted 2 ∷ put_off 1 0 0 [] ∷ put_off 2 0 1 (3 ∷ 4 ∷ []) ∷ finished_as kind.Internal 3 1 1 ∷ answer.Tick (Ok 1) ∷ finished_as (kind.Timeout timer.State) 5 1 1 ∷ idle ∷ []
+
+accepted_numbers : accepted_in counted ≡ 1 ∷ 2 ∷ 1 ∷ 2 ∷ 3 ∷ 4 ∷ 3 ∷ 5 ∷ []
+accepted_numbers = refl
+
+finished_numbers : finished_in counted ≡ 3 ∷ 5 ∷ []
+finished_numbers = refl

@@ -1,7 +1,9 @@
 -- What a module's callbacks answer, and the callbacks that a transition makes.
-use Rattle.std.specs.Prelude.{ℕ, Bool, true, false, not, ◌&&◌, ◌||◌, Option, Some, None, List, [], ◌∷◌, ◌++◌, if◌then◌else◌}
+use Rattle.std.specs.Prelude.{ℕ, Bool, true, false, not, ◌&&◌, ◌||◌, Option, Some, None, List, [], ◌∷◌, ◌++◌, map, if◌then◌else◌}
 use Rattle.st_events.specs.declared.action.Action.{Action}
+use Rattle.st_events.specs.declared.action.Action.TheVariants.{Reply}
 use Rattle.st_events.specs.declared.enter_action.EnterAction.{EnterAction}
+use Rattle.st_events.specs.declared.enter_action.EnterAction.TheVariants as enter_action
 use Rattle.st_events.specs.declared.enter_outcome.EnterOutcome.{EnterOutcome}
 use Rattle.st_events.specs.declared.enter_outcome.EnterOutcome.TheVariants as enter
 use Rattle.st_events.specs.declared.kind.Kind.{Kind}
@@ -9,6 +11,7 @@ use Rattle.st_events.specs.declared.event.Event.{Event}
 use Rattle.st_events.specs.declared.outcome.Outcome.{Outcome}
 use Rattle.st_events.specs.declared.outcome.Outcome.TheVariants.{NextState, KeepState, KeepStateAndData, RepeatState, RepeatStateAndData, Stop, StopAndReply}
 use Rattle.st_events.specs.declared.module.Module.{Ghosts}
+use Rattle.st_events.specs.declared.tag.Tag.{Tag}
 use Rattle.st_actions.specs.Joined.{as_actions}
 use Rattle.st_core.specs.declared.call.Call.{Call}
 use Rattle.st_core.specs.declared.call.Call.TheVariants.{Handle, Enter}
@@ -36,6 +39,15 @@ callbacks_of bound same_state module_ = record {
 abbrev pub or_old : {D : Type 0} → D → Option D → D
 or_old old None = old
 or_old old (Some new) = new
+
+module _ {C : Type 0} where
+  -- the replies with which `handle` stops the machine, as actions
+  abbrev pub reply_actions : List (Tag × C) → List (Action C)
+  reply_actions replies = map (λ (reply : Tag × C). Reply reply.0 reply.1) replies
+
+  -- those with which `enter` does
+  abbrev pub enter_reply_actions : List (Tag × C) → List (EnterAction C)
+  enter_reply_actions replies = map (λ (reply : Tag × C). enter_action.Reply reply.0 reply.1) replies
 
 module _ {S D C : Type 0} where
   -- the state after an outcome: only `NextState` gives one
@@ -78,7 +90,7 @@ module _ {S D C : Type 0} where
   repeats_state (Stop reason held) = false
   repeats_state (StopAndReply reason replies held) = false
 
-  -- the actions of an outcome; one that stops has none
+  -- the actions of an outcome; one that stops has the replies alone with which it stops
   abbrev pub actions_of : Outcome S D C → List (Action C)
   actions_of (NextState state held actions) = actions
   actions_of (KeepState held actions) = actions
@@ -86,7 +98,7 @@ module _ {S D C : Type 0} where
   actions_of (RepeatState held actions) = actions
   actions_of (RepeatStateAndData actions) = actions
   actions_of (Stop reason held) = []
-  actions_of (StopAndReply reason replies held) = []
+  actions_of (StopAndReply reason replies held) = reply_actions replies
 
   -- the reason for which an outcome stops the machine, if it does
   abbrev pub reason_of : Outcome S D C → Option ℕ
@@ -106,12 +118,12 @@ module _ {D C : Type 0} where
   entered_data old (enter.Stop reason held) = or_old old held
   entered_data old (enter.StopAndReply reason replies held) = or_old old held
 
-  -- the actions of an enter call; one that stops has none
+  -- the actions of an enter call; one that stops has the replies alone with which it stops
   abbrev pub entered_actions : EnterOutcome D C → List (EnterAction C)
   entered_actions (enter.KeepState held actions) = actions
   entered_actions (enter.KeepStateAndData actions) = actions
   entered_actions (enter.Stop reason held) = []
-  entered_actions (enter.StopAndReply reason replies held) = []
+  entered_actions (enter.StopAndReply reason replies held) = enter_reply_actions replies
 
   -- the reason for which an enter call stops the machine, if it does
   abbrev pub entered_reason : EnterOutcome D C → Option ℕ

@@ -7,6 +7,9 @@ pub mod Prepared
 pub mod Transition
 pub mod Post
 pub mod Tick
+pub mod Replies
 pub mod Start
 pub mod Run
+pub mod Lawful
+pub mod Accounting
 pub mod WorkedTable

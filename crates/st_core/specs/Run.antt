@@ -1,5 +1,6 @@
 -- A list of commands, from the machine before it to the machine after it.
 use Rattle.std.specs.Prelude.{◌≡◌, ℕ, ◌⊎◌, Bool, true, false, List, [], ◌∷◌, Result, Ok, Err}
+use Rattle.st_requests.specs.declared.collected.Collected.TheVariants.{Gone}
 use Rattle.st_events.specs.declared.refused.Refused.{Refused}
 use Rattle.st_events.specs.declared.refusal.Refusal.{Refusal}
 use Rattle.st_events.specs.declared.refusal.Refusal.TheVariants.{NoMemory}
@@ -15,6 +16,7 @@ use Rattle.st_core.specs.Transition.{turn_of, comes_after_callbacks}
 use Rattle.st_core.specs.Stop.{stop_of}
 use Rattle.st_core.specs.Tick.{tick_of, tick_takes_memory}
 use Rattle.st_core.specs.Post.{post_of}
+use Rattle.st_core.specs.Replies.{reply_to, collect_of}
 
 -- a turn takes memory where there is an event to handle, also where too few numbers are left
 abbrev pub turn_takes_memory : {S : Type 0} → Result (Turned S) Refusal → Bool
@@ -45,13 +47,17 @@ module _ {S C : Type 0} where
   takes_memory (answer.Post posted) = post_takes_memory posted
   takes_memory (answer.Tick ticked) = tick_takes_memory ticked
   takes_memory (answer.Turn turned) = turn_takes_memory turned
+  takes_memory (answer.Reply taken) = false
+  takes_memory (answer.Collect collected) = false
   takes_memory (answer.Stop stopped) = false
 
-  -- what a command answers that found no memory
+  -- what a command answers that found no memory; of one that takes none it is never said
   abbrev pub without_memory : Command C → Answer S C
   without_memory (command.Post entry content) = answer.Post (post_without_memory content)
   without_memory (command.Tick now) = answer.Tick tick_without_memory
   without_memory (command.Turn now) = answer.Turn turn_without_memory
+  without_memory (command.Reply tag content) = answer.Reply false
+  without_memory (command.Collect tag) = answer.Collect Gone
   without_memory (command.Stop reason) = answer.Stop (Err NoMemory)
 
 -- the answer and the machine after are those of the definition; or the definition's answer takes
@@ -70,6 +76,10 @@ module _ {S D C : Type 0} where
       (answer.Tick (tick_of machine now).0, (tick_of machine now).1)
   step_of callbacks machine (command.Turn now) =
       (answer.Turn (turn_of callbacks machine now).0, (turn_of callbacks machine now).1)
+  step_of callbacks machine (command.Reply tag content) =
+      (answer.Reply (reply_to machine tag content).0, (reply_to machine tag content).1)
+  step_of callbacks machine (command.Collect tag) =
+      (answer.Collect (collect_of machine tag).0, (collect_of machine tag).1)
   step_of callbacks machine (command.Stop reason) =
       (answer.Stop (stop_of callbacks machine reason).0, (stop_of callbacks machine reason).1)
 

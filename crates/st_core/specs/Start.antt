@@ -24,7 +24,7 @@ use Rattle.st_core.specs.Stop.{with_ended}
 use Rattle.st_core.specs.Transition.{has_numbers, inserted_by, times_of, comes_after_callbacks}
 
 -- what a start reports: no event, how it ended, the calls after `init`'s, `init`'s state before and after,
--- what was inserted, and the timers that were set
+-- what was inserted, and the timers that were set; no request is open yet, so that no reply was taken
 abbrev pub start_report_of : {S : Type 0} → Done → List (Call S) → S → List ℕ → List (Timer × Time) → Report S
 start_report_of done calls state inserted set = record {
   event = None;
@@ -44,6 +44,7 @@ first_state id state held now first = record {
   state = state;
   «data» = held;
   schedule = record { pending = []; postponed = []; running = []; next = first };
+  requests = [];
   latest = now;
   ended = None;
 }

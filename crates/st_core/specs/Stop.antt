@@ -2,14 +2,17 @@
 use Rattle.std.specs.Prelude.{ℕ, Option, Some, None, Result, Ok, Err, []}
 use Rattle.st_events.specs.declared.refusal.Refusal.{Refusal}
 use Rattle.st_events.specs.declared.refusal.Refusal.TheVariants.{Stopped}
+use Rattle.st_requests.specs.Requests.{closed_by}
 use Rattle.st_core.specs.MachineState.{MachineState}
 use Rattle.st_core.specs.Callbacks.{Callbacks}
 
 module _ {S D C : Type 0} where
-  -- the machine has ended: nothing waits any more, no time-out runs, and the reason and the word stay
+  -- the machine has ended: nothing waits any more, no time-out runs, the requests that are open are closed
+  -- for the reason, and the reason and the word stay; what is kept to be collected stays too
   abbrev pub with_ended : MachineState S D C → ℕ → ℕ → MachineState S D C
   with_ended machine reason word = record machine {
     schedule = record machine.schedule { pending = []; postponed = []; running = [] };
+    requests = closed_by reason machine.requests;
     ended = Some (reason, word);
   }
 

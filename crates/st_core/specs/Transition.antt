@@ -5,9 +5,11 @@ use Rattle.st_events.specs.declared.event.Event.{Event}
 use Rattle.st_events.specs.declared.refusal.Refusal.{Refusal}
 use Rattle.st_events.specs.declared.refusal.Refusal.TheVariants.{Exhausted, Moment}
 use Rattle.st_events.specs.declared.setting.Setting.{Setting}
+use Rattle.st_events.specs.declared.tag.Tag.{Tag}
 use Rattle.st_events.specs.declared.time.Time.{Time}
 use Rattle.st_events.specs.declared.timer.Timer.{Timer}
-use Rattle.st_actions.specs.Plan.{inserts_of, postpone_of, requests_of, plan_of}
+use Rattle.st_actions.specs.Plan.{replies_of, inserts_of, postpone_of, requests_of, plan_of}
+use Rattle.st_requests.specs.Requests.{with_answers, taken_by}
 use Rattle.st_agenda.specs.Agenda.{settled_in}
 use Rattle.st_agenda.specs.Items.{numbered, numbers_of}
 use Rattle.st_core.specs.declared.call.Call.TheVariants.{Terminate}
@@ -40,9 +42,18 @@ module _ {S D C : Type 0} where
   abbrev pub with_moment : MachineState S D C → ℕ → MachineState S D C
   with_moment machine now = record machine { latest = max machine.latest now }
 
-  -- the new state and data stand
+  -- the new state and data stand, and the replies are sent, in their order: each answers its request, if
+  -- that is open
   abbrev pub with_called : MachineState S D C → Called S D C → MachineState S D C
-  with_called machine called = record machine { state = called.state; «data» = called.data }
+  with_called machine called = record machine {
+    state = called.state;
+    «data» = called.data;
+    requests = with_answers machine.requests (replies_of called.actions);
+  }
+
+  -- the tags of the requests that these replies answer, in their order
+  abbrev pub replied_by : MachineState S D C → List (Action C) → List Tag
+  replied_by machine actions = taken_by machine.requests (replies_of actions)
 
   -- what becomes of what waits and what runs, in the manual's order: the event is received, and the
   -- event time-out cancelled; by the actions the event is postponed or finished; at a state change none
@@ -69,7 +80,7 @@ module _ {S D C : Type 0} where
     calls = called.calls;
     before = machine.state;
     after = called.state;
-    replied = [];
+    replied = replied_by machine called.actions;
     inserted = inserted_by machine called.actions;
     set = times_of (requests_of called.actions);
   }
@@ -82,7 +93,7 @@ module _ {S D C : Type 0} where
     calls = called.calls ++ Terminate reason called.state word ∷ [];
     before = machine.state;
     after = called.state;
-    replied = [];
+    replied = replied_by machine called.actions;
     inserted = [];
     set = [];
   }

@@ -19,6 +19,14 @@ use Rattle.st_events.specs.declared.timer.Timer.TheVariants as timer
 abbrev pub first_tag : Tag
 first_tag = record { machine = record { slot = 0; serial = 1 }; request = 1 }
 
+-- another request to the same machine
+abbrev pub second_tag : Tag
+second_tag = record { machine = record { slot = 0; serial = 1 }; request = 2 }
+
+-- a request to another machine
+abbrev pub foreign_tag : Tag
+foreign_tag = record { machine = record { slot = 0; serial = 2 }; request = 1 }
+
 -- five actions, one more than a list holds without memory
 abbrev pub five_actions : List (Action ℕ)
 five_actions = Hibernate ∷ Hibernate ∷ Hibernate ∷ Hibernate ∷ Hibernate ∷ []
@@ -26,6 +34,15 @@ five_actions = Hibernate ∷ Hibernate ∷ Hibernate ∷ Hibernate ∷ Hibernate
 -- two events are inserted, which the table keeps
 abbrev pub two_inserts : List (Action ℕ)
 two_inserts = NextEvent Internal 20 ∷ NextEvent Cast 21 ∷ []
+
+-- what `handle` answers to the contents that reply
+abbrev pub handled_by_replying : ℕ → ℕ → Outcome ℕ ℕ ℕ
+handled_by_replying content held =
+    if content == 37 then StopAndReply 9 ((first_tag, 40) ∷ (second_tag, 51) ∷ []) None
+    else (if content == 38 then NextState 1 held (Reply second_tag 52 ∷ [])
+    else (if content == 39 then KeepStateAndData (Reply first_tag 50 ∷ Reply first_tag 51 ∷ [])
+    else (if content == 40 then KeepStateAndData (Reply foreign_tag 53 ∷ [])
+    else KeepStateAndData [])))
 
 -- what `handle` answers to the contents that have a state entered
 abbrev pub handled_by_entering : ℕ → ℕ → Outcome ℕ ℕ ℕ
@@ -35,7 +52,7 @@ handled_by_entering content held =
     else (if content == 34 then NextState 2 9 []
     else (if content == 35 then NextState 1 held (Postpone true ∷ Set (timer.Named 1) (After 5) 0 ∷ Set timer.State (After 10) 0 ∷ Set (timer.Named 2) (After 5) 0 ∷ [])
     else (if content == 36 then RepeatStateAndData (Postpone true ∷ [])
-    else KeepStateAndData []))))
+    else handled_by_replying content held))))
 
 -- what `handle` answers to the contents that set timers
 abbrev pub handled_by_setting : ℕ → ℕ → Outcome ℕ ℕ ℕ
@@ -100,7 +117,8 @@ changed_by_table number old held =
     if number == 61 then enter.KeepState (if old == 0 then 31 else 32) []
     else (if number == 71 then enter.StopAndReply 4 ((first_tag, 61) ∷ []) (Some 8)
     else (if number == 72 then enter.Stop 4 None
-    else enter.KeepStateAndData []))
+    else (if number == 65 then enter.KeepStateAndData (enter_action.Reply first_tag 62 ∷ [])
+    else enter.KeepStateAndData [])))
 
 -- what `enter` of the module with this number answers, for the old state and the new, with data
 abbrev pub entered_by_table : ℕ → ℕ → ℕ → ℕ → EnterOutcome ℕ ℕ

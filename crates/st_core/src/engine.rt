@@ -2,9 +2,11 @@
 ghost use Rattle.std.specs.Prelude.{◌≡◌, ◌<◌, ◌^◌, IfOk, IfErr};
 ghost use Rattle.st_events.specs.declared.refusal.Refusal.TheVariants.{NoMemory};
 ghost use Rattle.st_core.specs.Choice.{is_ready_of, waiting_of, timers_of};
+ghost use Rattle.st_core.specs.Lawful.{IsLawful};
 
 use st_agenda::Agenda;
 use st_events::{MachineId, Module, PlainList, Reason, Refusal, Timer};
+use st_requests::Requests;
 use st_timeouts::Due;
 use std::alloc::Global;
 use std::marker::Model;
@@ -12,10 +14,11 @@ use std::marker::Model;
 /// The first moment that is refused, in milliseconds, and the first number that no event gets.
 pub(crate) const LIMIT: u64 = 1 << 63;
 
-/// One machine: a callback module with its state, its data, the events that wait and the time-outs that
-/// run.
+/// One machine: a callback module with its state, its data, the events that wait, the time-outs that run
+/// and the requests that are open or kept.
 ///
-/// Contracts see the module and the machine state, a plain value with a list of events and expiries.
+/// Contracts see the module and the machine state, a plain value with a list of events and expiries. It is
+/// always lawful: one that can come about.
 ///
 /// Manual: the introduction, on the state, the data and the event queue.
 #[derive(Drop)]
@@ -26,13 +29,14 @@ pub struct Core<M: Module> {
     pub(crate) state: M::State,
     pub(crate) data: M::Data,
     pub(crate) agenda: Agenda<M::Content>,
+    pub(crate) requests: Requests<M::Content>,
     pub(crate) latest: u64,
     // The reason and the last word, once the machine has ended.
     pub(crate) ended: Option<(Reason, u32)>,
 }
 
 impl<M: Module> Model for Core<M> {
-    ghost use Rattle.std.specs.Prelude.{◌<◌, ◌^◌};
+    ghost use Rattle.st_core.specs.Lawful.{IsLawfulOf};
     ghost use Rattle.st_core.specs.MachineState.{Machine};
 
     ghost Value = { Machine M M.State M.Data M.Content };
@@ -44,15 +48,27 @@ impl<M: Module> Model for Core<M> {
         state = core.state;
         «data» = core.data;
         schedule = core.agenda.schedule;
+        requests = core.requests;
         latest = core.latest;
         ended = core.ended;
       };
     } };
 
-    ghost invariant = { λ core. core.latest < 2 ^ 63 };
+    ghost invariant = { λ core. IsLawfulOf core.id core.agenda.schedule core.requests core.latest core.ended };
 }
 
 impl<M: Module> Core<M> {
+    /// A law, which does nothing: each machine is lawful. What was received stands first, and of it what is
+    /// postponed; no timer runs twice; each number stands once among what waits and what runs; each request
+    /// is the machine's own; and once it has ended, nothing waits or runs, and no request is open.
+    ///
+    /// Ours: docs/TRANSITIONS.md, Lawful machines.
+    pub fn is_always_lawful(&self)
+        ensures { IsLawful self.now.machine }
+    {
+        let _ = &self.alloc;
+    }
+
     /// Says whether the machine has not ended and there is an event that a turn would handle.
     ///
     /// Ours: docs/TRANSITIONS.md, Next event.

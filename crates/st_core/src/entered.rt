@@ -1,13 +1,18 @@
 //! What an outcome of `enter` says.
-ghost use Rattle.std.specs.Prelude.{◌≡◌};
+ghost use Rattle.std.specs.Prelude.{◌≡◌, ◌++◌, List, IfOk};
 ghost use Rattle.std.specs.Mem.{FitsInMemory};
 ghost use Rattle.st_events.specs.contracts.enter_outcome.EnterOutcome.{the_row as enter_outcome_row};
-ghost use Rattle.st_events.specs.Rows.{RepliesFit};
+ghost use Rattle.st_events.specs.declared.action.Action.{Action};
+ghost use Rattle.st_events.specs.Rows.{EnterActionsFit, RepliesFit, InsertsFit, SettingsFit, PlannedFits};
+ghost use Rattle.st_actions.specs.Joined.{as_actions};
+ghost use Rattle.st_actions.specs.Plan.{plan_of};
 ghost use Rattle.st_core.specs.Callbacks.{entered_data, entered_actions, entered_reason, or_old};
 
-use st_events::{EnterActions, EnterOutcome, Reason};
-use std::alloc::Global;
-use std::mem;
+use crate::new_data::replace_given;
+use crate::planning::{join_plans, plan_both, replies_alone};
+use st_actions::Planned;
+use st_events::{EnterOutcome, Reason};
+use std::alloc::{AllocError, Global};
 
 /// Why an enter call stops the machine, if it does.
 pub(crate) fn entered_reason<D, C>(outcome: &EnterOutcome<D, C>) -> Option<Reason>
@@ -20,31 +25,37 @@ pub(crate) fn entered_reason<D, C>(outcome: &EnterOutcome<D, C>) -> Option<Reaso
     }
 }
 
-/// Takes the actions out of an enter call's outcome, which keeps all else.
-pub(crate) fn take_entered_actions<D: Drop, C: Drop>(
+/// What actions and those of an enter call after them ask for, as one list; where the enter call stops the
+/// machine, it is the replies with which it does that follow. The new data come in the place of those that
+/// were given, where there are some.
+pub(crate) fn plan_entered<D: Drop, C: Drop>(
     alloc: Global,
-    outcome: &mut EnterOutcome<D, C>,
-) -> EnterActions<C>
-    ensures actions { result ≡ entered_actions outcome.old }
-    ensures kept { (held : D) → entered_data held outcome.new ≡ entered_data held outcome.old }
-{
-    match outcome {
-        EnterOutcome::KeepState(_, actions) => mem::replace(actions, EnterActions::new(alloc)),
-        EnterOutcome::KeepStateAndData(actions) => mem::replace(actions, EnterActions::new(alloc)),
-        EnterOutcome::Stop(..) | EnterOutcome::StopAndReply(..) => EnterActions::new(alloc),
-    }
-}
-
-/// The new data of an enter call's outcome, where there are some.
-pub(crate) fn new_entered_data<D: Drop, C: Drop>(outcome: EnterOutcome<D, C>) -> Option<D>
+    first: Planned<C>,
+    outcome: EnterOutcome<D, C>,
+    data: &mut Option<D>,
+) -> Result<Planned<C>, AllocError>
     requires outcome_fits { FitsInMemory (enter_outcome_row D.row C.row) }
+    requires actions_fit { EnterActionsFit C.row }
     requires replies_fit { RepliesFit C.row }
-    ensures { (held : D) → or_old held result ≡ entered_data held outcome }
+    requires inserts_fit { InsertsFit C.row }
+    requires settings_fit { SettingsFit C.row }
+    requires planned_fits { PlannedFits C.row }
+    ensures planned { (actions : List (Action C)) → first ≡ plan_of actions → IfOk result (λ planned. planned ≡ plan_of (actions ++ as_actions (entered_actions outcome))) }
+    ensures new_data { (held : D) → or_old held «data».new ≡ entered_data (or_old held «data».old) outcome }
 {
     match outcome {
-        EnterOutcome::KeepState(new, _actions) => Some(new),
-        EnterOutcome::KeepStateAndData(_actions) => None,
-        EnterOutcome::Stop(_reason, new) => new,
-        EnterOutcome::StopAndReply(_reason, _replies, new) => new,
+        EnterOutcome::KeepState(new, actions) => {
+            *data = Some(new);
+            plan_both(alloc, first, actions)
+        }
+        EnterOutcome::KeepStateAndData(actions) => plan_both(alloc, first, actions),
+        EnterOutcome::Stop(_reason, new) => {
+            replace_given(data, new);
+            Ok(first)
+        }
+        EnterOutcome::StopAndReply(_reason, replies, new) => {
+            replace_given(data, new);
+            join_plans(alloc, first, replies_alone(alloc, replies))
+        }
     }
 }

@@ -2,9 +2,10 @@
 
 /// The way in which an event is posted.
 ///
-/// Manual: `cast/2`, and messages from elsewhere, which are `info`.
+/// Manual: `call/2`, `cast/2`, and messages from elsewhere, which are `info`.
 #[derive(Clone, Copy, Debug, PartialEq, Eq)]
 pub enum Entry {
+    Call,
     Cast,
     Info,
 }

@@ -1,13 +1,16 @@
 //! What an outcome of `handle` says.
-ghost use Rattle.std.specs.Prelude.{◌≡◌};
+ghost use Rattle.std.specs.Prelude.{◌≡◌, IfOk};
 ghost use Rattle.std.specs.Mem.{FitsInMemory};
 ghost use Rattle.st_events.specs.contracts.outcome.Outcome.{the_row as outcome_row};
-ghost use Rattle.st_events.specs.Rows.{RepliesFit};
+ghost use Rattle.st_events.specs.Rows.{ActionsFit, RepliesFit, InsertsFit, SettingsFit, PlannedFits};
+ghost use Rattle.st_actions.specs.Plan.{plan_of};
 ghost use Rattle.st_core.specs.Callbacks.{state_after, data_after, changes_state, repeats_state, actions_of, reason_of, or_old};
 
-use st_events::{Actions, Outcome, Reason};
-use std::alloc::Global;
-use std::mem;
+use crate::new_data::replace_given;
+use crate::planning::{plan_actions, replies_alone};
+use st_actions::Planned;
+use st_events::{Outcome, Reason, Replies};
+use std::alloc::{AllocError, Global};
 
 /// The state after an outcome.
 pub(crate) fn state_after<S: Copy, D, C>(old: S, outcome: &Outcome<S, D, C>) -> S
@@ -67,37 +70,44 @@ pub(crate) fn reason_of<S, D, C>(outcome: &Outcome<S, D, C>) -> Option<Reason>
     }
 }
 
-/// Takes the actions out of an outcome, which keeps all else.
-pub(crate) fn take_actions<S: Drop, D: Drop, C: Drop>(
+/// What the actions of an outcome ask for, or, where it stops the machine, the replies with which it does.
+/// The new data come in the place of those that were given, where there are some.
+pub(crate) fn plan_outcome<S: Drop, D: Drop, C: Drop>(
     alloc: Global,
-    outcome: &mut Outcome<S, D, C>,
-) -> Actions<C>
-    ensures actions { result ≡ actions_of outcome.old }
-    ensures kept { (held : D) → data_after held outcome.new ≡ data_after held outcome.old }
-{
-    match outcome {
-        Outcome::NextState(_, _, actions) => mem::replace(actions, Actions::new(alloc)),
-        Outcome::KeepState(_, actions) => mem::replace(actions, Actions::new(alloc)),
-        Outcome::KeepStateAndData(actions) => mem::replace(actions, Actions::new(alloc)),
-        Outcome::RepeatState(_, actions) => mem::replace(actions, Actions::new(alloc)),
-        Outcome::RepeatStateAndData(actions) => mem::replace(actions, Actions::new(alloc)),
-        Outcome::Stop(..) | Outcome::StopAndReply(..) => Actions::new(alloc),
-    }
-}
-
-/// The new data of an outcome, where there are some.
-pub(crate) fn new_data<S: Drop, D: Drop, C: Drop>(outcome: Outcome<S, D, C>) -> Option<D>
+    outcome: Outcome<S, D, C>,
+    data: &mut Option<D>,
+) -> Result<Planned<C>, AllocError>
     requires outcome_fits { FitsInMemory (outcome_row S.row D.row C.row) }
+    requires actions_fit { ActionsFit C.row }
     requires replies_fit { RepliesFit C.row }
-    ensures { (held : D) → or_old held result ≡ data_after held outcome }
+    requires inserts_fit { InsertsFit C.row }
+    requires settings_fit { SettingsFit C.row }
+    requires planned_fits { PlannedFits C.row }
+    ensures planned { IfOk result (λ planned. planned ≡ plan_of (actions_of outcome)) }
+    ensures new_data { (held : D) → or_old held «data».new ≡ data_after (or_old held «data».old) outcome }
 {
     match outcome {
-        Outcome::NextState(_state, new, _actions) => Some(new),
-        Outcome::KeepState(new, _actions) => Some(new),
-        Outcome::KeepStateAndData(_actions) => None,
-        Outcome::RepeatState(new, _actions) => Some(new),
-        Outcome::RepeatStateAndData(_actions) => None,
-        Outcome::Stop(_reason, new) => new,
-        Outcome::StopAndReply(_reason, _replies, new) => new,
+        Outcome::NextState(_state, new, actions) => {
+            *data = Some(new);
+            plan_actions(alloc, actions)
+        }
+        Outcome::KeepState(new, actions) => {
+            *data = Some(new);
+            plan_actions(alloc, actions)
+        }
+        Outcome::KeepStateAndData(actions) => plan_actions(alloc, actions),
+        Outcome::RepeatState(new, actions) => {
+            *data = Some(new);
+            plan_actions(alloc, actions)
+        }
+        Outcome::RepeatStateAndData(actions) => plan_actions(alloc, actions),
+        Outcome::Stop(_reason, new) => {
+            replace_given(data, new);
+            Ok(replies_alone(alloc, Replies::new(alloc)))
+        }
+        Outcome::StopAndReply(_reason, replies, new) => {
+            replace_given(data, new);
+            Ok(replies_alone(alloc, replies))
+        }
     }
 }

@@ -1,32 +1,75 @@
 //! What the actions of an event and of the enter call after it ask for.
-ghost use Rattle.std.specs.Prelude.{◌≡◌, ◌++◌, IfOk};
-ghost use Rattle.st_events.specs.Rows.{ActionsFit, EnterActionsFit, RepliesFit, InsertsFit, SettingsFit};
-ghost use Rattle.st_actions.specs.Joined.{as_actions};
+ghost use Rattle.std.specs.Prelude.{◌≡◌, ◌++◌, List, IfOk};
+ghost use Rattle.st_events.specs.Rows.{ActionsFit, EnterActionsFit, RepliesFit, InsertsFit, SettingsFit, PlannedFits};
+ghost use Rattle.st_events.specs.declared.action.Action.{Action};
+ghost use Rattle.st_actions.specs.Joined.{as_actions, joined_of};
 ghost use Rattle.st_actions.specs.Plan.{plan_of};
+ghost use Rattle.st_core.specs.Callbacks.{reply_actions};
 
 use st_actions::{Planned, join, plan, plan_enter};
-use st_events::{Actions, EnterActions};
+use st_events::{Actions, EnterActions, Inserts, Replies, Settings};
 use std::alloc::{AllocError, Global};
 
-/// What actions and those of an enter call after them ask for, as one list.
-pub(crate) fn plan_both<C: Drop>(
+/// What actions ask for.
+pub(crate) fn plan_actions<C: Drop>(
     alloc: Global,
     actions: Actions<C>,
-    later: EnterActions<C>,
 ) -> Result<Planned<C>, AllocError>
     requires actions_fit { ActionsFit C.row }
-    requires enter_actions_fit { EnterActionsFit C.row }
     requires replies_fit { RepliesFit C.row }
     requires inserts_fit { InsertsFit C.row }
     requires settings_fit { SettingsFit C.row }
-    ensures { IfOk result (λ planned. planned ≡ plan_of (actions ++ as_actions later)) }
+    ensures { IfOk result (λ planned. planned ≡ plan_of actions) }
 {
-    let Ok(first) = plan(alloc, actions) else {
-        return Err(AllocError);
-    };
+    match plan(alloc, actions) {
+        Ok(planned) => Ok(planned),
+        Err(_) => Err(AllocError),
+    }
+}
+
+/// What replies alone ask for. It takes no memory.
+pub(crate) fn replies_alone<C: Drop>(alloc: Global, replies: Replies<C>) -> Planned<C>
+    requires replies_fit { RepliesFit C.row }
+    requires planned_fits { PlannedFits C.row }
+    ensures { result ≡ plan_of (reply_actions replies) }
+{
+    Planned {
+        replies,
+        postpone: false,
+        inserts: Inserts::new(alloc),
+        requests: Settings::new(alloc),
+    }
+}
+
+/// What is asked for and then, by an enter call's actions, as by one list.
+pub(crate) fn plan_both<C: Drop>(
+    alloc: Global,
+    first: Planned<C>,
+    later: EnterActions<C>,
+) -> Result<Planned<C>, AllocError>
+    requires actions_fit { EnterActionsFit C.row }
+    requires replies_fit { RepliesFit C.row }
+    requires inserts_fit { InsertsFit C.row }
+    requires settings_fit { SettingsFit C.row }
+    ensures { (actions : List (Action C)) → first ≡ plan_of actions → IfOk result (λ planned. planned ≡ plan_of (actions ++ as_actions later)) }
+{
     let Ok(second) = plan_enter(alloc, later) else {
         return Err(AllocError);
     };
+    join_plans(alloc, first, second)
+}
+
+/// What is asked for by two lists, one after the other.
+pub(crate) fn join_plans<C: Drop>(
+    alloc: Global,
+    first: Planned<C>,
+    second: Planned<C>,
+) -> Result<Planned<C>, AllocError>
+    requires replies_fit { RepliesFit C.row }
+    requires inserts_fit { InsertsFit C.row }
+    requires settings_fit { SettingsFit C.row }
+    ensures { IfOk result (λ planned. planned ≡ joined_of first second) }
+{
     match join(alloc, first, second) {
         Ok(planned) => Ok(planned),
         Err(_) => Err(AllocError),

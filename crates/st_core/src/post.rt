@@ -1,17 +1,22 @@
 //! An event comes from outside.
-ghost use Rattle.std.specs.Prelude.{◌≡◌, OnErr};
-ghost use Rattle.st_core.specs.Post.{post_of, kind_of};
+ghost use Rattle.std.specs.Prelude.{◌≡◌, List, None, OnOk, OnErr};
+ghost use Rattle.st_requests.specs.declared.request.Request.{Request};
+ghost use Rattle.st_requests.specs.Requests.{held_for};
+ghost use Rattle.st_core.specs.Post.{post_of, kind_of, opened_by};
 ghost use Rattle.st_core.specs.Run.{Meets, post_takes_memory, post_without_memory};
 
 use crate::engine::LIMIT;
 use crate::{Core, Entry};
-use st_events::{Kind, Module, Refusal, Refused};
+use st_events::{Kind, Module, Refusal, Refused, Tag};
+use st_requests::Requests;
+use std::alloc::AllocError;
 
-/// The kind of an event that is posted so.
-fn kind_of(entry: Entry) -> Kind
-    ensures { result ≡ kind_of entry }
+/// The kind of an event that is posted so, and whose request, if it is a call, has this tag.
+fn kind_of(tag: Tag, entry: Entry) -> Kind
+    ensures { result ≡ kind_of tag entry }
 {
     match entry {
+        Entry::Call => Kind::Call(tag),
         Entry::Cast => Kind::Cast,
         Entry::Info => Kind::Info,
     }
@@ -24,14 +29,38 @@ fn refused<C>(refusal: Refusal, value: C) -> Refused<C>
     Refused { refusal, value }
 }
 
+/// Opens the request of an event that is posted so: of a call there is one.
+fn open<C: Drop>(requests: &mut Requests<C>, tag: Tag, entry: Entry) -> Result<(), AllocError>
+    requires { held_for requests.old tag ≡ None }
+    ensures opened { OnOk result (requests.new ≡ opened_by tag entry requests.old) }
+
+    ensures unchanged { OnErr result (requests.new ≡ requests.old) }
+{
+    match entry {
+        Entry::Call => requests.open(tag),
+        Entry::Cast | Entry::Info => Ok(()),
+    }
+}
+
+/// Takes the request back that was opened so.
+fn withdraw<C: Drop>(requests: &mut Requests<C>, tag: Tag, entry: Entry)
+    ensures { (earlier : List (Request C)) → held_for earlier tag ≡ None → requests.old ≡ opened_by tag entry earlier → requests.new ≡ earlier }
+{
+    match entry {
+        Entry::Call => requests.withdraw(tag),
+        Entry::Cast | Entry::Info => {}
+    }
+}
+
 impl<M: Module> Core<M> {
     /// Hands the machine an event from outside, and answers the event's number. The event waits
-    /// behind all others.
+    /// behind all others. A call opens a request, whose tag is the machine's id and that number: `collect`
+    /// hands its reply out.
     ///
     /// Refused with `Stopped` once the machine has ended, with `Exhausted` where no number is left, and
     /// with `NoMemory` where memory is wanted. A refusal changes nothing and gives the content back.
     ///
-    /// Manual: `cast/2`, `event_type()`.
+    /// Manual: `call/2`, `send_request/2`, `cast/2`, `event_type()`.
     pub fn post(&mut self, entry: Entry, content: M::Content) -> Result<u64, Refused<M::Content>>
         ensures step { Meets post_takes_memory (post_without_memory content) result self.old.machine self.new.machine (post_of self.old.machine entry content) }
         ensures unchanged_module { self.new.module_ ≡ self.old.module_ }
@@ -41,12 +70,23 @@ impl<M: Module> Core<M> {
         if let Some((reason, _)) = self.ended {
             return Err(refused(Refusal::Stopped(reason), content));
         }
-        if self.agenda.next() >= LIMIT {
+        let number = self.agenda.next();
+        if number >= LIMIT {
             return Err(refused(Refusal::Exhausted, content));
         }
-        match self.agenda.push(kind_of(entry), content) {
+        let tag = Tag {
+            machine: self.id,
+            request: number,
+        };
+        if open(&mut self.requests, tag, entry).is_err() {
+            return Err(refused(Refusal::NoMemory, content));
+        }
+        match self.agenda.push(kind_of(tag, entry), content) {
             Ok(number) => Ok(number),
-            Err(failed) => Err(refused(Refusal::NoMemory, failed.value)),
+            Err(failed) => {
+                withdraw(&mut self.requests, tag, entry);
+                Err(refused(Refusal::NoMemory, failed.value))
+            }
         }
     }
 }

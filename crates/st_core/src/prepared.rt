@@ -1,5 +1,5 @@
 //! What a transition needs before it changes anything: numbers and memory.
-ghost use Rattle.std.specs.Prelude.{◌≡◌, ◌⊎◌, ◌+◌, ◌≤◌, true, false, length, IfOk, IfErr, OnOk};
+ghost use Rattle.std.specs.Prelude.{◌≡◌, ◌⊎◌, ◌+◌, ◌≤◌, [], true, false, length, vec_capacity, IfOk, IfErr, OnOk};
 ghost use Rattle.st_events.specs.declared.refusal.Refusal.TheVariants.{NoMemory, Exhausted};
 ghost use Rattle.st_agenda.specs.Items.{numbered, numbers_of};
 ghost use Rattle.st_core.specs.Prepared.{has_numbers_for};
@@ -9,12 +9,14 @@ use crate::numbers::numbers_from;
 use crate::settings::{has_numbers, times_of};
 use st_actions::Planned;
 use st_agenda::Agenda;
-use st_events::{PlainList, Refusal, Time, Timer};
+use st_events::{PlainList, Refusal, Tag, Time, Timer};
 use std::alloc::Global;
 
-/// What a report says of the events that are inserted and of the timers that are set.
+/// What a report says of the events that are inserted and of the timers that are set, and room for the tags
+/// of the replies that are taken.
 #[derive(Drop)]
 pub(crate) struct Prepared {
+    pub(crate) replied: Vec<Tag>,
     pub(crate) inserted: PlainList<u64>,
     pub(crate) set: PlainList<(Timer, Time)>,
 }
@@ -27,6 +29,8 @@ pub(crate) fn prepare<C: Drop>(
     planned: &Planned<C>,
 ) -> Result<Prepared, Refusal>
     ensures numbers { IfOk result (λ prepared. has_numbers_for agenda.old.schedule.next planned.now ≡ true) }
+    ensures replied { IfOk result (λ prepared. prepared.replied.items ≡ []) }
+    ensures replies { IfOk result (λ prepared. length planned.now.replies ≤ vec_capacity prepared.replied) }
     ensures inserted { IfOk result (λ prepared. prepared.inserted ≡ numbers_of (numbered agenda.old.schedule.next planned.now.inserts)) }
     ensures set { IfOk result (λ prepared. prepared.set ≡ times_of planned.now.requests) }
     ensures staged { OnOk result (length planned.now.inserts + 1 ≤ agenda.new.staged) }
@@ -40,6 +44,9 @@ pub(crate) fn prepare<C: Drop>(
     if !has_numbers(agenda.next(), inserts, &planned.requests) {
         return Err(Refusal::Exhausted);
     }
+    let Ok(replied) = Vec::with_capacity(alloc, planned.replies.len()) else {
+        return Err(Refusal::NoMemory);
+    };
     let Ok(inserted) = numbers_from(alloc, agenda.next(), inserts) else {
         return Err(Refusal::NoMemory);
     };
@@ -49,5 +56,9 @@ pub(crate) fn prepare<C: Drop>(
     let Ok(()) = agenda.make_room(inserts, timers) else {
         return Err(Refusal::NoMemory);
     };
-    Ok(Prepared { inserted, set })
+    Ok(Prepared {
+        replied,
+        inserted,
+        set,
+    })
 }

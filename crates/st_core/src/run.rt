@@ -1,5 +1,6 @@
 //! A list of commands, one after another.
-ghost use Rattle.std.specs.Prelude.{◌≡◌, IfOk, IfErr};
+ghost use Rattle.std.specs.Prelude.{◌≡◌, None, IfOk, IfErr};
+ghost use Rattle.st_core.specs.Accounting.{IsAccounted};
 ghost use Rattle.st_core.specs.Callbacks.{callbacks_of};
 ghost use Rattle.st_core.specs.Run.{step_of, takes_memory, without_memory, Meets, Runs};
 
@@ -16,12 +17,17 @@ impl<M: Module> Core<M> {
             Command::Post(entry, content) => Answer::Post(self.post(entry, content)),
             Command::Tick(now) => Answer::Tick(self.tick(now)),
             Command::Turn(now) => Answer::Turn(self.turn(now)),
+            Command::Reply(tag, content) => Answer::Reply(self.reply(tag, content)),
+            Command::Collect(tag) => Answer::Collect(self.collect(tag)),
             Command::Stop(reason) => Answer::Stop(self.stop(reason)),
         }
     }
 
     /// Does commands in order, and answers their answers. A command that is refused stands among them
     /// with its refusal.
+    ///
+    /// As long as the machine has not ended, each event that waited before or was accepted since waits still or
+    /// was finished once: none is lost, and none is finished twice.
     ///
     /// Where there is no memory for the answers, nothing is done and the commands come back.
     ///
@@ -31,6 +37,7 @@ impl<M: Module> Core<M> {
         commands: Vec<Command<M::Content>>,
     ) -> Result<Vec<Answer<M::State, M::Content>>, Vec<Command<M::Content>>>
         ensures run { IfOk result (λ answers. Runs (callbacks_of M.Module M.State.eq self.old.module_) self.old.machine commands.items answers.items self.new.machine) }
+        ensures accounted { IfOk result (λ answers. self.new.machine.ended ≡ None → IsAccounted self.old.machine answers.items self.new.machine) }
         ensures unchanged_module { self.new.module_ ≡ self.old.module_ }
 
         ensures unchanged { IfErr result (λ back. (back ≡ commands) × (self.new ≡ self.old)) }

@@ -6,14 +6,15 @@ ghost use Rattle.st_core.specs.Start.{start_of, begun_as, started_with, ended_wi
 
 use crate::calls::{one_call, with_call};
 use crate::engine::LIMIT;
-use crate::entered::{entered_reason, new_entered_data, take_entered_actions};
+use crate::entered::{entered_reason, plan_entered};
 use crate::new_data::replace;
-use crate::planning::plan_both;
+use crate::planning::plan_actions;
 use crate::prepared::prepare;
 use crate::{Call, Core, Done, Report};
-use st_actions::{Planned, plan};
+use st_actions::Planned;
 use st_agenda::Agenda;
 use st_events::{Actions, Init, MachineId, Module, PlainList, Reason, Refusal, Refused};
+use st_requests::Requests;
 use std::alloc::Global;
 
 /// What comes of a start.
@@ -109,7 +110,7 @@ impl<M: Module> Core<M> {
         requires greatest { first < 2 ^ 63 }
         ensures start { Starts «module» result (started_with «module» (first_state id state «data» now first) (begun_with state «data» actions)) }
     {
-        let Ok(planned) = plan(alloc, actions) else {
+        let Ok(planned) = plan_actions(alloc, actions) else {
             return Err(refused(Refusal::NoMemory, module));
         };
         let calls = PlainList::new(alloc);
@@ -133,22 +134,27 @@ impl<M: Module> Core<M> {
             → called ≡ entered_by (callbacks_of M.Module M.State.eq «module») state (begun_with state «data» actions)
             → Starts «module» result (begun_as (callbacks_of M.Module M.State.eq «module») «module» id called now first) }
     {
-        let Ok(mut entered) = module.enter(alloc, state, state, &data) else {
+        let Ok(planned) = plan_actions(alloc, actions) else {
+            return Err(refused(Refusal::NoMemory, module));
+        };
+        let Ok(entered) = module.enter(alloc, state, state, &data) else {
+            return Err(refused(Refusal::NoMemory, module));
+        };
+        let reason = entered_reason(&entered);
+        let mut new = None;
+        let Ok(planned) = plan_entered(alloc, planned, entered, &mut new) else {
             return Err(refused(Refusal::NoMemory, module));
         };
         let Ok(calls) = one_call(alloc, Call::Enter { old: state, state }) else {
             return Err(refused(Refusal::NoMemory, module));
         };
-        let reason = entered_reason(&entered);
-        let later = take_entered_actions(alloc, &mut entered);
-        replace(&mut data, new_entered_data(entered));
-        if let Some(reason) = reason {
-            return Core::end_at(alloc, module, id, calls, state, data, now, first, reason);
+        replace(&mut data, new);
+        match reason {
+            None => Core::run_from(alloc, module, id, calls, state, data, planned, now, first),
+            Some(reason) => {
+                Core::end_at(alloc, module, id, calls, state, data, now, first, reason)
+            }
         }
-        let Ok(planned) = plan_both(alloc, actions, later) else {
-            return Err(refused(Refusal::NoMemory, module));
-        };
-        Core::run_from(alloc, module, id, calls, state, data, planned, now, first)
     }
 
     /// A machine runs in a state with data, after these callbacks, and does what the actions ask for. A
@@ -184,6 +190,7 @@ impl<M: Module> Core<M> {
             state,
             data,
             agenda,
+            requests: Requests::new(alloc),
             latest: now,
             ended: None,
         };
@@ -234,6 +241,7 @@ impl<M: Module> Core<M> {
             state,
             data,
             agenda: Agenda::new(alloc, first),
+            requests: Requests::new(alloc),
             latest: now,
             ended: Some((reason, word)),
         };

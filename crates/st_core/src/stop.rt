@@ -9,8 +9,8 @@ use st_events::{Module, Reason, Refusal};
 
 impl<M: Module> Core<M> {
     /// Ends the machine at once, before the events that wait: calls the module's `terminate`, keeps
-    /// its word, and answers it. What waits is dropped, and no time-out runs any more. The state and the
-    /// data stay.
+    /// its word, and answers it. What waits is dropped, no time-out runs any more, and the requests that are
+    /// open are closed for the reason. The state and the data stay, and so do the replies that are kept.
     ///
     /// Refused with `Stopped` once the machine has ended, which changes nothing. It takes no memory.
     ///
@@ -28,12 +28,14 @@ impl<M: Module> Core<M> {
         Ok(word)
     }
 
-    /// The machine has ended for a reason, with this last word: nothing waits or runs any more.
+    /// The machine has ended for a reason, with this last word: nothing waits or runs any more, and no request
+    /// is open.
     pub(crate) fn end(&mut self, reason: Reason, word: u32)
         ensures ended { self.new.machine ≡ with_ended self.old.machine reason word }
         ensures unchanged_module { self.new.module_ ≡ self.old.module_ }
     {
         self.agenda = Agenda::new(self.alloc, self.agenda.next());
+        self.requests.close(reason);
         self.ended = Some((reason, word));
     }
 }

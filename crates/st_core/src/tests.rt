@@ -6,6 +6,7 @@ mod enters;
 mod lamp;
 mod lamps;
 mod postponing;
+mod requests;
 mod runs;
 mod starts;
 mod stops;

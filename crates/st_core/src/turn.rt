@@ -2,7 +2,7 @@
 //! order; what can fail is done before anything changes.
 ghost use Rattle.std.specs.Prelude.{◌≡◌, ◌<◌, ◌^◌, [], ◌∷◌, Some, IfOk, OnErr};
 ghost use Rattle.std.specs.Option.{option_map};
-ghost use Rattle.st_actions.specs.Plan.{plan_of};
+ghost use Rattle.st_actions.specs.Plan.{plan_of, replies_of};
 ghost use Rattle.st_core.specs.declared.call.Call.TheVariants.{Handle, Enter};
 ghost use Rattle.st_core.specs.Callbacks.{Called, callbacks_of, or_old, handled_with, entered_by, is_entered};
 ghost use Rattle.st_core.specs.Choice.{next_event_of};
@@ -11,16 +11,13 @@ ghost use Rattle.st_core.specs.Run.{Meets, turn_takes_memory, turn_without_memor
 
 use crate::calls::{one_call, with_call};
 use crate::engine::LIMIT;
-use crate::entered::{entered_reason, new_entered_data, take_entered_actions};
+use crate::entered::{entered_reason, plan_entered};
 use crate::new_data::{or_old, replace};
-use crate::outcomes::{
-    changes_state, new_data, reason_of, repeats_state, state_after, take_actions,
-};
-use crate::planning::plan_both;
+use crate::outcomes::{changes_state, plan_outcome, reason_of, repeats_state, state_after};
 use crate::prepared::prepare;
 use crate::{Call, Core, Done, Report, Turned};
-use st_actions::{Planned, plan};
-use st_events::{Kind, Module, Outcome, PlainList, Reason, Refusal};
+use st_actions::Planned;
+use st_events::{Kind, Module, Outcome, PlainList, Reason, Refusal, Replies};
 use std::alloc::{AllocError, Global};
 
 /// What a module's `handle` answers.
@@ -129,7 +126,7 @@ impl<M: Module> Core<M> {
         now: u64,
         number: u64,
         kind: Kind,
-        mut outcome: OutcomeOf<M>,
+        outcome: OutcomeOf<M>,
     ) -> Result<Turned<M::State>, Refusal>
         requires moment { now < 2 ^ 63 }
         requires number_is { option_map (λ event. event.number) (next_event_of self.old.machine) ≡ Some number }
@@ -144,18 +141,17 @@ impl<M: Module> Core<M> {
         let after = state_after(self.state, &outcome);
         let changed = changes_state(self.state, &outcome);
         let reason = reason_of(&outcome);
-        let actions = take_actions(self.alloc, &mut outcome);
-        let data = new_data(outcome);
+        let mut data = None;
+        let Ok(planned) = plan_outcome(self.alloc, outcome, &mut data) else {
+            return Err(Refusal::NoMemory);
+        };
         let Ok(calls) = handle_alone(self.alloc, number, kind, self.state) else {
             return Err(Refusal::NoMemory);
         };
-        if let Some(reason) = reason {
-            return self.stop_at(now, number, calls, after, data, reason);
+        match reason {
+            None => self.go_on(now, number, calls, after, data, changed, planned),
+            Some(reason) => self.stop_at(now, number, calls, after, data, planned.replies, reason),
         }
-        let Ok(planned) = plan(self.alloc, actions) else {
-            return Err(Refusal::NoMemory);
-        };
-        self.go_on(now, number, calls, after, data, changed, planned)
     }
 
     /// Does what `handle` answered to the next event, which has this number and kind, and calls `enter` for
@@ -165,7 +161,7 @@ impl<M: Module> Core<M> {
         now: u64,
         number: u64,
         kind: Kind,
-        mut outcome: OutcomeOf<M>,
+        outcome: OutcomeOf<M>,
     ) -> Result<Turned<M::State>, Refusal>
         requires moment { now < 2 ^ 63 }
         requires number_is { option_map (λ event. event.number) (next_event_of self.old.machine) ≡ Some number }
@@ -180,25 +176,25 @@ impl<M: Module> Core<M> {
     {
         let after = state_after(self.state, &outcome);
         let changed = changes_state(self.state, &outcome);
-        let actions = take_actions(self.alloc, &mut outcome);
-        let data = new_data(outcome);
+        let mut data = None;
+        let Ok(first) = plan_outcome(self.alloc, outcome, &mut data) else {
+            return Err(Refusal::NoMemory);
+        };
         let held = or_old(&self.data, &data);
-        let Ok(mut entered) = self.module.enter(self.alloc, self.state, after, held) else {
+        let Ok(entered) = self.module.enter(self.alloc, self.state, after, held) else {
             return Err(Refusal::NoMemory);
         };
         let reason = entered_reason(&entered);
-        let later = take_entered_actions(self.alloc, &mut entered);
-        let data = new_entered_data(entered).or(data);
+        let Ok(planned) = plan_entered(self.alloc, first, entered, &mut data) else {
+            return Err(Refusal::NoMemory);
+        };
         let Ok(calls) = handle_and_enter(self.alloc, number, kind, self.state, after) else {
             return Err(Refusal::NoMemory);
         };
-        if let Some(reason) = reason {
-            return self.stop_at(now, number, calls, after, data, reason);
+        match reason {
+            None => self.go_on(now, number, calls, after, data, changed, planned),
+            Some(reason) => self.stop_at(now, number, calls, after, data, planned.replies, reason),
         }
-        let Ok(planned) = plan_both(self.alloc, actions, later) else {
-            return Err(Refusal::NoMemory);
-        };
-        self.go_on(now, number, calls, after, data, changed, planned)
     }
 
     /// The machine goes on after the next event, which has this number, and after these callbacks, with a
@@ -234,6 +230,8 @@ impl<M: Module> Core<M> {
         self.state = after;
         replace(&mut self.data, data);
         let done = done_by(planned.postpone);
+        let mut replied = prepared.replied;
+        self.requests.answer_all(planned.replies, &mut replied);
         self.agenda.settle(
             self.latest,
             number,
@@ -248,14 +246,14 @@ impl<M: Module> Core<M> {
             calls,
             before,
             after,
-            replied: PlainList::new(self.alloc),
+            replied: PlainList::from(replied),
             inserted: prepared.inserted,
             set: prepared.set,
         }))
     }
 
     /// The machine stops for a reason at the next event, which has this number, and after these callbacks,
-    /// with a state and new data where there are some.
+    /// with a state, new data where there are some, and replies.
     fn stop_at(
         &mut self,
         now: u64,
@@ -263,11 +261,13 @@ impl<M: Module> Core<M> {
         calls: PlainList<Call<M::State>>,
         after: M::State,
         data: Option<M::Data>,
+        replies: Replies<M::Content>,
         reason: Reason,
     ) -> Result<Turned<M::State>, Refusal>
         requires moment { now < 2 ^ 63 }
         ensures step { (called : Called M.State M.Data M.Content)
             → called.calls ≡ calls → called.state ≡ after → called.data ≡ or_old self.old.machine.data «data»
+            → replies_of called.actions ≡ replies
             → Meets turn_takes_memory turn_without_memory result self.old.machine self.new.machine
             (stopped (callbacks_of M.Module M.State.eq self.old.module_) (with_moment self.old.machine now) number called reason) }
         ensures unchanged_module { self.new.module_ ≡ self.old.module_ }
@@ -285,11 +285,15 @@ impl<M: Module> Core<M> {
         let Ok(calls) = with_call(calls, terminate) else {
             return Err(Refusal::NoMemory);
         };
+        let Ok(mut replied) = Vec::with_capacity(self.alloc, replies.len()) else {
+            return Err(Refusal::NoMemory);
+        };
         // Nothing fails from here on.
         let before = self.state;
         self.latest = self.latest.max(now);
         self.state = after;
         replace(&mut self.data, data);
+        self.requests.answer_all(replies, &mut replied);
         self.end(reason, word);
         Ok(Turned::Reported(Report {
             event: Some(number),
@@ -297,7 +301,7 @@ impl<M: Module> Core<M> {
             calls,
             before,
             after,
-            replied: PlainList::new(self.alloc),
+            replied: PlainList::from(replied),
             inserted: PlainList::new(self.alloc),
             set: PlainList::new(self.alloc),
         }))

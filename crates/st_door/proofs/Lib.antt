@@ -5,6 +5,7 @@ pub mod DoorLemmas
 pub mod PrintingLemmas
 pub mod ScriptStateLemmas
 pub mod SettlingLemmas
+pub mod LengthLemmas
 pub mod TickingLemmas
 pub mod ScriptLemmas
 pub mod WorkedScripts

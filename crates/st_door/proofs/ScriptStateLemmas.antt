@@ -8,6 +8,7 @@ use Rattle.std.proofs.Math.Seq.{get_or-append_seam}
 use Rattle.std.proofs.lemmas.Slice.Eq.{bytes_eq-Decides}
 use Rattle.st_events.specs.declared.refusal.Refusal.{Refusal}
 use Rattle.st_events.specs.declared.refusal.Refusal.TheVariants.{AlreadyStarted}
+use Rattle.st_core.specs.declared.entry.Entry.{Entry}
 use Rattle.st_core.specs.declared.entry.Entry.TheVariants.{Cast}
 use Rattle.st_core.specs.Post.{post_of, post_running}
 use Rattle.st_core.specs.Stop.{stop_of, stop_running}
@@ -19,6 +20,7 @@ use Rattle.st_events.specs.declared.machine_id.MachineId.{MachineId}
 use Rattle.st_door.specs.Door.{init_of}
 use Rattle.st_door.specs.Entries.{DoorCore}
 use Rattle.st_door.specs.declared.door_state.DoorState.{DoorState}
+use Rattle.st_door.specs.declared.door_content.DoorContent.{DoorContent}
 use Rattle.st_door.specs.declared.door_content.DoorContent.TheVariants.{Button}
 use Rattle.st_door.specs.declared.door_state.DoorState.TheVariants.{Locked}
 use Rattle.st_door.specs.declared.line.Line.TheVariants as line
@@ -107,6 +109,25 @@ kept-set doors from until place low high machine kept within same below above bo
       ]));
 }
 
+-- a door gets another machine of the same id that is ready where the earlier one was
+pub kept-alike : (doors : List NamedDoor) (from until place : ℕ) (machine : DoorMachine) → IsKept doors from until → place < length doors
+    → machine.id ≡ (get_or doors place no_door).machine.id → is_ready_of machine ≡ is_ready_door (get_or doors place no_door)
+    → IsKept (set doors place (door_named (get_or doors place no_door).name machine)) from until
+kept-alike doors from until place machine kept within same alike = record {
+  ordered = kept.ordered;
+  within = rw length-set kept.within;
+  few = rw length-set kept.few;
+  numbered = (labels-set doors place no_door machine within same).slots ∙ (kept.numbered ∙ ap (upward 0) (sym (length-set doors place _)));
+  resting = λ k d less outside.
+      let there : k < length doors = omega (arith, less, length-set {A = NamedDoor}) in
+      elim (eqb_tells k place) [
+        | inl here ↦
+            let rests : is_ready_door (get_or doors place no_door) ≡ false = kept.resting place no_door within (rw here.1 at outside) in
+            rw (here.1, get_or-set_same doors place _ d within) (alike ∙ rests)
+        | inr other ↦ let ne : k ≢ place = other.1 in rw get_or-set_other (kept.resting k d there outside)
+      ];
+}
+
 -- a door gets another machine of the same id that rests
 pub kept-resting : (doors : List NamedDoor) (from until place : ℕ) (machine : DoorMachine) → IsKept doors from until → place < length doors
     → machine.id ≡ (get_or doors place no_door).machine.id → is_ready_of machine ≡ false
@@ -158,19 +179,24 @@ named-status name script place d first = rw (IsFirst-found (has_name name) scrip
 
 -- ---- buttons
 -- a machine runs, or it has ended
-cases_ended : (ended : Option (ℕ × ℕ)) → (ended ≡ None) ⊎ ((end : ℕ × ℕ) × (ended ≡ Some end))
+pub cases_ended : (ended : Option (ℕ × ℕ)) → (ended ≡ None) ⊎ ((end : ℕ × ℕ) × (ended ≡ Some end))
 cases_ended None = inl refl
 cases_ended (Some end) = inr (end, refl)
 
--- a refused post leaves the door as it was
-pressed-refused : (digit : ℕ) (door : NamedDoor) (refusal : Refusal) → refusal_of (press_of digit door).0 ≡ Some refusal → pressed_door digit door ≡ door
-pressed-refused digit door refusal refused = elim (cases_ended door.machine.ended) [
-  | inl runs ↦ elim (cases_Bool (nat_lt door.machine.schedule.next (2 ^ 63))) [
+-- a refused post leaves the machine as it was
+pub post-refused : (machine : DoorMachine) (entry : Entry) (content : DoorContent) (refusal : Refusal)
+    → refusal_of (post_of machine entry content).0 ≡ Some refusal → (post_of machine entry content).1 ≡ machine
+post-refused machine entry content refusal refused = elim (cases_ended machine.ended) [
+  | inl runs ↦ elim (cases_Bool (nat_lt machine.schedule.next (2 ^ 63))) [
     | inl room ↦ let none = rw (runs, room) at refused in cc
     | inr full ↦ rw (runs, full) refl
   ]
   | inr end ↦ rw end.1 refl
 ]
+
+-- and so it leaves the door
+pressed-refused : (digit : ℕ) (door : NamedDoor) (refusal : Refusal) → refusal_of (press_of digit door).0 ≡ Some refusal → pressed_door digit door ≡ door
+pressed-refused digit door refusal refused = ap (door_named door.name) (post-refused door.machine Cast (Button digit) refusal refused)
 
 pub button-refused : (script : ScriptState) (name : List ℕ) (digit place : ℕ) (refusal : Refusal) → IsFirst (has_name name) script.doors place
     → Some refusal ≡ refusal_of (press_of digit (get_or script.doors place no_door)).0
@@ -201,14 +227,14 @@ button-done script name digit place first accepted =
     ) refl
 
 -- a post keeps the machine's id
-id-post_running : (machine : DoorMachine) (digit : ℕ) → (post_running machine Cast (Button digit)).1.id ≡ machine.id
-id-post_running machine digit = elim (cases_Bool (nat_lt machine.schedule.next (2 ^ 63))) [
+id-post_running : (machine : DoorMachine) (entry : Entry) (content : DoorContent) → (post_running machine entry content).1.id ≡ machine.id
+id-post_running machine entry content = elim (cases_Bool (nat_lt machine.schedule.next (2 ^ 63))) [
   | inl room ↦ rw room refl
   | inr full ↦ rw full refl
 ]
 
-pub id-post : (machine : DoorMachine) (digit : ℕ) → (post_of machine Cast (Button digit)).1.id ≡ machine.id
-id-post machine digit = id-unless machine.ended _ machine (post_running machine Cast (Button digit)) (id-post_running machine digit)
+pub id-post : (machine : DoorMachine) (entry : Entry) (content : DoorContent) → (post_of machine entry content).1.id ≡ machine.id
+id-post machine entry content = id-unless machine.ended _ machine (post_running machine entry content) (id-post_running machine entry content)
 
 -- ---- stops
 -- a refused stop leaves the door as it was
@@ -335,7 +361,7 @@ settled-script script settled name said rested done = rested ∙ sym (ap (λ (s 
 
 -- the doors with a button pressed at a place have the same labels
 pub labels-pressed : (doors : List NamedDoor) (digit place : ℕ) → place < length doors → SameLabels doors (set doors place (pressed_door digit (get_or doors place no_door)))
-labels-pressed doors digit place within = labels-set doors place no_door _ within (id-post (get_or doors place no_door).machine digit)
+labels-pressed doors digit place within = labels-set doors place no_door _ within (id-post (get_or doors place no_door).machine Cast (Button digit))
 
 -- the name has its place still, once a button was pressed and the doors rest
 pub first-pressed : (script pressed settled : ScriptState) (name : List ℕ) (digit place : ℕ) → IsFirst (has_name name) script.doors place

@@ -235,6 +235,64 @@ every_door_is_ticked : output_of three_doors
 unfolding run_until_idle digits
 every_door_is_ticked = refl
 
+-- a door says how long its code is; a call is an event, and so the buttons are not forgotten
+abbrev asking : List ℕ
+asking = text_of_lines (codes "new a 12" ∷ codes "button a 1" ∷ codes "length a" ∷ codes "at 30000" ∷ codes "show a" ∷ [])
+
+a_call_is_an_event : output_of asking
+    ≡ text_of_lines (
+    codes "a locked buttons 0 waiting 0"
+    ∷ codes "a locked buttons 1 waiting 0"
+    ∷ codes "a length 2"
+    ∷ codes "at 30000 expired 0"
+    ∷ codes "a locked buttons 1 waiting 0" ∷ [])
+unfolding run_until_idle digits
+a_call_is_an_event = refl
+
+asking_status : status_of_script asking ≡ 0
+unfolding run_until_idle
+asking_status = refl
+
+-- how long codes are, also of open doors, and which lengths are refused or malformed
+abbrev lengths : List ℕ
+lengths =
+    text_of_lines (
+    codes "length a"
+    ∷ codes "new a 1"
+    ∷ codes "new b 1234567890123456"
+    ∷ codes "length b"
+    ∷ codes "length a"
+    ∷ codes "button a 1"
+    ∷ codes "length a"
+    ∷ codes "length"
+    ∷ codes "length a b"
+    ∷ codes "stop b 7"
+    ∷ codes "length b"
+    ∷ codes "at 10000"
+    ∷ codes "length a" ∷ [])
+
+each_door_says_its_length : output_of lengths
+    ≡ text_of_lines (
+    codes "line 1 refused 8"
+    ∷ codes "a locked buttons 0 waiting 0"
+    ∷ codes "b locked buttons 0 waiting 0"
+    ∷ codes "b length 16"
+    ∷ codes "a length 1"
+    ∷ codes "a open buttons 0 waiting 0"
+    ∷ codes "a length 1"
+    ∷ codes "line 8 malformed"
+    ∷ codes "line 9 malformed"
+    ∷ codes "b stopped 7 word 0"
+    ∷ codes "line 11 refused 2"
+    ∷ codes "at 10000 expired 1"
+    ∷ codes "a length 1" ∷ [])
+unfolding run_until_idle digits
+each_door_says_its_length = refl
+
+lengths_status : status_of_script lengths ≡ 1
+unfolding run_until_idle
+lengths_status = refl
+
 -- what a reason may be, and what is refused of a name that is not there and of a door that has ended
 abbrev reasons : List ℕ
 reasons =

@@ -4,6 +4,7 @@ use Rattle.std.proofs.Common.{◌≡◌, ℕ, Some, None, Result, Ok, List, [], 
 use Rattle.st_events.specs.declared.kind.Kind.TheVariants as kind
 use Rattle.st_events.specs.declared.machine_id.MachineId.{MachineId}
 use Rattle.st_events.specs.declared.refusal.Refusal.{Refusal}
+use Rattle.st_events.specs.declared.tag.Tag.{Tag}
 use Rattle.st_events.specs.declared.time.Time.{Time}
 use Rattle.st_events.specs.declared.time.Time.TheVariants.{After}
 use Rattle.st_events.specs.declared.timer.Timer.{Timer}
@@ -18,10 +19,12 @@ use Rattle.st_core.specs.declared.turned.Turned.TheVariants.{Reported, Idle}
 use Rattle.st_core.specs.Start.{first_state, start_of}
 use Rattle.st_core.specs.Tick.{tick_of}
 use Rattle.st_core.specs.Transition.{turn_of}
+use Rattle.st_requests.specs.declared.collected.Collected.TheVariants as collected
+use Rattle.st_door.specs.declared.door_content.DoorContent.TheVariants.{Length}
 use Rattle.st_door.specs.declared.door_state.DoorState.{DoorState}
 use Rattle.st_door.specs.declared.door_state.DoorState.TheVariants.{Locked, Open}
 use Rattle.st_door.specs.Door.{init_of}
-use Rattle.st_door.specs.Doors.{DoorMachine, door_callbacks, door_named, press_of}
+use Rattle.st_door.specs.Doors.{DoorMachine, ask_of, door_callbacks, door_collect_of, door_named, next_tag_of, press_of}
 use Rattle.st_door.specs.Script.{DoorStart, the_door}
 
 abbrev id : MachineId
@@ -88,3 +91,27 @@ the_timeout_enters_locked = refl
 -- before that moment the time-out does not come
 nothing_comes_earlier : turn_of door_callbacks (tick_of opened.1 9999).1 9999 ≡ (Ok Idle, (tick_of opened.1 9999).1)
 nothing_comes_earlier = refl
+
+-- the tag of the first call
+abbrev first_tag : Tag
+first_tag = next_tag_of (door_named [] (door_in Locked [] 0 1))
+
+-- the length of the code is asked for, and a turn is made
+abbrev answered : Result (Turned DoorState) Refusal × DoorMachine
+answered = turn_of door_callbacks (ask_of (door_named [] (door_in Locked [] 0 1))).1 0
+
+-- the call is answered, which the report says
+a_call_is_answered : answered.0
+    ≡ Ok (Reported (record (finished 1 (Handle 1 (kind.Call first_tag) Locked ∷ []) Locked Locked []) { replied = first_tag ∷ [] }))
+a_call_is_answered = refl
+
+-- the reply is collected once, and then nothing of the call is left
+the_reply_is_collected : door_collect_of first_tag (door_named [] answered.1) ≡ (collected.Reply (Length 1), door_in Locked [] 0 2)
+the_reply_is_collected = refl
+
+nothing_is_collected_twice : door_collect_of first_tag (door_named [] (door_in Locked [] 0 2)) ≡ (collected.Gone, door_in Locked [] 0 2)
+nothing_is_collected_twice = refl
+
+-- before its turn the call waits
+an_open_call_waits : (door_collect_of first_tag (door_named [] (ask_of (door_named [] (door_in Locked [] 0 1))).1)).0 ≡ collected.Waiting
+an_open_call_waits = refl

@@ -4,14 +4,19 @@ use Rattle.std.specs.List.{list_any, sum_by}
 use Rattle.st_core.specs.MachineState.{MachineState}
 use Rattle.st_core.specs.Callbacks.{Callbacks}
 use Rattle.st_core.specs.Choice.{is_ready_of}
-use Rattle.st_core.specs.Post.{post_of}
+use Rattle.st_core.specs.Post.{post_of, next_tag}
+use Rattle.st_core.specs.Replies.{collect_of}
 use Rattle.st_core.specs.Stop.{stop_of}
 use Rattle.st_core.specs.Tick.{tick_of}
 use Rattle.st_core.specs.Transition.{turn_of}
-use Rattle.st_core.specs.declared.entry.Entry.TheVariants.{Cast}
-use Rattle.st_door.specs.declared.door_content.DoorContent.TheVariants.{Button}
+use Rattle.st_core.specs.declared.entry.Entry.TheVariants.{Call, Cast}
+use Rattle.st_door.specs.declared.door_content.DoorContent.TheVariants.{Button, CodeLength, Length, Nothing}
+use Rattle.st_requests.specs.declared.collected.Collected.{Collected}
+use Rattle.st_requests.specs.declared.collected.Collected.TheVariants.{Waiting, Reply, Stopped, Gone}
+use Rattle.st_events.specs.declared.machine_id.MachineId.{MachineId}
 use Rattle.st_events.specs.declared.refusal.Refusal.{Refusal}
 use Rattle.st_events.specs.declared.refused.Refused.{Refused}
+use Rattle.st_events.specs.declared.tag.Tag.{Tag}
 use Rattle.st_door.specs.declared.door_content.DoorContent.{DoorContent}
 use Rattle.st_door.specs.declared.door_data.DoorData.{DoorData}
 use Rattle.st_door.specs.declared.door_state.DoorState.{DoorState}
@@ -85,6 +90,45 @@ press_of digit door = post_of door.machine Cast (Button digit)
 -- the door after it
 abbrev pub pressed_door : ℕ → NamedDoor → NamedDoor
 pressed_door digit door = door_named door.name (press_of digit door).1
+
+-- the door is asked how long its code is: what the post of the call answers, and the machine after it
+abbrev pub ask_of : NamedDoor → Result ℕ (Refused DoorContent) × DoorMachine
+ask_of door = post_of door.machine Call CodeLength
+
+-- the door after it
+abbrev pub asked_door : NamedDoor → NamedDoor
+asked_door door = door_named door.name (ask_of door).1
+
+-- the tag of a call to a machine of this id, by what its post answers, or why it is refused
+abbrev pub tag_of : MachineId → Result ℕ (Refused DoorContent) → Result Tag Refusal
+tag_of id (Ok number) = Ok (record { machine = id; request = number })
+tag_of id (Err refused) = Err refused.refusal
+
+-- the tag that a call of the door gets
+abbrev pub next_tag_of : NamedDoor → Tag
+next_tag_of door = next_tag door.machine
+
+-- the reply to the call of a tag is collected at the door: what comes, and the machine after it
+abbrev pub door_collect_of : Tag → NamedDoor → Collected DoorContent × DoorMachine
+door_collect_of tag door = collect_of door.machine tag
+
+-- the door after it
+abbrev pub collected_door : Tag → NamedDoor → NamedDoor
+collected_door tag door = door_named door.name (door_collect_of tag door).1
+
+-- the length that a reply says, if it says one
+abbrev pub length_in : DoorContent → Option ℕ
+length_in (Length digits) = Some digits
+length_in (Button digit) = None
+length_in CodeLength = None
+length_in Nothing = None
+
+-- the length that was collected; it is none where there was no reply
+abbrev pub collected_length : Collected DoorContent → Option ℕ
+collected_length (Reply content) = length_in content
+collected_length Waiting = None
+collected_length (Stopped reason) = None
+collected_length Gone = None
 
 -- why a stop is refused, if it is
 abbrev pub stop_refusal_of : Result ℕ Refusal → Option Refusal

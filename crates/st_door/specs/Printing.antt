@@ -38,6 +38,11 @@ names_text doors = (codes "names" ++ flat_map (λ door. space ∷ door.name) doo
 abbrev pub expired_text : ℕ → ℕ → List ℕ
 expired_text moment expired = codes "at " ++ (decimal moment ++ (codes " expired " ++ (decimal expired ++ line_feed ∷ [])))
 
+-- how long the code of the door of a name is, or a hyphen where that was not said
+abbrev pub length_text : List ℕ → Option ℕ → List ℕ
+length_text name (Some digits) = name ++ (codes " length " ++ (decimal digits ++ line_feed ∷ []))
+length_text name None = name ++ (codes " length -" ++ line_feed ∷ [])
+
 -- that the line of a number was refused
 abbrev pub refused_text : ℕ → ℕ → List ℕ
 refused_text number refusal = codes "line " ++ (decimal number ++ (codes " refused " ++ (decimal refusal ++ line_feed ∷ [])))

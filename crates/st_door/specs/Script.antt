@@ -7,6 +7,7 @@ use Rattle.st_events.specs.declared.machine_id.MachineId.{MachineId}
 use Rattle.st_events.specs.declared.refusal.Refusal.{Refusal}
 use Rattle.st_events.specs.declared.refusal.Refusal.TheVariants.{AlreadyStarted, Moment, NoSuchName, Full}
 use Rattle.st_events.specs.declared.refused.Refused.{Refused}
+use Rattle.st_events.specs.declared.tag.Tag.{Tag}
 use Rattle.st_core.specs.declared.start.Start.{Start}
 use Rattle.st_core.specs.declared.start.Start.TheVariants.{Running, Ignored, Stopped}
 use Rattle.st_core.specs.Start.{start_of}
@@ -19,10 +20,10 @@ use Rattle.st_door.specs.declared.line.Line.TheVariants as line
 use Rattle.st_door.specs.declared.reply.Reply.{Reply}
 use Rattle.st_door.specs.declared.reply.Reply.TheVariants.{Silent, Printed, Refuses, Malformed}
 use Rattle.st_door.specs.Door.{init_of}
-use Rattle.st_door.specs.Doors.{NamedDoor, DoorMachine, door_callbacks, door_limit, door_of, with_machine, free_slot_of, run_until_idle, press_of, refusal_of, door_stop_of, stop_refusal_of, all_expired_of, ticked_doors}
+use Rattle.st_door.specs.Doors.{NamedDoor, DoorMachine, door_callbacks, door_limit, door_of, with_machine, free_slot_of, run_until_idle, press_of, refusal_of, ask_of, next_tag_of, door_collect_of, collected_length, door_stop_of, stop_refusal_of, all_expired_of, ticked_doors}
 use Rattle.st_door.specs.Grammar.{line_of}
 use Rattle.st_door.specs.Lines.{lines}
-use Rattle.st_door.specs.Printing.{status_of, names_text, expired_text, refused_text, malformed_text}
+use Rattle.st_door.specs.Printing.{status_of, names_text, expired_text, length_text, refused_text, malformed_text}
 
 -- the doors in order of registration, the script's moment, and how many starts have succeeded
 pub record ScriptState : Type 0 where
@@ -87,6 +88,11 @@ stopped_door script name reason None = Err NoSuchName
 stopped_door script name reason (Some door) =
     with_call script name (stop_refusal_of (door_stop_of reason door).0) (door_stop_of reason door).1
 
+-- `length`: a name that is not registered is refused, then as the post of the call is
+abbrev pub asked_length : ScriptState → List ℕ → Option NamedDoor → Result ScriptState Refusal
+asked_length script name None = Err NoSuchName
+asked_length script name (Some door) = with_call script name (refusal_of (ask_of door).0) (ask_of door).1
+
 -- `show`: a name that is not registered is refused
 abbrev pub shown_door : ScriptState → Option NamedDoor → Result ScriptState Refusal
 shown_door script None = Err NoSuchName
@@ -110,6 +116,7 @@ acted_of script (line.Button name digit) = pressed_button script name digit (doo
 acted_of script (line.Show name) = shown_door script (door_of name script.doors)
 acted_of script (line.At moment) = passed_to script moment
 acted_of script (line.Stop name reason) = stopped_door script name reason (door_of name script.doors)
+acted_of script (line.Length name) = asked_length script name (door_of name script.doors)
 acted_of script line.Names = Ok script
 
 -- the script once its doors rest
@@ -120,22 +127,41 @@ rested_of script = record script { doors = run_until_idle turn_limit script.mome
 abbrev pub named_status_of : ScriptState → List ℕ → List ℕ
 named_status_of script name = option_map_or status_of (door_of name script.doors) []
 
--- what a line prints that was not refused, by the script before it and the script once the doors rest;
--- `at` counts the time-outs of the doors as they were before it
-abbrev pub text_of : ScriptState → ScriptState → Line → List ℕ
-text_of before script line.Blank = []
-text_of before script line.Malformed = []
-text_of before script (line.New name code) = named_status_of script name
-text_of before script (line.Button name digit) = named_status_of script name
-text_of before script (line.Show name) = named_status_of script name
-text_of before script (line.At moment) = expired_text script.moment (all_expired_of script.moment before.doors)
-text_of before script (line.Stop name reason) = named_status_of script name
-text_of before script line.Names = names_text script.doors
+-- the reply to the call of a tag is collected at the door of a name: what is printed, and the script after it
+abbrev pub length_collected : ScriptState → List ℕ → Tag → Option NamedDoor → List ℕ × ScriptState
+length_collected script name tag None = ([], script)
+length_collected script name tag (Some door) = (
+  length_text name (collected_length (door_collect_of tag door).0),
+  record script { doors = with_machine name (door_collect_of tag door).1 script.doors },
+)
 
--- a line that is refused changes nothing; else the doors run until they rest, and then it prints
+-- how `length` finishes, by the door as it was before the line: its call has the tag that this door gave next
+abbrev pub length_finished : ScriptState → List ℕ → Option NamedDoor → List ℕ × ScriptState
+length_finished script name None = ([], script)
+length_finished script name (Some asked) = length_collected script name (next_tag_of asked) (door_of name script.doors)
+
+-- how a line finishes that was not refused, by the script before it and the script once the doors rest:
+-- what it prints, and the script after it. `at` counts the time-outs of the doors as they were before it,
+-- `length` collects the reply to its call; no other changes anything more
+abbrev pub finished_of : ScriptState → ScriptState → Line → List ℕ × ScriptState
+finished_of before script line.Blank = ([], script)
+finished_of before script line.Malformed = ([], script)
+finished_of before script (line.New name code) = (named_status_of script name, script)
+finished_of before script (line.Button name digit) = (named_status_of script name, script)
+finished_of before script (line.Show name) = (named_status_of script name, script)
+finished_of before script (line.At moment) = (expired_text script.moment (all_expired_of script.moment before.doors), script)
+finished_of before script (line.Stop name reason) = (named_status_of script name, script)
+finished_of before script (line.Length name) = length_finished script name (door_of name before.doors)
+finished_of before script line.Names = (names_text script.doors, script)
+
+-- a line that has finished prints its text
+abbrev pub printing : List ℕ × ScriptState → Reply × ScriptState
+printing finished = (Printed finished.0, finished.1)
+
+-- a line that is refused changes nothing; else the doors run until they rest, and then it finishes and prints
 abbrev pub settled_of : ScriptState → Line → Result ScriptState Refusal → Reply × ScriptState
 settled_of script said (Err refusal) = (Refuses refusal, script)
-settled_of script said (Ok acted) = (Printed (text_of script (rested_of acted) said), rested_of acted)
+settled_of script said (Ok acted) = printing (finished_of script (rested_of acted) said)
 
 -- what a line brings about, and the script after it; a line that says nothing does nothing
 abbrev pub step_of : ScriptState → Line → Reply × ScriptState
@@ -146,6 +172,7 @@ step_of script (line.Button name digit) = settled_of script (line.Button name di
 step_of script (line.Show name) = settled_of script (line.Show name) (acted_of script (line.Show name))
 step_of script (line.At moment) = settled_of script (line.At moment) (acted_of script (line.At moment))
 step_of script (line.Stop name reason) = settled_of script (line.Stop name reason) (acted_of script (line.Stop name reason))
+step_of script (line.Length name) = settled_of script (line.Length name) (acted_of script (line.Length name))
 step_of script line.Names = settled_of script line.Names (acted_of script line.Names)
 
 -- what the line of a number prints

@@ -1,19 +1,20 @@
 //! The doors of a script, by name, in order of registration.
 ghost use Rattle.std.specs.Prelude.{◌≡◌, ◌<◌, ◌≤◌, [], ◌∷◌, ◌++◌, None, IfOk, OnOk, OnErr, IfSome, IfNone, length, slice_set, slice_index_or, string_bytes};
 ghost use Rattle.st_core.specs.Post.{post_of};
+ghost use Rattle.st_core.specs.Replies.{collect_of};
 ghost use Rattle.st_core.specs.Stop.{stop_of};
 ghost use Rattle.st_core.specs.Tick.{tick_of};
 ghost use Rattle.st_core.specs.Transition.{turn_of};
-ghost use Rattle.st_core.specs.declared.entry.Entry.TheVariants.{Cast};
-ghost use Rattle.st_door.specs.declared.door_content.DoorContent.TheVariants.{Button};
-ghost use Rattle.st_door.specs.Doors.{NamedDoor, door_named, IsFirst, has_name, door_of, is_ready_door, turned_door, press_of, pressed_door, refusal_of, door_stop_of, ended_door, stop_refusal_of, door_callbacks, count_of, expired_of, ticked_door, all_expired_of, ticked_doors, SameLabels, door_limit};
+ghost use Rattle.st_core.specs.declared.entry.Entry.TheVariants.{Call, Cast};
+ghost use Rattle.st_door.specs.declared.door_content.DoorContent.TheVariants.{Button, CodeLength};
+ghost use Rattle.st_door.specs.Doors.{NamedDoor, door_named, IsFirst, has_name, door_of, is_ready_door, turned_door, press_of, pressed_door, refusal_of, ask_of, asked_door, tag_of, door_collect_of, collected_door, length_in, collected_length, door_stop_of, ended_door, stop_refusal_of, door_callbacks, count_of, expired_of, ticked_door, all_expired_of, ticked_doors, SameLabels, door_limit};
 ghost use Rattle.st_door.specs.Printing.{status_of, names_text};
 
 use crate::printing::{ended_status, status};
 use crate::{Door, DoorContent};
 use indexmap::IndexMap;
-use st_core::{Core, Entry};
-use st_events::{MachineId, Reason, Refusal};
+use st_core::{Collected, Core, Entry};
+use st_events::{MachineId, Reason, Refusal, Tag};
 use std::alloc::{AllocError, Global};
 use std::marker::Model;
 
@@ -122,6 +123,29 @@ impl Doors {
         press(core, digit)
     }
 
+    /// Asks the door at a place how long its code is, and answers the tag of the call, or why that is
+    /// refused.
+    pub(crate) fn ask_at(&mut self, place: usize) -> Result<Result<Tag, Refusal>, AllocError>
+        requires { place < length self.old }
+        ensures answer { IfOk result (λ answer. (d : NamedDoor) → answer ≡ tag_of (slice_index_or self.old place d).machine.id (ask_of (slice_index_or self.old place d)).0) }
+        ensures asked { OnOk result ((d : NamedDoor) → self.new ≡ slice_set self.old place (asked_door (slice_index_or self.old place d))) }
+
+        ensures unchanged { OnErr result (self.new ≡ self.old) }
+    {
+        let (_, core) = self.entries.pair_mut(place);
+        ask(core)
+    }
+
+    /// Collects the reply to the call of a tag at the door at a place, and answers the length that it says.
+    pub(crate) fn collect_at(&mut self, place: usize, tag: Tag) -> Option<usize>
+        requires { place < length self.old }
+        ensures digits { (d : NamedDoor) → result ≡ collected_length (door_collect_of tag (slice_index_or self.old place d)).0 }
+        ensures collected { (d : NamedDoor) → self.new ≡ slice_set self.old place (collected_door tag (slice_index_or self.old place d)) }
+    {
+        let (_, core) = self.entries.pair_mut(place);
+        collect(core, tag)
+    }
+
     /// Ticks the door at a place, and answers how many of its time-outs expire. One that has ended is not
     /// ticked. Where memory is wanted and there is none, the doors stay.
     fn tick_at(&mut self, place: usize, moment: u64) -> Result<u64, AllocError>
@@ -220,6 +244,46 @@ fn press(core: &mut Core<Door>, digit: u8) -> Result<Option<Refusal>, AllocError
             Refusal::NoMemory => Err(AllocError),
             refusal => Ok(Some(refusal)),
         },
+    }
+}
+
+/// Asks a door how long its code is, and answers the tag of the call, or why that is refused.
+fn ask(core: &mut Core<Door>) -> Result<Result<Tag, Refusal>, AllocError>
+    ensures answer { IfOk result (λ answer. answer ≡ tag_of core.old.machine.id (post_of core.old.machine Call CodeLength).0) }
+    ensures asked { OnOk result (core.new.machine ≡ (post_of core.old.machine Call CodeLength).1) }
+
+    ensures unchanged { OnErr result (core.new ≡ core.old) }
+{
+    let machine = core.id();
+    match core.post(Entry::Call, DoorContent::CodeLength) {
+        Ok(request) => Ok(Ok(Tag { machine, request })),
+        Err(refused) => match refused.refusal {
+            Refusal::NoMemory => Err(AllocError),
+            refusal => Ok(Err(refusal)),
+        },
+    }
+}
+
+/// The length that a reply says, if it says one.
+fn length_in(content: DoorContent) -> Option<usize>
+    ensures { result ≡ length_in content }
+{
+    match content {
+        DoorContent::Length(digits) => Some(digits),
+        _ => None,
+    }
+}
+
+/// Collects the reply to the call of a tag at a door, and answers the length that it says.
+fn collect(core: &mut Core<Door>, tag: Tag) -> Option<usize>
+    ensures digits { result ≡ collected_length (collect_of core.old.machine tag).0 }
+    ensures collected { core.new.machine ≡ (collect_of core.old.machine tag).1 }
+{
+    match core.collect(tag) {
+        Collected::Waiting => None,
+        Collected::Reply(content) => length_in(content),
+        Collected::Stopped(_reason) => None,
+        Collected::Gone => None,
     }
 }
 

@@ -1,6 +1,6 @@
 //! What is printed.
 ghost use Rattle.std.specs.Prelude.{◌≡◌, IfOk, string_bytes};
-ghost use Rattle.st_door.specs.Printing.{state_name_of, status_text, ended_text, expired_text};
+ghost use Rattle.st_door.specs.Printing.{state_name_of, status_text, ended_text, expired_text, length_text};
 ghost use Rattle.st_door.specs.Script.{printed_of};
 
 use crate::DoorState;
@@ -50,6 +50,20 @@ pub(crate) fn expired(alloc: Global, moment: u64, count: u128) -> Result<String,
     ensures { IfOk result (λ text. string_bytes text ≡ expired_text moment count) }
 {
     format!(in alloc; "at {moment} expired {count}\n")
+}
+
+/// How long the code of the door of a name is, or a hyphen where that was not said.
+pub(crate) fn code_length(
+    alloc: Global,
+    name: &str,
+    digits: Option<usize>,
+) -> Result<String, AllocError>
+    ensures { IfOk result (λ text. string_bytes text ≡ length_text name.now digits) }
+{
+    match digits {
+        Some(digits) => format!(in alloc; "{name} length {digits}\n"),
+        None => format!(in alloc; "{name} length -\n"),
+    }
 }
 
 /// What the line of a number prints.

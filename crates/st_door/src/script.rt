@@ -1,6 +1,6 @@
 //! A script between two of its lines.
 ghost use Rattle.std.specs.Prelude.{◌≡◌, ◌≤◌, ◌<◌, ℕ, None, Ok, Err, IfOk, OnOk, IfNone, IfSome, length, slice_index_or, slice_set};
-ghost use Rattle.st_door.specs.Doors.{NamedDoor, SameLabels, door_limit, door_of, refusal_of, press_of, pressed_door, stop_refusal_of, door_stop_of, ended_door, all_expired_of};
+ghost use Rattle.st_door.specs.Doors.{NamedDoor, SameLabels, door_limit, door_of, refusal_of, press_of, pressed_door, stop_refusal_of, door_stop_of, ended_door, ask_of, asked_door, tag_of, door_collect_of, collected_door, collected_length, all_expired_of};
 ghost use Rattle.st_door.specs.Printing.{status_of};
 ghost use Rattle.st_door.specs.Script.{first_script_state, step_of, with_start, door_start_of, ticked_script, rested_of};
 ghost use Rattle.st_door.specs.declared.reply.Reply.TheVariants.{Printed};
@@ -8,13 +8,13 @@ ghost use Rattle.st_door.specs.declared.line.Line.TheVariants as line;
 
 use crate::doors::Doors;
 use crate::line::Line;
-use crate::printing::expired;
+use crate::printing::{code_length, expired};
 use crate::reply::Reply;
 use crate::settling::run_until_idle;
 use crate::text::Text;
 use crate::{Digits, Door};
 use st_core::{Core, Start};
-use st_events::{MachineId, Reason, Refusal};
+use st_events::{MachineId, Reason, Refusal, Tag};
 use std::alloc::{AllocError, Global};
 use std::marker::Model;
 
@@ -74,6 +74,7 @@ impl Script {
             Line::Show { name } => self.obey_show(name.as_str()),
             Line::At { moment } => self.obey_at(moment),
             Line::Stop { name, reason } => self.obey_stop(name.as_str(), reason),
+            Line::Length { name } => self.obey_length(name.as_str()),
             Line::Names => self.obey_names(),
         }
     }
@@ -155,6 +156,24 @@ impl Script {
         self.status_reply(place)
     }
 
+    /// Asks the door of a name how long its code is, and answers what it replies.
+    fn obey_length(&mut self, name: &str) -> Result<Reply, AllocError>
+        ensures reply { IfOk result (λ reply. reply ≡ (step_of self.old (line.Length name.now)).0) }
+        ensures script { OnOk result (self.new ≡ (step_of self.old (line.Length name.now)).1) }
+    {
+        let Some(place) = self.doors.place_of(name) else {
+            return Ok(Reply::Refuses(Refusal::NoSuchName));
+        };
+        let tag = match self.ask(place)? {
+            Ok(tag) => tag,
+            Err(refusal) => return Ok(Reply::Refuses(refusal)),
+        };
+        self.settle()?;
+        let digits = self.collect(place, tag);
+        let text = code_length(self.alloc, name, digits)?;
+        Ok(Reply::Printed(Text::from(text)))
+    }
+
     /// Answers the names.
     fn obey_names(&mut self) -> Result<Reply, AllocError>
         ensures reply { IfOk result (λ reply. reply ≡ (step_of self.old line.Names).0) }
@@ -201,6 +220,29 @@ impl Script {
         self.from = from;
         self.until = until;
         Ok(refusal)
+    }
+
+    /// Asks the door at a place how long its code is, and answers the tag of the call, or why that is
+    /// refused.
+    fn ask(&mut self, place: usize) -> Result<Result<Tag, Refusal>, AllocError>
+        requires { place < length self.old.doors }
+        ensures answer { IfOk result (λ answer. (d : NamedDoor) → answer ≡ tag_of (slice_index_or self.old.doors place d).machine.id (ask_of (slice_index_or self.old.doors place d)).0) }
+        ensures asked { OnOk result ((d : NamedDoor) → self.new ≡ record self.old { doors = slice_set self.old.doors place (asked_door (slice_index_or self.old.doors place d)) }) }
+    {
+        let answer = self.doors.ask_at(place)?;
+        let (from, until) = widened(self.from, self.until, place);
+        self.from = from;
+        self.until = until;
+        Ok(answer)
+    }
+
+    /// Collects the reply to the call of a tag at the door at a place, and answers the length that it says.
+    fn collect(&mut self, place: usize, tag: Tag) -> Option<usize>
+        requires { place < length self.old.doors }
+        ensures digits { (d : NamedDoor) → result ≡ collected_length (door_collect_of tag (slice_index_or self.old.doors place d)).0 }
+        ensures collected { (d : NamedDoor) → self.new ≡ record self.old { doors = slice_set self.old.doors place (collected_door tag (slice_index_or self.old.doors place d)) } }
+    {
+        self.doors.collect_at(place, tag)
     }
 
     /// Stops the door at a place for a reason, and answers why that is refused, if it is. From then on

@@ -3,10 +3,13 @@
 mod calls;
 mod door;
 mod faults;
+mod lengths;
 mod limits;
+mod lines;
 mod moments;
 mod scripts;
 mod streams;
+mod worked;
 
 /// Whether one of the next 10,000 allocations is refused.
 fn will_refuse(rt: &HostRuntime) -> bool {

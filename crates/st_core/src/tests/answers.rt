@@ -1,6 +1,6 @@
 //! Answers that are wanted, and how they are compared.
-use crate::{Answer, Call, Done, Report, Turned};
-use st_events::{Kind, PlainList, Reason, Refusal, Refused, Time, Timer};
+use crate::{Answer, Call, Collected, Done, Report, Turned};
+use st_events::{Kind, PlainList, Reason, Refusal, Refused, Tag, Time, Timer};
 use std::alloc::Global;
 use std::fmt::Debug;
 use std::process::Abort;
@@ -296,6 +296,97 @@ pub fn ended<S: Copy, C>(
     })))
 }
 
+/// What a turn answers that handles a call in a state, ends so, leads to a state, and answers requests.
+pub fn replying<S: Copy, C>(
+    rt: &impl Abort,
+    alloc: Global,
+    tag: Tag,
+    before: S,
+    after: S,
+    replied: &[Tag],
+) -> Answer<S, C> {
+    Answer::Turn(Ok(Turned::Reported(Report {
+        replied: list(rt, alloc, replied),
+        ..report(rt, alloc, tag.request, Kind::Call(tag), before, after)
+    })))
+}
+
+/// What a turn answers that handles a call, enters another state, and answers requests.
+pub fn replying_entered<S: Copy, C>(
+    rt: &impl Abort,
+    alloc: Global,
+    tag: Tag,
+    before: S,
+    after: S,
+    replied: &[Tag],
+) -> Answer<S, C> {
+    let handled = handle(tag.request, Kind::Call(tag), before);
+    Answer::Turn(Ok(Turned::Reported(Report {
+        calls: two_calls(rt, alloc, handled, enter(before, after)),
+        replied: list(rt, alloc, replied),
+        ..report(rt, alloc, tag.request, Kind::Call(tag), before, after)
+    })))
+}
+
+/// What a turn answers at whose call a machine stops in a state, and answers requests.
+pub fn ended_replying<S: Copy, C>(
+    rt: &impl Abort,
+    alloc: Global,
+    tag: Tag,
+    state: S,
+    reason: Reason,
+    word: u32,
+    replied: &[Tag],
+) -> Answer<S, C> {
+    let terminate = Call::Terminate {
+        reason,
+        state,
+        word,
+    };
+    let handled = handle(tag.request, Kind::Call(tag), state);
+    Answer::Turn(Ok(Turned::Reported(Report {
+        done: Done::Ended(reason, word),
+        calls: two_calls(rt, alloc, handled, terminate),
+        replied: list(rt, alloc, replied),
+        ..report(rt, alloc, tag.request, Kind::Call(tag), state, state)
+    })))
+}
+
+/// What a turn answers at whose call a state is entered, which stops, and requests are answered.
+pub fn ended_entering_replying<S: Copy, C>(
+    rt: &impl Abort,
+    alloc: Global,
+    tag: Tag,
+    before: S,
+    after: S,
+    reason: Reason,
+    word: u32,
+    replied: &[Tag],
+) -> Answer<S, C> {
+    let terminate = Call::Terminate {
+        reason,
+        state: after,
+        word,
+    };
+    let handled = handle(tag.request, Kind::Call(tag), before);
+    Answer::Turn(Ok(Turned::Reported(Report {
+        done: Done::Ended(reason, word),
+        calls: three_calls(rt, alloc, handled, enter(before, after), terminate),
+        replied: list(rt, alloc, replied),
+        ..report(rt, alloc, tag.request, Kind::Call(tag), before, after)
+    })))
+}
+
+/// What a reply answers: whether it was taken.
+pub fn replied<S, C>(taken: bool) -> Answer<S, C> {
+    Answer::Reply(taken)
+}
+
+/// What a collect answers.
+pub fn collected<S, C>(what: Collected<C>) -> Answer<S, C> {
+    Answer::Collect(what)
+}
+
 /// What a turn answers that finds no event.
 pub fn idle<S, C>() -> Answer<S, C> {
     Answer::Turn(Ok(Turned::Idle))
@@ -374,6 +465,16 @@ pub fn same_report<S: Eq + Debug>(rt: &impl Abort, report: &Report<S>, wanted: &
     assert_eq!(rt; report.set.as_slice(), wanted.set.as_slice());
 }
 
+/// Looks that what was collected is what is wanted.
+fn same_collected<C: Eq + Debug>(rt: &impl Abort, one: &Collected<C>, wanted: &Collected<C>) {
+    match (one, wanted) {
+        (Collected::Waiting, Collected::Waiting) | (Collected::Gone, Collected::Gone) => {}
+        (Collected::Reply(content), Collected::Reply(other)) => assert_eq!(rt; content, other),
+        (Collected::Stopped(reason), Collected::Stopped(other)) => assert_eq!(rt; reason, other),
+        _ => panic!(rt; "{one:?} in the place of {wanted:?}"),
+    }
+}
+
 /// Looks that an answer is the one that is wanted.
 pub fn same_answer<S: Eq + Debug, C: Eq + Debug>(
     rt: &impl Abort,
@@ -393,6 +494,8 @@ pub fn same_answer<S: Eq + Debug, C: Eq + Debug>(
             assert_eq!(rt; refusal, other);
         }
         (Answer::Tick(ticked), Answer::Tick(other)) => assert_eq!(rt; ticked, other),
+        (Answer::Reply(taken), Answer::Reply(other)) => assert_eq!(rt; taken, other),
+        (Answer::Collect(one), Answer::Collect(other)) => same_collected(rt, one, other),
         (Answer::Stop(stopped), Answer::Stop(other)) => assert_eq!(rt; stopped, other),
         _ => panic!(rt; "{answer:?} in the place of {wanted:?}"),
     }

@@ -60,6 +60,7 @@ where
                 }
             }
             assert_eq!(rt; at_once.seen(), without.seen());
+            assert_eq!(rt; at_once.kept(), without.kept());
             assert_eq!(rt;
                 at_once.timers(rt).as_slice(),
                 without.timers(rt).as_slice()
@@ -70,6 +71,7 @@ where
                 same_answer(rt, answer, wanted);
             }
             assert_eq!(rt; at_once.seen(), *end);
+            assert_eq!(rt; at_once.kept(), single.kept());
             assert_eq!(rt; at_once.timers(rt).as_slice(), timers);
             return;
         }

@@ -5,7 +5,7 @@ ghost use Rattle.st_events.specs.declared.action.Action.TheVariants as action;
 ghost use Rattle.st_events.specs.declared.enter_action.EnterAction.TheVariants as enter_action;
 ghost use Rattle.st_events.specs.declared.time.Time.TheVariants as time;
 ghost use Rattle.st_events.specs.declared.timer.Timer.TheVariants as timer;
-ghost use Rattle.st_core.specs.WorkedTable.{first_tag, five_actions, two_inserts, three_settings, handled_by_entering, handled_by_setting, handled_anywhere, handled_at_first, handled_by_table, enters_by_table, entering_actions, five_enter_actions, changed_by_table, entered_by_table, begun_by_table};
+ghost use Rattle.st_core.specs.WorkedTable.{first_tag, second_tag, five_actions, two_inserts, three_settings, handled_by_replying, handled_by_entering, handled_by_setting, handled_anywhere, handled_at_first, handled_by_table, enters_by_table, entering_actions, five_enter_actions, changed_by_table, entered_by_table, begun_by_table};
 
 use st_events::{
     Action, Actions, EnterAction, EnterActions, EnterOutcome, Init, Kind, MachineId, Module,
@@ -16,6 +16,18 @@ use std::alloc::{AllocError, Global};
 /// The request to which the table replies.
 const TAG: Tag = Tag {
     machine: MachineId { slot: 0, serial: 1 },
+    request: 1,
+};
+
+/// Another request to the same machine.
+const SECOND: Tag = Tag {
+    machine: MachineId { slot: 0, serial: 1 },
+    request: 2,
+};
+
+/// A request to another machine.
+const FOREIGN: Tag = Tag {
+    machine: MachineId { slot: 0, serial: 2 },
     request: 1,
 };
 
@@ -57,6 +69,10 @@ const TAG: Tag = Tag {
 /// | 34 | leads to the state 2, with the data 9 |
 /// | 35 | leads to the state 1, is postponed, and sets the named timer 1 for 5, the state time-out for 10 and the named timer 2 for 5 |
 /// | 36 | repeats both, and is postponed |
+/// | 37 | stops for the reason 9, with replies of 40 to the first request and of 51 to the second |
+/// | 38 | leads to the state 1, with a reply of 52 to the second request |
+/// | 39 | keeps both, with replies of 50 and then of 51 to the first request |
+/// | 40 | keeps both, with a reply of 53 to another machine's request |
 /// | other | keeps both |
 ///
 /// The contents of time-outs are 0, where no other is told.
@@ -81,6 +97,7 @@ const TAG: Tag = Tag {
 /// | 62 | keeps the data, with a reply of 60, and sets the state time-out for 20 and the named timer 1 for 9 |
 /// | 63 | keeps the data, with five hibernations |
 /// | 64 | gives the data 40 where it is handed 9, and else 41 |
+/// | 65 | keeps the data, with a reply of 62, where the old state is not the new one |
 /// | 70 | stops for the reason 4 |
 /// | 71 | stops for the reason 4, with a reply of 61 and the data 8, where the old state is not the new one |
 /// | 72 | stops for the reason 4 where the old state is not the new one |
@@ -170,6 +187,37 @@ fn postpone_and_settings(alloc: Global) -> Result<Actions<u32>, AllocError>
     Ok(actions)
 }
 
+/// Replies to both requests.
+fn two_replies(alloc: Global) -> Result<Replies<u32>, AllocError>
+    ensures { IfOk result (λ replies. replies ≡ (first_tag, 40) ∷ (second_tag, 51) ∷ []) }
+{
+    let mut replies = Replies::new(alloc);
+    replies.push((TAG, 40))?;
+    replies.push((SECOND, 51))?;
+    Ok(replies)
+}
+
+/// What `handle` answers to the contents that reply.
+fn handle_replying(
+    alloc: Global,
+    content: u32,
+    held: u32,
+) -> Result<Outcome<u32, u32, u32>, AllocError>
+    ensures { IfOk result (λ outcome. outcome ≡ handled_by_replying content held) }
+{
+    match content {
+        37 => Ok(Outcome::StopAndReply(9, two_replies(alloc)?, None)),
+        38 => Ok(Outcome::NextState(1, held, one(alloc, Action::Reply(SECOND, 52))?)),
+        39 => Ok(Outcome::KeepStateAndData(two(
+            alloc,
+            Action::Reply(TAG, 50),
+            Action::Reply(TAG, 51),
+        )?)),
+        40 => Ok(Outcome::KeepStateAndData(one(alloc, Action::Reply(FOREIGN, 53))?)),
+        _ => Ok(Outcome::KeepStateAndData(Actions::new(alloc))),
+    }
+}
+
 /// What `handle` answers to the contents that have a state entered.
 fn handle_entering(
     alloc: Global,
@@ -184,7 +232,7 @@ fn handle_entering(
         34 => Ok(Outcome::NextState(2, 9, Actions::new(alloc))),
         35 => Ok(Outcome::NextState(1, held, postpone_and_settings(alloc)?)),
         36 => Ok(Outcome::RepeatStateAndData(one(alloc, Action::Postpone(true))?)),
-        _ => Ok(Outcome::KeepStateAndData(Actions::new(alloc))),
+        _ => handle_replying(alloc, content, held),
     }
 }
 
@@ -340,6 +388,11 @@ fn enter_changed(
         }
         71 => Ok(EnterOutcome::StopAndReply(4, entering_reply(alloc)?, Some(8))),
         72 => Ok(EnterOutcome::Stop(4, None)),
+        65 => {
+            let mut actions = EnterActions::new(alloc);
+            actions.push(EnterAction::Reply(TAG, 62))?;
+            Ok(EnterOutcome::KeepStateAndData(actions))
+        }
         _ => Ok(EnterOutcome::KeepStateAndData(EnterActions::new(alloc))),
     }
 }

@@ -12,6 +12,10 @@ pub fn info(content: u32) -> Told<u32> {
     Told::Post(Entry::Info, content)
 }
 
+pub fn call(content: u32) -> Told<u32> {
+    Told::Post(Entry::Call, content)
+}
+
 /// A table's machine at the moment 0.
 pub const BEGIN: Begin<Table, u32> = Begin {
     module: Table { number: 50 },

@@ -5,13 +5,21 @@ use super::answers::{
     found_no_memory, is_refused, not_posted, not_stopped, not_ticked, not_turned, room,
     same_answer, same_report, started,
 };
-use crate::{Answer, Command, Core, Due, Entry, Start, Turned};
-use st_events::{MachineId, Module, PlainList, Reason, Refusal, Refused, Time, Timer};
+use crate::{Answer, Collected, Command, Core, Due, Entry, Start, Turned};
+use st_events::{MachineId, Module, PlainList, Reason, Refusal, Refused, Tag, Time, Timer};
 use std::alloc::Global;
 use std::fmt::Debug;
 use std::process::Abort;
 
 pub const ID: MachineId = MachineId { slot: 0, serial: 1 };
+
+/// The tag of the request that a post with this number opens.
+pub fn tag(request: u64) -> Tag {
+    Tag {
+        machine: ID,
+        request,
+    }
+}
 
 /// A command that can be told again.
 #[derive(Clone, Copy, Debug)]
@@ -19,6 +27,8 @@ pub enum Told<C> {
     Post(Entry, C),
     Tick(u64),
     Turn(u64),
+    Reply(Tag, C),
+    Collect(Tag),
     Stop(Reason),
 }
 
@@ -31,6 +41,15 @@ pub struct Seen<S, D> {
     pub latest: u64,
     pub waiting: usize,
     pub ended: Option<(Reason, u32)>,
+}
+
+/// The replies that are kept for the first four requests, where there are some.
+#[derive(Clone, Copy, Debug, PartialEq, Eq)]
+pub struct Kept<C> {
+    pub first: Option<C>,
+    pub second: Option<C>,
+    pub third: Option<C>,
+    pub fourth: Option<C>,
 }
 
 /// How a machine starts, the numbers of the events that its `init` inserts, and the timers that it sets.
@@ -105,7 +124,10 @@ where
                 assert_eq!(rt; core.latest(), begin.now);
                 assert_eq!(rt; core.id(), ID);
                 assert_eq!(rt; core.ended(), None);
-                Tested { core }
+                let tested = Tested { core };
+                let kept = tested.kept();
+                assert!(rt; kept.first.is_none() && kept.second.is_none());
+                tested
             }
             Ok(Start::Ignored) => panic!(rt; "the start was ignored"),
             Ok(Start::Stopped(reason)) => panic!(rt; "the start stopped for {reason}"),
@@ -122,6 +144,16 @@ where
             latest: self.core.latest(),
             waiting: self.core.waiting(),
             ended: self.core.ended(),
+        }
+    }
+
+    /// The replies that are kept.
+    pub fn kept(&self) -> Kept<M::Content> {
+        Kept {
+            first: self.core.peek(tag(1)).copied(),
+            second: self.core.peek(tag(2)).copied(),
+            third: self.core.peek(tag(3)).copied(),
+            fourth: self.core.peek(tag(4)).copied(),
         }
     }
 
@@ -143,9 +175,11 @@ where
         &self,
         rt: &impl Abort,
         seen: &Seen<M::State, M::Data>,
+        kept: &Kept<M::Content>,
         timers: &[(Timer, u64, Due)],
     ) {
         assert_eq!(rt; self.seen(), *seen);
+        assert_eq!(rt; self.kept(), *kept);
         assert_eq!(rt; self.timers(rt).as_slice(), timers);
     }
 
@@ -155,6 +189,8 @@ where
             Told::Post(entry, content) => Answer::Post(self.core.post(entry, content)),
             Told::Tick(now) => Answer::Tick(self.core.tick(now)),
             Told::Turn(now) => Answer::Turn(self.core.turn(now)),
+            Told::Reply(tag, content) => Answer::Reply(self.core.reply(tag, content)),
+            Told::Collect(tag) => Answer::Collect(self.core.collect(tag)),
             Told::Stop(reason) => Answer::Stop(self.core.stop(reason)),
         }
     }
@@ -167,10 +203,11 @@ where
         told: Told<M::Content>,
     ) -> Answer<M::State, M::Content> {
         let before = self.seen();
+        let kept = self.kept();
         let timers = self.timers(rt);
         let answer = self.call(told);
         if is_refused(&answer) {
-            self.is_as_before(rt, &before, timers.as_slice());
+            self.is_as_before(rt, &before, &kept, timers.as_slice());
         }
         // A stop takes no memory.
         assert!(rt; !matches!(answer, Answer::Stop(Err(Refusal::NoMemory))));
@@ -182,7 +219,7 @@ where
         assert!(rt; before.is_ready || !matches!(told, Told::Turn(_)));
         let again = self.call(told);
         if is_refused(&again) {
-            self.is_as_before(rt, &before, timers.as_slice());
+            self.is_as_before(rt, &before, &kept, timers.as_slice());
         }
         // Nor does a post that is refused, a tick at which nothing expires, or a turn before its callback.
         match &again {
@@ -203,11 +240,12 @@ where
         told: &[Told<M::Content>],
     ) -> Vec<Answer<M::State, M::Content>> {
         let before = self.seen();
+        let kept = self.kept();
         let timers = self.timers(rt);
         match self.core.run(commands(rt, alloc, told)) {
             Ok(answers) => answers,
             Err(back) => {
-                self.is_as_before(rt, &before, timers.as_slice());
+                self.is_as_before(rt, &before, &kept, timers.as_slice());
                 assert_eq!(rt; back.len(), told.len());
                 for (command, one) in back.iter().zip(told.iter()) {
                     assert!(rt; is_command(command, *one));
@@ -222,11 +260,14 @@ where
 }
 
 /// What a command answers that finds no memory.
-pub fn without_memory<S, C>(told: Told<C>) -> Answer<S, C> {
+pub fn without_memory<S, C: Drop>(told: Told<C>) -> Answer<S, C> {
     match told {
         Told::Post(_, content) => not_posted(Refusal::NoMemory, content),
         Told::Tick(_) => not_ticked(Refusal::NoMemory),
         Told::Turn(_) => not_turned(Refusal::NoMemory),
+        // These take no memory, so that it is never asked for.
+        Told::Reply(_, _) => Answer::Reply(false),
+        Told::Collect(_) => Answer::Collect(Collected::Gone),
         Told::Stop(_) => not_stopped(Refusal::NoMemory),
     }
 }
@@ -239,6 +280,10 @@ fn is_command<C: Eq + Drop>(command: &Command<C>, told: Told<C>) -> bool {
         }
         (Command::Tick(now), Told::Tick(other)) => *now == other,
         (Command::Turn(now), Told::Turn(other)) => *now == other,
+        (Command::Reply(tag, content), Told::Reply(other_tag, other)) => {
+            *tag == other_tag && *content == other
+        }
+        (Command::Collect(tag), Told::Collect(other)) => *tag == other,
         (Command::Stop(reason), Told::Stop(other)) => *reason == other,
         _ => false,
     }
@@ -252,6 +297,8 @@ fn commands<C: Copy>(rt: &impl Abort, alloc: Global, told: &[Told<C>]) -> Vec<Co
             Told::Post(entry, content) => Command::Post(entry, content),
             Told::Tick(now) => Command::Tick(now),
             Told::Turn(now) => Command::Turn(now),
+            Told::Reply(tag, content) => Command::Reply(tag, content),
+            Told::Collect(tag) => Command::Collect(tag),
             Told::Stop(reason) => Command::Stop(reason),
         };
         assert!(rt; commands.push(command).is_ok());

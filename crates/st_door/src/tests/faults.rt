@@ -1,7 +1,8 @@
 //! Reads, writes and allocations that fail.
 
 use super::streams::{Failure, PLAIN, Way, run, run_once};
-use super::tell_refusals;
+use super::worked::{ALL, Worked};
+use super::{is_left_out, tell_refusals};
 use crate::ScriptFault;
 use std::alloc::Global;
 use std::process::Abort;
@@ -61,6 +62,88 @@ fn a_write_that_fails_ends_the_script(rt: HostRuntime) {
 fn a_write_that_takes_nothing_ends_the_script(rt: HostRuntime) {
     fail_writes(&rt, rt.alloc(), Failure::TakesNothing);
     tell_refusals(rt);
+}
+
+#[test]
+fn each_worked_script_is_the_same_a_byte_at_a_time(rt: HostRuntime) {
+    if is_left_out(&rt) {
+        return;
+    }
+    for Worked {
+        script,
+        output,
+        status,
+    } in ALL {
+        let (answer, written) = run(rt.alloc(), script, Way { most: 1, ..PLAIN });
+        assert_eq!(rt; answer, Ok(*status), "of {output}");
+        assert_eq!(rt; written.as_slice(), output.as_bytes(), "of {output}");
+    }
+}
+
+#[test]
+fn each_worked_script_ends_at_each_read_that_fails(rt: HostRuntime) {
+    if is_left_out(&rt) {
+        return;
+    }
+    for Worked { script, output, .. } in ALL {
+        // A byte a read, and the end.
+        for read in 1..script.len() as u64 + 2 {
+            let way = Way {
+                most: 1,
+                failing_read: read,
+                ..PLAIN
+            };
+            let (answer, written) = run(rt.alloc(), script, way);
+            assert_eq!(rt;
+                answer,
+                Err(ScriptFault::Read),
+                "at read {read} of {output}"
+            );
+            assert!(rt; written.is_empty(), "at read {read} of {output}");
+        }
+    }
+}
+
+/// Fails at each write of each worked script in turn, a byte a write.
+fn fail_each_write(rt: &impl Abort, alloc: Global, failure: Failure) {
+    for Worked { script, output, .. } in ALL {
+        let bytes = output.as_bytes();
+        for count in 0..bytes.len() {
+            let way = Way {
+                most: 1,
+                failing_write: count as u64 + 1,
+                failure,
+                ..PLAIN
+            };
+            let (answer, written) = run(alloc, script, way);
+            assert_eq!(rt;
+                answer,
+                Err(ScriptFault::Write),
+                "after {count} of {output}"
+            );
+            assert_eq!(rt;
+                written.as_slice(),
+                &bytes[..count],
+                "after {count} of {output}"
+            );
+        }
+    }
+}
+
+#[test]
+fn each_worked_script_ends_at_each_write_that_fails(rt: HostRuntime) {
+    if is_left_out(&rt) {
+        return;
+    }
+    fail_each_write(&rt, rt.alloc(), Failure::Error);
+}
+
+#[test]
+fn each_worked_script_ends_at_each_write_that_takes_nothing(rt: HostRuntime) {
+    if is_left_out(&rt) {
+        return;
+    }
+    fail_each_write(&rt, rt.alloc(), Failure::TakesNothing);
 }
 
 #[test]

@@ -4,46 +4,6 @@ use super::streams::prints;
 use super::tell_refusals;
 
 #[test]
-fn a_postponed_button_counts_once_the_door_is_locked(rt: HostRuntime) {
-    prints(
-        &rt,
-        rt.alloc(),
-        b"new front 12\n\
-          button front 1\n\
-          button front 2\n\
-          button front 1\n\
-          at 10000\n\
-          show front\n\
-          button front 2\n",
-        "front locked buttons 0 waiting 0\n\
-         front locked buttons 1 waiting 0\n\
-         front open buttons 0 waiting 0\n\
-         front open buttons 0 waiting 1\n\
-         at 10000 expired 1\n\
-         front locked buttons 1 waiting 0\n\
-         front open buttons 0 waiting 0\n",
-        0,
-    );
-    tell_refusals(rt);
-}
-
-#[test]
-fn buttons_are_forgotten_after_30000_milliseconds(rt: HostRuntime) {
-    prints(
-        &rt,
-        rt.alloc(),
-        b"new a 12\nbutton a 1\nat 29999\nat 30000\nshow a\n",
-        "a locked buttons 0 waiting 0\n\
-         a locked buttons 1 waiting 0\n\
-         at 29999 expired 0\n\
-         at 30000 expired 1\n\
-         a locked buttons 0 waiting 0\n",
-        0,
-    );
-    tell_refusals(rt);
-}
-
-#[test]
 fn each_button_counts_for_30000_milliseconds_more(rt: HostRuntime) {
     prints(
         &rt,

@@ -10,20 +10,6 @@ fn an_empty_script_prints_nothing(rt: HostRuntime) {
 }
 
 #[test]
-fn the_code_opens_the_door(rt: HostRuntime) {
-    prints(
-        &rt,
-        rt.alloc(),
-        b"new front 12\nbutton front 1\nbutton front 2\n",
-        "front locked buttons 0 waiting 0\n\
-         front locked buttons 1 waiting 0\n\
-         front open buttons 0 waiting 0\n",
-        0,
-    );
-    tell_refusals(rt);
-}
-
-#[test]
 fn only_the_last_digit_opens_the_door(rt: HostRuntime) {
     prints(
         &rt,
@@ -40,32 +26,7 @@ fn only_the_last_digit_opens_the_door(rt: HostRuntime) {
 }
 
 #[test]
-fn the_last_buttons_count(rt: HostRuntime) {
-    prints(
-        &rt,
-        rt.alloc(),
-        b"new a 12\nbutton a 3\nbutton a 1\nbutton a 2\n",
-        "a locked buttons 0 waiting 0\n\
-         a locked buttons 1 waiting 0\n\
-         a locked buttons 2 waiting 0\n\
-         a open buttons 0 waiting 0\n",
-        0,
-    );
-    tell_refusals(rt);
-}
-
-#[test]
-fn a_button_of_an_open_door_waits(rt: HostRuntime) {
-    prints(
-        &rt,
-        rt.alloc(),
-        b"new front 12\nbutton front 1\nbutton front 2\nbutton front 1\n",
-        "front locked buttons 0 waiting 0\n\
-         front locked buttons 1 waiting 0\n\
-         front open buttons 0 waiting 0\n\
-         front open buttons 0 waiting 1\n",
-        0,
-    );
+fn each_button_of_an_open_door_waits(rt: HostRuntime) {
     prints(
         &rt,
         rt.alloc(),
@@ -75,37 +36,6 @@ fn a_button_of_an_open_door_waits(rt: HostRuntime) {
          a open buttons 0 waiting 1\n\
          a open buttons 0 waiting 2\n\
          a open buttons 0 waiting 2\n",
-        0,
-    );
-    tell_refusals(rt);
-}
-
-#[test]
-fn a_stop_drops_what_waits_and_ends_the_door(rt: HostRuntime) {
-    prints(
-        &rt,
-        rt.alloc(),
-        b"new a 1\nbutton a 1\nbutton a 1\nstop a 7\nshow a\nbutton a 1\n",
-        "a locked buttons 0 waiting 0\n\
-         a open buttons 0 waiting 0\n\
-         a open buttons 0 waiting 1\n\
-         a stopped 7 word 0\n\
-         a stopped 7 word 0\n\
-         line 6 refused 2\n",
-        1,
-    );
-    tell_refusals(rt);
-}
-
-#[test]
-fn a_stopped_door_tells_how_many_buttons_it_had(rt: HostRuntime) {
-    prints(
-        &rt,
-        rt.alloc(),
-        b"new a 12\nbutton a 1\nstop a 7\n",
-        "a locked buttons 0 waiting 0\n\
-         a locked buttons 1 waiting 0\n\
-         a stopped 7 word 1\n",
         0,
     );
     tell_refusals(rt);
@@ -126,21 +56,6 @@ fn a_stopped_door_keeps_its_name_and_its_reason(rt: HostRuntime) {
          names a b\n\
          b open buttons 0 waiting 0\n\
          a stopped 7 word 0\n",
-        1,
-    );
-    tell_refusals(rt);
-}
-
-#[test]
-fn refused_and_malformed_lines_are_told_by_number(rt: HostRuntime) {
-    prints(
-        &rt,
-        rt.alloc(),
-        b"button back 1\nnew front 12\nnew front 34\npress front 1\n",
-        "line 1 refused 8\n\
-         front locked buttons 0 waiting 0\n\
-         line 3 refused 7\n\
-         line 4 malformed\n",
         1,
     );
     tell_refusals(rt);
@@ -188,7 +103,7 @@ fn what_has_no_form_is_malformed(rt: HostRuntime) {
           show a\xff\n\
           at\n\
           stop a +7\n\
-          length a\n\
+          length a b\n\
           remove a\n\
           show a\r\r\n\
           button a 12\n\

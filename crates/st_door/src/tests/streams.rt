@@ -138,9 +138,14 @@ pub fn run(alloc: Global, script: &[u8], way: Way) -> (Result<u8, ScriptFault>, 
     }
 }
 
-/// Sees that a script prints this and has this status.
+/// Sees that a script prints this and has this status. Where no memory was found, a front of this was
+/// written, and the script is run once more.
 pub fn prints(rt: &impl Abort, alloc: Global, script: &[u8], output: &str, status: u8) {
-    let (answer, written) = run(alloc, script, PLAIN);
+    let (mut answer, mut written) = run_once(alloc, script, PLAIN);
+    if answer == Err(ScriptFault::Memory) {
+        assert!(rt; output.as_bytes().starts_with(written.as_slice()));
+        (answer, written) = run_once(alloc, script, PLAIN);
+    }
     assert_eq!(rt; str::from_utf8(written.as_slice()), Ok(output));
     assert_eq!(rt; answer, Ok(status));
 }

@@ -17,5 +17,5 @@ run_from-requires-send-M-Arg g c κs within = c.type_bounds.send-M-Arg
 -- it is what `init` alone comes to
 pub returns : goal.returns
 returns g c = record {
-  start = c.run_from.ensures.start (begun_with c.args.state c.args.data c.args.actions) (sym c.new-calls.ensures) (sym c.in-Ok.ensures.planned);
+  start = c.run_from.ensures.start (begun_with c.args.state c.args.data c.args.actions) (sym c.new-calls.ensures) (sym c.in-Ok.ensures);
 }

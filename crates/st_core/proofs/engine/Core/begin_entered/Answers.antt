@@ -1,5 +1,6 @@
-use Rattle.std.proofs.Common.{◌≡◌, refl, ap, sym, ◌∙◌, inr}
+use Rattle.std.proofs.Common.{◌≡◌, refl, ap, sym, ◌∙◌, inr, arith}
 use Rattle.std.specs.Prelude.{None, Some}
+use Rattle.st_actions.specs.Plan.{plan_of}
 use Rattle.st_core.specs.Callbacks.{Called, callbacks_of, begun_with, entered_with}
 use Rattle.st_core.specs.Start.{first_state}
 use Rattle.st_core.proofs.StartLemmas.{begun_takes_memory, begins, ends, starts_same}
@@ -17,7 +18,35 @@ run_from-requires-send-M-Content g c κs within = c.type_bounds.send-M-Content
 pub run_from-requires-send-M-Arg : goal.run_from-requires-send-M-Arg
 run_from-requires-send-M-Arg g c κs within = c.type_bounds.send-M-Arg
 
+pub end_at-requires-send-M-State : goal.end_at-requires-send-M-State
+end_at-requires-send-M-State g c κs within = c.type_bounds.send-M-State
+
+pub end_at-requires-send-M-Data : goal.end_at-requires-send-M-Data
+end_at-requires-send-M-Data g c κs within = c.type_bounds.send-M-Data
+
+pub end_at-requires-send-M-Content : goal.end_at-requires-send-M-Content
+end_at-requires-send-M-Content g c κs within = c.type_bounds.send-M-Content
+
+pub end_at-requires-send-M-Arg : goal.end_at-requires-send-M-Arg
+end_at-requires-send-M-Arg g c κs within = c.type_bounds.send-M-Arg
+
 -- each call that finds no memory comes after `init`
+pub returns-in_default-enter : goal.returns-in_default-enter
+returns-in_default-enter g c = record {
+  start = λ called called_is.
+      let callbacks = callbacks_of g.M.Module g.M.State.PartialEq.eq c.args.module in
+      let machine = first_state c.args.id called.state called.data c.args.now c.args.first in
+      inr (begun_takes_memory _ callbacks c.args.module machine called called.reason, rw c.refused-in_default-enter.ensures refl);
+}
+
+pub returns-in_default-plan_entered : goal.returns-in_default-plan_entered
+returns-in_default-plan_entered g c = record {
+  start = λ called called_is.
+      let callbacks = callbacks_of g.M.Module g.M.State.PartialEq.eq c.args.module in
+      let machine = first_state c.args.id called.state called.data c.args.now c.args.first in
+      inr (begun_takes_memory _ callbacks c.args.module machine called called.reason, rw c.refused-in_default-plan_entered.ensures refl);
+}
+
 pub returns-in_default-one_call : goal.returns-in_default-one_call
 returns-in_default-one_call g c = record {
   start = λ called called_is.
@@ -26,32 +55,23 @@ returns-in_default-one_call g c = record {
       inr (begun_takes_memory _ callbacks c.args.module machine called called.reason, rw c.refused-in_default-one_call.ensures refl);
 }
 
-pub returns-in_default-plan_both : goal.returns-in_default-plan_both
-returns-in_default-plan_both g c = record {
-  start = λ called called_is.
-      let callbacks = callbacks_of g.M.Module g.M.State.PartialEq.eq c.args.module in
-      let machine = first_state c.args.id called.state called.data c.args.now c.args.first in
-      inr (begun_takes_memory _ callbacks c.args.module machine called called.reason, rw c.refused-in_default-plan_both.ensures refl);
-}
-
 -- the machine runs
-pub returns : goal.returns
-returns g c = record {
+pub returns-in-None : goal.returns-in-None
+returns-in-None g c = record {
   start = λ called called_is.
       let callbacks = callbacks_of g.M.Module g.M.State.PartialEq.eq c.args.module in
       let begun = begun_with c.args.state c.args.data c.args.actions in
-      let called_as : called ≡ entered_with c.args.state begun c.in-Ok.entered =
-      called_is ∙ ap (λ entered. entered_with c.args.state begun entered) (sym c.in-Ok.ensures) in
+      let called_as : called ≡ entered_with c.args.state begun c.in-Ok-enter.entered =
+      called_is ∙ ap (λ entered. entered_with c.args.state begun entered) (sym c.in-Ok-enter.ensures) in
       let calls : called.calls ≡ c.in-Ok-one_call.calls = rw (called_as, c.in-Ok-one_call.ensures) refl in
       let state : called.state ≡ c.args.state = rw called_as refl in
       let held : called.data ≡ c.replace.new.held =
-      ap (λ (last : Called _ _ _). last.data) called_as
-      ∙ sym (c.new_entered_data.ensures c.args.data ∙ c.take_entered_actions-later.ensures.kept c.args.data)
-      ∙ sym c.replace.ensures in
-      let none : called.reason ≡ None = rw called_as (sym c.entered_reason-reason.ensures ∙ c.in_default-reason.is) in
+      ap (λ (last : Called _ _ _). last.data) called_as ∙ sym (c.plan_entered.ensures.new_data c.args.data) ∙ sym c.replace.ensures in
+      let none : called.reason ≡ None = rw called_as (sym c.entered_reason-reason.ensures ∙ c.in-None.is) in
+      let asked : plan_of called.actions ≡ c.in-Ok-plan_entered.planned =
+      ap (λ (last : Called _ _ _). plan_of last.actions) called_as ∙ sym (c.in-Ok-plan_entered.ensures.planned c.args.actions c.in-Ok.ensures) in
       starts_same _ c.args.module _ (begins _ callbacks c.args.module c.args.id called c.args.now c.args.first none state held)
-      (c.run_from.ensures.start called calls
-      (rw (called_as, c.in-Ok-plan_both.ensures, c.take_entered_actions-later.ensures.actions) refl));
+      (c.run_from.ensures.start called calls asked);
 }
 
 -- the first enter call stops
@@ -60,15 +80,22 @@ returns-in-Some g c = record {
   start = λ called called_is.
       let callbacks = callbacks_of g.M.Module g.M.State.PartialEq.eq c.args.module in
       let begun = begun_with c.args.state c.args.data c.args.actions in
-      let called_as : called ≡ entered_with c.args.state begun c.in-Ok.entered =
-      called_is ∙ ap (λ entered. entered_with c.args.state begun entered) (sym c.in-Ok.ensures) in
+      let called_as : called ≡ entered_with c.args.state begun c.in-Ok-enter.entered =
+      called_is ∙ ap (λ entered. entered_with c.args.state begun entered) (sym c.in-Ok-enter.ensures) in
       let calls : called.calls ≡ c.in-Ok-one_call.calls = rw (called_as, c.in-Ok-one_call.ensures) refl in
       let state : called.state ≡ c.args.state = rw called_as refl in
       let held : called.data ≡ c.replace.new.held =
-      ap (λ (last : Called _ _ _). last.data) called_as
-      ∙ sym (c.new_entered_data.ensures c.args.data ∙ c.take_entered_actions-later.ensures.kept c.args.data)
-      ∙ sym c.replace.ensures in
+      ap (λ (last : Called _ _ _). last.data) called_as ∙ sym (c.plan_entered.ensures.new_data c.args.data) ∙ sym c.replace.ensures in
       let some : called.reason ≡ Some c.in-Some.reason = rw called_as (sym c.entered_reason-reason.ensures ∙ c.in-Some.is) in
       starts_same _ c.args.module _ (ends _ callbacks c.args.module c.args.id called c.args.now c.args.first c.in-Some.reason some state held)
       (c.end_at.ensures.start called calls);
 }
+
+pub array_drop-planned-requires-in_default-enter-2 : goal.array_drop-planned-requires-in_default-enter-2
+array_drop-planned-requires-in_default-enter-2 g c = omega (arith, g.met.M.Module.settings_fit)
+
+pub array_drop-planned-requires-in_default-one_call-3 : goal.array_drop-planned-requires-in_default-one_call-3
+array_drop-planned-requires-in_default-one_call-3 g c = omega (arith, g.met.M.Module.settings_fit)
+
+pub array_drop-planned-requires-in-Some-reason-3 : goal.array_drop-planned-requires-in-Some-reason-3
+array_drop-planned-requires-in-Some-reason-3 g c = omega (arith, g.met.M.Module.settings_fit)

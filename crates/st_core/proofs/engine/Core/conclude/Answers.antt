@@ -1,5 +1,7 @@
-use Rattle.std.proofs.Common.{◌≡◌, refl, sym, ◌∙◌}
+use Rattle.std.proofs.Common.{◌≡◌, refl, ap, sym, ◌∙◌, arith}
 use Rattle.std.specs.Prelude.{None, Some}
+use Rattle.st_actions.specs.declared.planned.Planned.{Planned}
+use Rattle.st_actions.specs.Plan.{plan_of}
 use Rattle.st_core.specs.Callbacks.{callbacks_of, or_old}
 use Rattle.st_core.specs.Run.{turn_takes_memory, turn_without_memory}
 use Rattle.st_core.specs.Transition.{with_moment}
@@ -18,19 +20,30 @@ go_on-requires-send-M-Content g c κs within = c.type_bounds.send-M-Content
 pub go_on-requires-send-M-Arg : goal.go_on-requires-send-M-Arg
 go_on-requires-send-M-Arg g c κs within = c.type_bounds.send-M-Arg
 
+pub stop_at-requires-send-M-State : goal.stop_at-requires-send-M-State
+stop_at-requires-send-M-State g c κs within = c.type_bounds.send-M-State
+
+pub stop_at-requires-send-M-Data : goal.stop_at-requires-send-M-Data
+stop_at-requires-send-M-Data g c κs within = c.type_bounds.send-M-Data
+
+pub stop_at-requires-send-M-Content : goal.stop_at-requires-send-M-Content
+stop_at-requires-send-M-Content g c κs within = c.type_bounds.send-M-Content
+
+pub stop_at-requires-send-M-Arg : goal.stop_at-requires-send-M-Arg
+stop_at-requires-send-M-Arg g c κs within = c.type_bounds.send-M-Arg
+
 -- the machine goes on
-pub returns-clause-step : goal.returns-clause-step
-returns-clause-step g c called called_is =
+pub returns-in-None-clause-step : goal.returns-in-None-clause-step
+returns-in-None-clause-step g c called called_is =
     let callbacks = callbacks_of g.M.Module g.M.State.PartialEq.eq c.args.self.now.module_ in
     let machine = c.args.self.now.machine in
-    let none : called.reason ≡ None = rw called_is (sym c.reason_of-reason.ensures ∙ c.in_default-reason.is) in
+    let none : called.reason ≡ None = rw called_is (sym c.reason_of-reason.ensures ∙ c.in-None.is) in
     let state : called.state ≡ c.state_after-after.result = rw (called_is, c.state_after-after.ensures, ← c.self.view_is) refl in
-    let held : called.data ≡ or_old machine.data c.new_data-data.result =
-    rw called_is (sym (c.new_data-data.ensures machine.data ∙ c.take_actions-actions.ensures.kept machine.data)) in
+    let held : called.data ≡ or_old machine.data c.plan_outcome.new.data = rw called_is (sym (c.plan_outcome.ensures.new_data machine.data)) in
     let changed : called.changed ≡ c.changes_state-changed.result = rw (called_is, c.changes_state-changed.ensures, ← c.self.view_is) refl in
+    let asked : plan_of called.actions ≡ c.in-Ok.planned = rw called_is (sym c.in-Ok.ensures.planned) in
     meets_same turn_takes_memory turn_without_memory _ _ _ (goes_on callbacks machine (with_moment machine c.args.now) c.args.number called none)
-    (c.go_on.ensures.step called (rw (called_is, c.in-Ok.ensures, ← c.self.view_is) refl) state held changed
-    (rw (called_is, c.in-Ok-plan.ensures.planned, c.take_actions-actions.ensures.actions) refl))
+    (c.go_on.ensures.step called (rw (called_is, c.in-Ok-handle_alone.ensures, ← c.self.view_is) refl) state held changed asked)
 
 -- the machine stops
 pub returns-in-Some-clause-step : goal.returns-in-Some-clause-step
@@ -39,7 +52,15 @@ returns-in-Some-clause-step g c called called_is =
     let machine = c.args.self.now.machine in
     let some : called.reason ≡ Some c.in-Some.reason = rw called_is (sym c.reason_of-reason.ensures ∙ c.in-Some.is) in
     let state : called.state ≡ c.state_after-after.result = rw (called_is, c.state_after-after.ensures, ← c.self.view_is) refl in
-    let held : called.data ≡ or_old machine.data c.new_data-data.result =
-    rw called_is (sym (c.new_data-data.ensures machine.data ∙ c.take_actions-actions.ensures.kept machine.data)) in
+    let held : called.data ≡ or_old machine.data c.plan_outcome.new.data = rw called_is (sym (c.plan_outcome.ensures.new_data machine.data)) in
+    let asked : plan_of called.actions ≡ c.in-Ok.planned = rw called_is (sym c.in-Ok.ensures.planned) in
     meets_same turn_takes_memory turn_without_memory _ _ _ (stops callbacks machine (with_moment machine c.args.now) c.args.number called c.in-Some.reason some)
-    (c.stop_at.ensures.step called (rw (called_is, c.in-Ok.ensures, ← c.self.view_is) refl) state held)
+    (c.stop_at.ensures.step called (rw (called_is, c.in-Ok-handle_alone.ensures, ← c.self.view_is) refl) state held
+    (ap (λ (planned : Planned _). planned.replies) asked))
+
+-- the requests are dropped
+pub array_drop-planned-requires-in_default-handle_alone-2 : goal.array_drop-planned-requires-in_default-handle_alone-2
+array_drop-planned-requires-in_default-handle_alone-2 g c = omega (arith, g.met.M.Module.settings_fit)
+
+pub array_drop-planned-requires-in-Some-reason-2 : goal.array_drop-planned-requires-in-Some-reason-2
+array_drop-planned-requires-in-Some-reason-2 g c = omega (arith, g.met.M.Module.settings_fit)

@@ -1,9 +1,11 @@
-use Rattle.std.proofs.Common.{◌≡◌, refl, ap, sym, ◌∙◌}
+use Rattle.std.proofs.Common.{◌≡◌, refl, ap, sym, ◌∙◌, arith}
 use Rattle.std.specs.Prelude.{None, Some}
-use Rattle.st_core.specs.Callbacks.{Called, callbacks_of, or_old, handled_with, entered_with}
+use Rattle.st_actions.specs.declared.planned.Planned.{Planned}
+use Rattle.st_actions.specs.Plan.{plan_of}
+use Rattle.st_core.specs.Callbacks.{Called, callbacks_of, or_old, actions_of, entered_data, handled_with, entered_with}
 use Rattle.st_core.specs.Run.{turn_takes_memory, turn_without_memory}
 use Rattle.st_core.specs.Transition.{with_moment}
-use Rattle.st_core.proofs.TransitionLemmas.{goes_on, stops, meets_same, or_old_twice}
+use Rattle.st_core.proofs.TransitionLemmas.{goes_on, stops, meets_same}
 use Rattle.st_core.proofs.engine.Core.enter.Goals as goal
 
 pub go_on-requires-send-M-State : goal.go_on-requires-send-M-State
@@ -18,32 +20,44 @@ go_on-requires-send-M-Content g c κs within = c.type_bounds.send-M-Content
 pub go_on-requires-send-M-Arg : goal.go_on-requires-send-M-Arg
 go_on-requires-send-M-Arg g c κs within = c.type_bounds.send-M-Arg
 
+pub stop_at-requires-send-M-State : goal.stop_at-requires-send-M-State
+stop_at-requires-send-M-State g c κs within = c.type_bounds.send-M-State
+
+pub stop_at-requires-send-M-Data : goal.stop_at-requires-send-M-Data
+stop_at-requires-send-M-Data g c κs within = c.type_bounds.send-M-Data
+
+pub stop_at-requires-send-M-Content : goal.stop_at-requires-send-M-Content
+stop_at-requires-send-M-Content g c κs within = c.type_bounds.send-M-Content
+
+pub stop_at-requires-send-M-Arg : goal.stop_at-requires-send-M-Arg
+stop_at-requires-send-M-Arg g c κs within = c.type_bounds.send-M-Arg
+
 -- the machine goes on
-pub returns-clause-step : goal.returns-clause-step
-returns-clause-step g c called called_is =
+pub returns-in-None-clause-step : goal.returns-in-None-clause-step
+returns-in-None-clause-step g c called called_is =
     let callbacks = callbacks_of g.M.Module g.M.State.PartialEq.eq c.args.self.now.module_ in
     let machine = c.args.self.now.machine in
     let handled = handled_with g.M.State.PartialEq.eq c.args.number c.args.kind machine.state machine.data c.args.outcome in
     let after : c.state_after-after.result ≡ handled.state = rw (c.state_after-after.ensures, ← c.self.view_is) refl in
-    let kept : or_old machine.data c.new_data-data.result ≡ handled.data = c.new_data-data.ensures machine.data ∙ c.take_actions-actions.ensures.kept machine.data in
+    let kept : or_old machine.data c.plan_outcome.new.data ≡ handled.data = c.plan_outcome.ensures.new_data machine.data in
     let same : c.self.inside.data ≡ machine.data = rw (← c.self.view_is) refl in
     let given : c.or_old-held.result.now ≡ handled.data =
-    c.or_old-held.ensures ∙ (ap (λ old. or_old old c.new_data-data.result) same ∙ kept) in
-    let answered : c.in-Ok.entered ≡ callbacks.enter_is machine.state handled.state handled.data = rw (c.in-Ok.ensures, after, given, ← c.self.view_is) refl in
-    let called_as : called ≡ entered_with machine.state handled c.in-Ok.entered = called_is ∙ ap (λ entered. entered_with machine.state handled entered) (sym answered) in
+    c.or_old-held.ensures ∙ (ap (λ old. or_old old c.plan_outcome.new.data) same ∙ kept) in
+    let answered : c.in-Ok-enter.entered ≡ callbacks.enter_is machine.state handled.state handled.data = rw (c.in-Ok-enter.ensures, after, given, ← c.self.view_is) refl in
+    let called_as : called ≡ entered_with machine.state handled c.in-Ok-enter.entered = called_is ∙ ap (λ entered. entered_with machine.state handled entered) (sym answered) in
     let calls : called.calls ≡ c.in-Ok-handle_and_enter.calls = rw (called_as, c.in-Ok-handle_and_enter.ensures, after, ← c.self.view_is) refl in
     let state : called.state ≡ c.state_after-after.result = rw called_as (sym after) in
-    let held : called.data ≡ or_old machine.data c.or-data.result =
+    let held : called.data ≡ or_old machine.data c.plan_entered.new.data =
     ap (λ (last : Called _ _ _). last.data) called_as
-    ∙ sym (c.new_entered_data.ensures handled.data ∙ c.take_entered_actions-later.ensures.kept handled.data)
-    ∙ ap (λ before. or_old before c.new_entered_data.result) (sym kept)
-    ∙ sym (or_old_twice machine.data c.new_entered_data.result c.new_data-data.result)
-    ∙ ap (λ new. or_old machine.data new) (sym c.or-data.ensures) in
-    let none : called.reason ≡ None = rw called_as (sym c.entered_reason-reason.ensures ∙ c.in_default-reason.is) in
+    ∙ ap (λ before. entered_data before c.in-Ok-enter.entered) (sym kept)
+    ∙ sym (c.plan_entered.ensures.new_data machine.data) in
+    let asked : plan_of called.actions ≡ c.in-Ok-plan_entered.planned =
+    ap (λ (last : Called _ _ _). plan_of last.actions) called_as
+    ∙ sym (c.in-Ok-plan_entered.ensures.planned (actions_of c.args.outcome) c.in-Ok.ensures.planned) in
+    let none : called.reason ≡ None = rw called_as (sym c.entered_reason-reason.ensures ∙ c.in-None.is) in
     let changed : called.changed ≡ c.changes_state-changed.result = rw (called_as, c.changes_state-changed.ensures, ← c.self.view_is) refl in
     meets_same turn_takes_memory turn_without_memory _ _ _ (goes_on callbacks machine (with_moment machine c.args.now) c.args.number called none)
-    (c.go_on.ensures.step called calls state held changed
-    (rw (called_as, c.in-Ok-plan_both.ensures, c.take_actions-actions.ensures.actions, c.take_entered_actions-later.ensures.actions) refl))
+    (c.go_on.ensures.step called calls state held changed asked)
 
 -- the machine stops
 pub returns-in-Some-clause-step : goal.returns-in-Some-clause-step
@@ -52,20 +66,31 @@ returns-in-Some-clause-step g c called called_is =
     let machine = c.args.self.now.machine in
     let handled = handled_with g.M.State.PartialEq.eq c.args.number c.args.kind machine.state machine.data c.args.outcome in
     let after : c.state_after-after.result ≡ handled.state = rw (c.state_after-after.ensures, ← c.self.view_is) refl in
-    let kept : or_old machine.data c.new_data-data.result ≡ handled.data = c.new_data-data.ensures machine.data ∙ c.take_actions-actions.ensures.kept machine.data in
+    let kept : or_old machine.data c.plan_outcome.new.data ≡ handled.data = c.plan_outcome.ensures.new_data machine.data in
     let same : c.self.inside.data ≡ machine.data = rw (← c.self.view_is) refl in
     let given : c.or_old-held.result.now ≡ handled.data =
-    c.or_old-held.ensures ∙ (ap (λ old. or_old old c.new_data-data.result) same ∙ kept) in
-    let answered : c.in-Ok.entered ≡ callbacks.enter_is machine.state handled.state handled.data = rw (c.in-Ok.ensures, after, given, ← c.self.view_is) refl in
-    let called_as : called ≡ entered_with machine.state handled c.in-Ok.entered = called_is ∙ ap (λ entered. entered_with machine.state handled entered) (sym answered) in
+    c.or_old-held.ensures ∙ (ap (λ old. or_old old c.plan_outcome.new.data) same ∙ kept) in
+    let answered : c.in-Ok-enter.entered ≡ callbacks.enter_is machine.state handled.state handled.data = rw (c.in-Ok-enter.ensures, after, given, ← c.self.view_is) refl in
+    let called_as : called ≡ entered_with machine.state handled c.in-Ok-enter.entered = called_is ∙ ap (λ entered. entered_with machine.state handled entered) (sym answered) in
     let calls : called.calls ≡ c.in-Ok-handle_and_enter.calls = rw (called_as, c.in-Ok-handle_and_enter.ensures, after, ← c.self.view_is) refl in
     let state : called.state ≡ c.state_after-after.result = rw called_as (sym after) in
-    let held : called.data ≡ or_old machine.data c.or-data.result =
+    let held : called.data ≡ or_old machine.data c.plan_entered.new.data =
     ap (λ (last : Called _ _ _). last.data) called_as
-    ∙ sym (c.new_entered_data.ensures handled.data ∙ c.take_entered_actions-later.ensures.kept handled.data)
-    ∙ ap (λ before. or_old before c.new_entered_data.result) (sym kept)
-    ∙ sym (or_old_twice machine.data c.new_entered_data.result c.new_data-data.result)
-    ∙ ap (λ new. or_old machine.data new) (sym c.or-data.ensures) in
+    ∙ ap (λ before. entered_data before c.in-Ok-enter.entered) (sym kept)
+    ∙ sym (c.plan_entered.ensures.new_data machine.data) in
+    let asked : plan_of called.actions ≡ c.in-Ok-plan_entered.planned =
+    ap (λ (last : Called _ _ _). plan_of last.actions) called_as
+    ∙ sym (c.in-Ok-plan_entered.ensures.planned (actions_of c.args.outcome) c.in-Ok.ensures.planned) in
     let some : called.reason ≡ Some c.in-Some.reason = rw called_as (sym c.entered_reason-reason.ensures ∙ c.in-Some.is) in
     meets_same turn_takes_memory turn_without_memory _ _ _ (stops callbacks machine (with_moment machine c.args.now) c.args.number called c.in-Some.reason some)
-    (c.stop_at.ensures.step called calls state held)
+    (c.stop_at.ensures.step called calls state held (ap (λ (planned : Planned _). planned.replies) asked))
+
+-- the requests are dropped
+pub array_drop-first-requires-in_default-enter-2 : goal.array_drop-first-requires-in_default-enter-2
+array_drop-first-requires-in_default-enter-2 g c = omega (arith, g.met.M.Module.settings_fit)
+
+pub array_drop-planned-requires-in_default-handle_and_enter-2 : goal.array_drop-planned-requires-in_default-handle_and_enter-2
+array_drop-planned-requires-in_default-handle_and_enter-2 g c = omega (arith, g.met.M.Module.settings_fit)
+
+pub array_drop-planned-requires-in-Some-reason-2 : goal.array_drop-planned-requires-in-Some-reason-2
+array_drop-planned-requires-in-Some-reason-2 g c = omega (arith, g.met.M.Module.settings_fit)

@@ -1,6 +1,8 @@
-use Rattle.std.proofs.Common.{◌≡◌, ◌≤◌, ◌+◌, ◌^◌, true, length, max, refl, ap, sym, ◌∙◌, arith}
+use Rattle.std.proofs.Common.{◌≡◌, ◌≤◌, ◌+◌, ◌^◌, true, Some, length, max, refl, ap, sym, ◌∙◌, arith}
 use Rattle.std.specs.Option.{option_map}
-use Rattle.st_actions.specs.Plan.{inserts_of, postpone_of, requests_of}
+use Rattle.st_actions.specs.Plan.{replies_of, inserts_of, postpone_of, requests_of}
+use Rattle.st_requests.specs.Requests.{taken_by}
+use Rattle.st_core.proofs.StateLemmas.{settled_keeps}
 use Rattle.st_events.specs.declared.event.Event.{Event}
 use Rattle.st_agenda.specs.Agenda.{Schedule, next_in}
 use Rattle.st_agenda.specs.Items.{numbered, numbers_of}
@@ -24,11 +26,15 @@ returns-clause-step g c called same_calls same_state same_data same_change same_
     let postponed : c.args.planned.postpone ≡ postpone_of called.actions = rw planned refl in
     let to_insert : c.args.planned.inserts ≡ inserts_of called.actions = rw planned refl in
     let to_set : c.args.planned.requests ≡ requests_of called.actions = rw planned refl in
+    let to_reply : c.args.planned.replies ≡ replies_of called.actions = rw planned refl in
+    let replied : c.answer_all.new.taken.items ≡ taken_by machine.requests (replies_of called.actions) =
+    rw (c.answer_all.ensures.taken, c.in-Ok.ensures.replied, to_reply, ← c.self.view_is) refl in
     went_on_is machine (with_moment machine c.args.now) _ c.args.number called enough
-    (rw (c.done_by-done.ensures, planned, inserted, set, c.new.ensures, same_calls, same_state, ← c.self.view_is) refl)
+    (rw (c.done_by-done.ensures, planned, inserted, set, c.from.ensures, replied, same_calls, same_state, ← c.self.view_is) refl)
     (machine_is (rw (← c.self.view_is) refl) (sym same_state)
     (rw (c.replace.ensures, same_data, ← c.self.view_is) refl)
     (c.settle.ensures ∙ settled_is c.args.number latest same postponed (sym same_change) to_insert to_set)
+    (rw (c.answer_all.ensures.answered, to_reply, ← c.self.view_is) refl)
     latest (rw (← c.self.view_is) refl))
 
 -- numbers or memory are wanting
@@ -47,8 +53,19 @@ settle-requires g c =
     let number_is = ap (λ (s : Schedule _). option_map (λ (event : Event _). event.number) (next_in s)) same ∙ c.requires.number_is in
     let inserts_fit = g.met.M.Module.inserts_fit in
     let settings_fit = g.met.M.Module.settings_fit in
-    (inserts_fit, (settings_fit, (inserts_fit, (settings_fit, (omega (arith, c.max-self-inside.ensures, c.self.invariant, c.requires.moment), (number_is, (c.in-Ok.ensures.staged, (c.in-Ok.ensures.room, numbers))))))))
+    (inserts_fit, (settings_fit, (inserts_fit, (settings_fit, (omega (arith, c.max-self-inside.ensures, c.self.invariant.moment, c.requires.moment), (number_is, (c.in-Ok.ensures.staged, (c.in-Ok.ensures.room, numbers))))))))
 
 -- the requests are dropped
 pub array_drop-planned-requires-in-Err-2 : goal.array_drop-planned-requires-in-Err-2
 array_drop-planned-requires-in-Err-2 g c = omega (arith, g.met.M.Module.settings_fit)
+
+-- what is left can come about
+pub invariant_of-self-2 : goal.invariant_of-self-2
+invariant_of-self-2 g c =
+    let old = c.self.inside in
+    let planned = c.args.planned in
+    let next : option_map (λ (event : Event _). event.number) (next_in old.agenda.schedule) ≡ Some c.args.number = rw (← c.self.view_is) at c.requires.number_is in
+    let enough = enough_for_all old.agenda.schedule.next (length planned.inserts) (numbers_taken planned.requests) c.in-Ok.ensures.numbers in
+    rw (c.settle.ensures, c.answer_all.ensures.answered, c.prepare.ensures.same_schedule, c.max-self-inside.ensures)
+    (settled_keeps old.id old.agenda.schedule old.requests old.latest c.args.now old.ended c.args.number planned.postpone c.args.changed planned.inserts planned.requests planned.replies
+    c.requires.moment next enough c.self.invariant)

@@ -6,6 +6,7 @@ use Rattle.st_agenda.specs.Timing.{numbers_taken}
 use Rattle.st_core.specs.Start.{first_state}
 use Rattle.st_core.specs.Transition.{has_numbers, times_of}
 use Rattle.st_core.proofs.StartLemmas.{started_is, started_refused}
+use Rattle.st_core.proofs.StateLemmas.{begun_keeps}
 use Rattle.st_core.proofs.TransitionLemmas.{enough_for_inserts, enough_for_all}
 use Rattle.st_core.proofs.engine.Core.run_from.Goals as goal
 
@@ -22,8 +23,8 @@ returns g c =
           rw (next, planned) at c.in-Ok.ensures.inserted in
           let set : c.in-Ok.prepared.set ≡ times_of (requests_of called.actions) = rw planned at c.in-Ok.ensures.set in
           started_is _ c.args.module machine called enough
-          (rw (c.set_all.ensures, c.insert.ensures, c.prepare.ensures.same_schedule, c.new-agenda.ensures, planned) refl)
-          (rw (c.new.ensures, inserted, set, same_calls) refl);
+          (rw (c.set_all.ensures, c.insert.ensures, c.prepare.ensures.same_schedule, c.new-agenda.ensures, c.new.ensures, planned) refl)
+          (rw (c.new-2.ensures, inserted, set, same_calls) refl);
     }
 
 -- numbers or memory are wanting
@@ -60,3 +61,12 @@ set_all-requires g c =
 -- the requests are dropped
 pub array_drop-planned-requires-in-Err-2 : goal.array_drop-planned-requires-in-Err-2
 array_drop-planned-requires-in-Err-2 g c = omega (arith, g.met.M.Module.settings_fit)
+
+-- it can come about
+pub invariant_of-core : goal.invariant_of-core
+invariant_of-core g c =
+    let planned = c.args.planned in
+    let next : c.new-agenda.result.schedule.next ≡ c.args.first = ap (λ (a : Agenda _). a.schedule.next) c.new-agenda.ensures in
+    let enough = enough_for_all c.args.first (length planned.inserts) (numbers_taken planned.requests) (rw next at c.in-Ok.ensures.numbers) in
+    rw (c.set_all.ensures, c.insert.ensures, c.prepare.ensures.same_schedule, c.new-agenda.ensures, c.new.ensures)
+    (begun_keeps c.args.id c.args.now c.args.first planned.inserts planned.requests c.requires.moment enough)

@@ -5,7 +5,8 @@ use Rattle.st_events.specs.declared.event.Event.{Event}
 use Rattle.st_core.specs.Callbacks.{callbacks_of, outcome_of, handled_with, entered_by, is_entered}
 use Rattle.st_core.specs.Choice.{next_event_of}
 use Rattle.st_core.specs.Run.{turn_takes_memory, turn_without_memory}
-use Rattle.st_core.proofs.TransitionLemmas.{number_named, event_is, turn_concludes, turn_enters, meets_same}
+use Rattle.st_core.proofs.LawfulLemmas.{lawful_moment}
+use Rattle.st_core.proofs.TransitionLemmas.{machine_of, number_named, event_is, turn_concludes, turn_enters, meets_same}
 use Rattle.st_core.proofs.engine.Core.turn.Goals as goal
 
 pub is_entered-requires-send-M-State : goal.is_entered-requires-send-M-State
@@ -97,3 +98,11 @@ returns-else-is_entered-clause-step g c =
     meets_same turn_takes_memory turn_without_memory _ _ _ (turn_concludes callbacks machine c.args.now event ended early there none)
     (c.conclude.ensures.step (handled_with callbacks.same_state event.number event.kind machine.state machine.data (outcome_of callbacks machine event))
     (ap (λ outcome. handled_with callbacks.same_state event.number event.kind machine.state machine.data outcome) (sym answered)))
+
+-- an idle turn
+pub invariant_of-self : goal.invariant_of-self
+invariant_of-self g c =
+    let old = c.self.inside in
+    let early : c.args.now < 2 ^ 63 = omega (arith, c.if-now-ge-LIMIT.false) in
+    rw c.max-self-inside.ensures
+    (lawful_moment (machine_of old.id old.state old.data old.agenda.schedule old.requests old.latest old.ended) c.args.now early c.self.invariant)

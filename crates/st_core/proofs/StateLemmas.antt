@@ -1,0 +1,107 @@
+-- What each call leaves can come about, by the parts of a machine.
+use Rattle.std.proofs.Common.{◌≡◌, ℕ, ◌+◌, ◌<◌, ◌≤◌, ◌^◌, max, length, Bool, Option, Some, None, List, [], refl, arith}
+use Rattle.std.specs.Option.{option_map}
+use Rattle.st_events.specs.declared.event.Event.{Event}
+use Rattle.st_events.specs.declared.insert.Insert.{Insert}
+use Rattle.st_events.specs.declared.machine_id.MachineId.{MachineId}
+use Rattle.st_events.specs.declared.setting.Setting.{Setting}
+use Rattle.st_events.specs.declared.tag.Tag.{Tag}
+use Rattle.st_requests.specs.declared.request.Request.{Request}
+use Rattle.st_requests.specs.Requests.{with_answers}
+use Rattle.st_requests.proofs.LawfulRequests.{are_of_later, are_of_answers, one_each_answers, none_open_answers}
+use Rattle.st_timeouts.specs.Running.{Running}
+use Rattle.st_agenda.specs.Item.{Item}
+use Rattle.st_agenda.specs.Agenda.{Schedule, next_in, settled_in, inserted_in, all_set_in}
+use Rattle.st_agenda.specs.Timing.{numbers_taken}
+use Rattle.st_agenda.proofs.LawfulSetting.{lawful_empty, lawful_later, lawful_inserted, lawful_set_all}
+use Rattle.st_agenda.proofs.LawfulTurn.{settled_lawful, settled_next}
+use Rattle.st_core.specs.Lawful.{IsOver, IsLawfulOf}
+use Rattle.st_core.proofs.TransitionLemmas.{none_not_some}
+
+module _ {C : Type 0} where
+  -- where nothing waits and nothing runs, there is no next event
+  nothing_next : (pending : List (Item C)) (postponed : List ℕ) (running : List (Running C)) (next : ℕ) → pending ≡ [] → running ≡ []
+      → option_map (λ (event : Event C). event.number) (next_in (record { pending = pending; postponed = postponed; running = running; next = next })) ≡ None
+  nothing_next pending postponed running next no_items no_timeouts = rw (no_items, no_timeouts) refl
+
+  -- a machine with a next event has not ended
+  pub has_not_ended : (schedule : Schedule C) (requests : List (Request C)) (ended : Option (ℕ × ℕ)) (number : ℕ) → IsOver schedule requests ended
+      → option_map (λ (event : Event C). event.number) (next_in schedule) ≡ Some number → ended ≡ None
+  has_not_ended schedule requests None number over next = refl
+  has_not_ended schedule requests (Some end) number over next =
+      let none : option_map (λ (event : Event C). event.number) (next_in schedule) ≡ None =
+      nothing_next schedule.pending schedule.postponed schedule.running schedule.next over.0 over.2 in
+      absurd (none_not_some (option_map (λ (event : Event C). event.number) (next_in schedule)) number none next)
+
+  -- after the end replies change nothing
+  pub over_answered : (schedule : Schedule C) (requests : List (Request C)) (replies : List (Tag × C)) (ended : Option (ℕ × ℕ))
+      → IsOver schedule requests ended → IsOver schedule (with_answers requests replies) ended
+  over_answered schedule requests replies None over = tt
+  over_answered schedule requests replies (Some end) over =
+      (over.0, over.1, over.2, rw (none_open_answers requests replies over.3) over.3)
+
+  -- nothing is over where the machine has not ended
+  not_over : (schedule : Schedule C) (requests : List (Request C)) (ended : Option (ℕ × ℕ)) → ended ≡ None → IsOver schedule requests ended
+  not_over schedule requests ended running = rw running tt
+
+  module _ (id : MachineId) (schedule : Schedule C) (requests : List (Request C)) (latest now : ℕ) (ended : Option (ℕ × ℕ)) where
+    early : now < 2 ^ 63 → latest < 2 ^ 63 → max latest now < 2 ^ 63
+    early below lawful = omega (arith, below, lawful)
+
+    -- replies were sent at a moment
+    pub answered_keeps : (replies : List (Tag × C)) → now < 2 ^ 63 → IsLawfulOf id schedule requests latest ended
+        → IsLawfulOf id schedule (with_answers requests replies) (max latest now) ended
+    answered_keeps replies below lawful = record {
+      scheduled = lawful_later latest (max latest now) schedule lawful.scheduled (omega arith);
+      one_each = one_each_answers requests replies lawful.one_each;
+      own = are_of_answers id schedule.next requests replies lawful.own;
+      moment = early below lawful.moment;
+      over = over_answered schedule requests replies ended lawful.over;
+    }
+
+    -- the next event was handled at a moment, and replies were sent
+    pub settled_keeps : (number : ℕ) (postpone changed : Bool) (inserts : List (Insert C)) (settings : List (Setting C)) (replies : List (Tag × C))
+        → now < 2 ^ 63 → option_map (λ (event : Event C). event.number) (next_in schedule) ≡ Some number
+        → schedule.next + (length inserts + numbers_taken settings) ≤ 2 ^ 63 → IsLawfulOf id schedule requests latest ended
+        → IsLawfulOf id (settled_in (max latest now) schedule number postpone changed inserts settings) (with_answers requests replies) (max latest now) ended
+    settled_keeps number postpone changed inserts settings replies below next enough lawful =
+        let scheduled = lawful_later latest (max latest now) schedule lawful.scheduled (omega arith) in
+        let running = has_not_ended schedule requests ended number lawful.over next in
+        record {
+          scheduled = settled_lawful (max latest now) schedule number postpone changed inserts settings scheduled next enough;
+          one_each = one_each_answers requests replies lawful.one_each;
+          own = are_of_later id schedule.next (settled_in (max latest now) schedule number postpone changed inserts settings).next (with_answers requests replies)
+              (settled_next (max latest now) schedule number postpone changed inserts settings scheduled next enough)
+              (are_of_answers id schedule.next requests replies lawful.own);
+          moment = early below lawful.moment;
+          over = not_over (settled_in (max latest now) schedule number postpone changed inserts settings) (with_answers requests replies) ended running;
+        }
+
+  module _ (id : MachineId) (now first : ℕ) where
+    abbrev nothing_yet : Schedule C
+    nothing_yet = record { pending = []; postponed = []; running = []; next = first }
+
+    -- a machine has begun
+    pub begun_keeps : (inserts : List (Insert C)) (settings : List (Setting C)) → now < 2 ^ 63
+        → first + (length inserts + numbers_taken settings) ≤ 2 ^ 63
+        → IsLawfulOf id (all_set_in now (inserted_in nothing_yet inserts) settings) [] now None
+    begun_keeps inserts settings below enough =
+        let empty = lawful_empty {C = C} now first (omega (arith, enough)) in
+        let inserted = lawful_inserted now nothing_yet inserts (omega (arith, enough)) empty in
+        record {
+          scheduled = lawful_set_all now (inserted_in nothing_yet inserts) settings (omega (arith, enough)) inserted;
+          one_each = tt;
+          own = tt;
+          moment = below;
+          over = tt;
+        }
+
+    -- a machine has ended before its first event
+    pub ended_keeps : (reason word : ℕ) → now < 2 ^ 63 → first < 2 ^ 63 → IsLawfulOf id nothing_yet [] now (Some (reason, word))
+    ended_keeps reason word below free = record {
+      scheduled = lawful_empty {C = C} now first (omega (arith, free));
+      one_each = tt;
+      own = tt;
+      moment = below;
+      over = (refl, refl, refl, tt);
+    }

@@ -1,0 +1,10 @@
+use Rattle.st_core.proofs.LawfulLemmas.{reply_lawful}
+use Rattle.st_core.proofs.TransitionLemmas.{machine_of}
+use Rattle.st_core.proofs.engine.Core.reply.Goals as goal
+
+-- it can come about
+pub invariant_of-self : goal.invariant_of-self
+invariant_of-self g c =
+    let old = c.self.inside in
+    rw c.answer.ensures.answered
+    (reply_lawful (machine_of old.id old.state old.data old.agenda.schedule old.requests old.latest old.ended) c.args.tag c.args.content c.self.invariant)

@@ -1,0 +1,44 @@
+//! Laws of machines. Each speaks of the definitions alone, for every callback module: it is shown once, and
+//! calling it does nothing.
+ghost use Rattle.std.specs.Prelude.{◌≡◌, ℕ, ◌<◌, ◌^◌, None, Ok, List};
+ghost use Rattle.st_events.specs.declared.init.Init.{Init};
+ghost use Rattle.st_events.specs.declared.machine_id.MachineId.{MachineId};
+ghost use Rattle.st_core.specs.declared.answer.Answer.{Answer};
+ghost use Rattle.st_core.specs.declared.command.Command.{Command};
+ghost use Rattle.st_core.specs.declared.report.Report.{Report};
+ghost use Rattle.st_core.specs.declared.start.Start.TheVariants.{Running};
+ghost use Rattle.st_core.specs.Accounting.{IsAccounted};
+ghost use Rattle.st_core.specs.Callbacks.{Callbacks};
+ghost use Rattle.st_core.specs.Lawful.{IsLawful};
+ghost use Rattle.st_core.specs.MachineState.{Machine, MachineState};
+ghost use Rattle.st_core.specs.Run.{Runs};
+ghost use Rattle.st_core.specs.Start.{start_of};
+
+use st_events::Module;
+
+/// A start gives a machine that is lawful, and so does one with any first number below 2^63.
+///
+/// Ours: docs/TRANSITIONS.md, Lawful machines.
+pub fn a_start_is_lawful<M: Module>(_module: &M)
+    ensures { (callbacks : Callbacks M.State M.Data M.Content) (module_ : M) (id : MachineId) (answer : Init M.State M.Data M.Content) (now first : ℕ)
+        (core : Machine M M.State M.Data M.Content) (report : Report M.State)
+        → first < 2 ^ 63 → start_of {A = M.Arg} callbacks module_ id answer now first ≡ Ok (Running core report) → IsLawful core.machine }
+{}
+
+/// Each list of commands leaves a lawful machine lawful.
+///
+/// Ours: docs/TRANSITIONS.md, Lawful machines.
+pub fn a_run_keeps_machines_lawful<M: Module>(_module: &M)
+    ensures { (callbacks : Callbacks M.State M.Data M.Content) (before after : MachineState M.State M.Data M.Content) (commands : List (Command M.Content)) (answers : List (Answer M.State M.Content))
+        → IsLawful before → Runs callbacks before commands answers after → IsLawful after }
+{}
+
+/// No event is lost and none is finished twice: after any list of commands that leaves a lawful machine
+/// running, each number that waited before or was accepted since stands once among those that wait, or once
+/// among those that were finished, and not in both, and no other number stands there.
+///
+/// Ours: docs/TRANSITIONS.md, Accounting.
+pub fn a_run_is_accounted<M: Module>(_module: &M)
+    ensures { (callbacks : Callbacks M.State M.Data M.Content) (before after : MachineState M.State M.Data M.Content) (commands : List (Command M.Content)) (answers : List (Answer M.State M.Content))
+        → IsLawful before → Runs callbacks before commands answers after → after.ended ≡ None → IsAccounted before answers after }
+{}

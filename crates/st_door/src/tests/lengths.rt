@@ -1,0 +1,140 @@
+//! Doors that are asked how long their code is.
+
+use super::streams::prints;
+use super::tell_refusals;
+use crate::printing::code_length;
+
+#[test]
+fn a_code_has_1_to_16_digits(rt: HostRuntime) {
+    prints(
+        &rt,
+        rt.alloc(),
+        b"new a 0\nnew b 0000000000\nnew c 1234567890123456\nlength a\nlength b\nlength c\n",
+        "a locked buttons 0 waiting 0\n\
+         b locked buttons 0 waiting 0\n\
+         c locked buttons 0 waiting 0\n\
+         a length 1\n\
+         b length 10\n\
+         c length 16\n",
+        0,
+    );
+    tell_refusals(rt);
+}
+
+#[test]
+fn a_length_is_the_same_each_time(rt: HostRuntime) {
+    prints(
+        &rt,
+        rt.alloc(),
+        b"new a 12\nlength a\nlength a\nbutton a 3\nlength a\nshow a\n",
+        "a locked buttons 0 waiting 0\n\
+         a length 2\n\
+         a length 2\n\
+         a locked buttons 1 waiting 0\n\
+         a length 2\n\
+         a locked buttons 1 waiting 0\n",
+        0,
+    );
+    tell_refusals(rt);
+}
+
+#[test]
+fn an_open_door_says_its_length_and_stays_open_as_long(rt: HostRuntime) {
+    prints(
+        &rt,
+        rt.alloc(),
+        b"new a 12\n\
+          button a 1\n\
+          button a 2\n\
+          button a 1\n\
+          at 9999\n\
+          length a\n\
+          show a\n\
+          at 10000\n\
+          show a\n",
+        "a locked buttons 0 waiting 0\n\
+         a locked buttons 1 waiting 0\n\
+         a open buttons 0 waiting 0\n\
+         a open buttons 0 waiting 1\n\
+         at 9999 expired 0\n\
+         a length 2\n\
+         a open buttons 0 waiting 1\n\
+         at 10000 expired 1\n\
+         a locked buttons 1 waiting 0\n",
+        0,
+    );
+    tell_refusals(rt);
+}
+
+#[test]
+fn a_call_silences_the_time_out_of_its_door_alone(rt: HostRuntime) {
+    prints(
+        &rt,
+        rt.alloc(),
+        b"new a 12\n\
+          new b 12\n\
+          button a 1\n\
+          button b 1\n\
+          length a\n\
+          at 30000\n\
+          show a\n\
+          show b\n\
+          button a 2\n",
+        "a locked buttons 0 waiting 0\n\
+         b locked buttons 0 waiting 0\n\
+         a locked buttons 1 waiting 0\n\
+         b locked buttons 1 waiting 0\n\
+         a length 2\n\
+         at 30000 expired 1\n\
+         a locked buttons 1 waiting 0\n\
+         b locked buttons 0 waiting 0\n\
+         a open buttons 0 waiting 0\n",
+        0,
+    );
+    tell_refusals(rt);
+}
+
+#[test]
+fn a_refused_length_changes_nothing(rt: HostRuntime) {
+    prints(
+        &rt,
+        rt.alloc(),
+        b"new a 12\n\
+          new b 12\n\
+          button a 1\n\
+          stop b 7\n\
+          length b\n\
+          length c\n\
+          length\n\
+          at 29999\n\
+          at 30000\n\
+          show a\n\
+          show b\n",
+        "a locked buttons 0 waiting 0\n\
+         b locked buttons 0 waiting 0\n\
+         a locked buttons 1 waiting 0\n\
+         b stopped 7 word 0\n\
+         line 5 refused 2\n\
+         line 6 refused 8\n\
+         line 7 malformed\n\
+         at 29999 expired 0\n\
+         at 30000 expired 1\n\
+         a locked buttons 0 waiting 0\n\
+         b stopped 7 word 0\n",
+        1,
+    );
+    tell_refusals(rt);
+}
+
+#[test]
+fn a_length_that_was_not_said_is_a_hyphen(rt: HostRuntime) {
+    for (digits, line) in [(None, "a length -\n"), (Some(16), "a length 16\n")] {
+        for _ in 0..2 {
+            if let Ok(text) = code_length(rt.alloc(), "a", digits) {
+                assert_eq!(rt; text.as_str(), line);
+                break;
+            }
+        }
+    }
+    tell_refusals(rt);
+}
