@@ -11,7 +11,6 @@ use Rattle.st_core.specs.Post.{post_of, next_tag}
 use Rattle.st_door.specs.declared.door_content.DoorContent.{DoorContent}
 use Rattle.st_door.specs.declared.door_content.DoorContent.TheVariants.{CodeLength}
 use Rattle.st_door.specs.declared.line.Line.TheVariants as line
-use Rattle.st_door.specs.declared.reply.Reply.{Reply}
 use Rattle.st_door.specs.declared.reply.Reply.TheVariants.{Printed, Refuses}
 use Rattle.st_door.specs.Doors.{NamedDoor, DoorMachine, IsFirst, SameLabels, door_named, door_of, has_name, ask_of, asked_door, tag_of, next_tag_of, refusal_of, door_collect_of, collected_door, collected_length}
 use Rattle.st_door.specs.Printing.{length_text}

@@ -135,7 +135,7 @@ length_collected script name tag (Some door) = (
   record script { doors = with_machine name (door_collect_of tag door).1 script.doors },
 )
 
--- how `length` finishes, by the door as it was before the line: its call has the tag that this door gave next
+-- how `length` finishes, by the door as it was before the line, which gave the call its tag
 abbrev pub length_finished : ScriptState → List ℕ → Option NamedDoor → List ℕ × ScriptState
 length_finished script name None = ([], script)
 length_finished script name (Some asked) = length_collected script name (next_tag_of asked) (door_of name script.doors)

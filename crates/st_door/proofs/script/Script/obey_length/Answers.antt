@@ -1,9 +1,8 @@
-use Rattle.std.proofs.Common.{◌≡◌, Ok, Some, ap, sym, ◌∙◌, get_or}
-use Rattle.st_events.specs.declared.refusal.Refusal.{Refusal}
+use Rattle.std.proofs.Common.{◌≡◌, Some, ap, sym, ◌∙◌, get_or}
 use Rattle.st_door.specs.declared.line.Line.TheVariants as line
 use Rattle.st_door.specs.declared.reply.Reply.{Reply}
 use Rattle.st_door.specs.declared.reply.Reply.TheVariants.{Printed}
-use Rattle.st_door.specs.Doors.{NamedDoor, IsFirst, has_name, ask_of, refusal_of, tag_of}
+use Rattle.st_door.specs.Doors.{NamedDoor, IsFirst, has_name, ask_of, refusal_of}
 use Rattle.st_door.specs.Printing.{length_text}
 use Rattle.st_door.specs.Script.{ScriptState, rested_of, step_of}
 use Rattle.st_door.proofs.DoorLemmas.{IsFirst-within}
