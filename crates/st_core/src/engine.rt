@@ -2,7 +2,6 @@
 ghost use Rattle.std.specs.Prelude.{◌≡◌, ◌<◌, ◌^◌, IfOk, IfErr};
 ghost use Rattle.st_events.specs.declared.refusal.Refusal.TheVariants.{NoMemory};
 ghost use Rattle.st_core.specs.Choice.{is_ready_of, waiting_of, timers_of};
-ghost use Rattle.st_core.specs.Lawful.{IsLawful};
 
 use st_agenda::Agenda;
 use st_events::{MachineId, Module, PlainList, Reason, Refusal, Timer};
@@ -58,17 +57,6 @@ impl<M: Module> Model for Core<M> {
 }
 
 impl<M: Module> Core<M> {
-    /// A law, which does nothing: each machine is lawful. What was received stands first, and of it what is
-    /// postponed; no timer runs twice; each number stands once among what waits and what runs; each request
-    /// is the machine's own; and once it has ended, nothing waits or runs, and no request is open.
-    ///
-    /// Ours: docs/TRANSITIONS.md, Lawful machines.
-    pub fn is_always_lawful(&self)
-        ensures { IsLawful self.now.machine }
-    {
-        let _ = &self.alloc;
-    }
-
     /// Says whether the machine has not ended and there is an event that a turn would handle.
     ///
     /// Ours: docs/TRANSITIONS.md, Next event.

@@ -14,7 +14,19 @@ ghost use Rattle.st_core.specs.MachineState.{Machine, MachineState};
 ghost use Rattle.st_core.specs.Run.{Runs};
 ghost use Rattle.st_core.specs.Start.{start_of};
 
+use crate::Core;
 use st_events::Module;
+
+/// Each machine is lawful. What was received stands first, and of it what is postponed; no timer runs
+/// twice; each number stands once among what waits and what runs; each request is the machine's own; and
+/// once it has ended, nothing waits or runs, and no request is open.
+///
+/// Ours: docs/TRANSITIONS.md, Lawful machines.
+pub fn a_machine_is_lawful<M: Module>(core: &Core<M>)
+    ensures { IsLawful core.now.machine }
+{
+    let _ = &core.alloc;
+}
 
 /// A start gives a machine that is lawful, and so does one with any first number below 2^63.
 ///

@@ -35,7 +35,9 @@ pub use command::Command;
 pub use done::Done;
 pub use engine::Core;
 pub use entry::Entry;
-pub use laws::{a_run_is_accounted, a_run_keeps_machines_lawful, a_start_is_lawful};
+pub use laws::{
+    a_machine_is_lawful, a_run_is_accounted, a_run_keeps_machines_lawful, a_start_is_lawful,
+};
 pub use report::Report;
 pub use st_requests::Collected;
 pub use st_timeouts::Due;

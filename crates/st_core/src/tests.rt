@@ -1,5 +1,6 @@
 //! Machines of two modules, told commands with memory and while an allocation is refused.
 
+mod accounting;
 mod answers;
 mod compared;
 mod enters;

@@ -5,7 +5,10 @@ use super::answers::{
     found_no_memory, is_refused, not_posted, not_stopped, not_ticked, not_turned, room,
     same_answer, same_report, started,
 };
-use crate::{Answer, Collected, Command, Core, Due, Entry, Start, Turned};
+use crate::{
+    Answer, Collected, Command, Core, Due, Entry, Start, Turned, a_machine_is_lawful,
+    a_run_is_accounted, a_run_keeps_machines_lawful, a_start_is_lawful,
+};
 use st_events::{MachineId, Module, PlainList, Reason, Refusal, Refused, Tag, Time, Timer};
 use std::alloc::Global;
 use std::fmt::Debug;
@@ -127,6 +130,11 @@ where
                 let tested = Tested { core };
                 let kept = tested.kept();
                 assert!(rt; kept.first.is_none() && kept.second.is_none());
+                // The laws hold of this module.
+                a_start_is_lawful(&begin.module);
+                a_run_keeps_machines_lawful(&begin.module);
+                a_run_is_accounted(&begin.module);
+                a_machine_is_lawful(&tested.core);
                 tested
             }
             Ok(Start::Ignored) => panic!(rt; "the start was ignored"),
