@@ -48,7 +48,7 @@ both_early latest now bound h k = grind (arith, h, k)
 -- ---- once a machine has ended, all is over
 module _ {C : Type 0} where
   -- a machine that runs is not over
-  not_over : (schedule : Schedule C) (requests : List (Request C)) (ended : Option (ℕ × ℕ)) → ended ≡ None → IsOver schedule requests ended
+  pub not_over : (schedule : Schedule C) (requests : List (Request C)) (ended : Option (ℕ × ℕ)) → ended ≡ None → IsOver schedule requests ended
   not_over schedule requests None runs = tt
   not_over schedule requests (Some end) runs = cc
 
@@ -59,7 +59,7 @@ module _ {C : Type 0} where
   over_answer schedule requests (Some end) tag content over =
       (over.0, over.1, over.2, rw (none_open_answer requests tag content over.3) over.3)
 
-  over_answers : (schedule : Schedule C) (requests : List (Request C)) (ended : Option (ℕ × ℕ)) (replies : List (Tag × C))
+  pub over_answers : (schedule : Schedule C) (requests : List (Request C)) (ended : Option (ℕ × ℕ)) (replies : List (Tag × C))
       → IsOver schedule requests ended → IsOver schedule (with_answers requests replies) ended
   over_answers schedule requests None replies over = tt
   over_answers schedule requests (Some end) replies over =

@@ -3,7 +3,7 @@ pub mod RunLemmas
 pub mod StartLemmas
 pub mod TransitionLemmas
 pub mod PlanningLemmas
-pub mod StateLemmas
 pub mod LawfulLemmas
+pub mod StateLemmas
 pub mod AccountingLemmas
 pub mod WorkedExamples

@@ -8,7 +8,7 @@ use Rattle.st_events.specs.declared.setting.Setting.{Setting}
 use Rattle.st_events.specs.declared.tag.Tag.{Tag}
 use Rattle.st_requests.specs.declared.request.Request.{Request}
 use Rattle.st_requests.specs.Requests.{with_answers}
-use Rattle.st_requests.proofs.LawfulRequests.{are_of_later, are_of_answers, one_each_answers, none_open_answers}
+use Rattle.st_requests.proofs.LawfulRequests.{are_of_later, are_of_answers, one_each_answers}
 use Rattle.st_timeouts.specs.Running.{Running}
 use Rattle.st_agenda.specs.Item.{Item}
 use Rattle.st_agenda.specs.Agenda.{Schedule, next_in, settled_in, inserted_in, all_set_in}
@@ -16,6 +16,7 @@ use Rattle.st_agenda.specs.Timing.{numbers_taken}
 use Rattle.st_agenda.proofs.LawfulSetting.{lawful_empty, lawful_later, lawful_inserted, lawful_set_all}
 use Rattle.st_agenda.proofs.LawfulTurn.{settled_lawful, settled_next}
 use Rattle.st_core.specs.Lawful.{IsOver, IsLawfulOf}
+use Rattle.st_core.proofs.LawfulLemmas.{not_over, over_answers}
 use Rattle.st_core.proofs.TransitionLemmas.{none_not_some}
 
 module _ {C : Type 0} where
@@ -33,17 +34,6 @@ module _ {C : Type 0} where
       nothing_next schedule.pending schedule.postponed schedule.running schedule.next over.0 over.2 in
       absurd (none_not_some (option_map (λ (event : Event C). event.number) (next_in schedule)) number none next)
 
-  -- after the end replies change nothing
-  pub over_answered : (schedule : Schedule C) (requests : List (Request C)) (replies : List (Tag × C)) (ended : Option (ℕ × ℕ))
-      → IsOver schedule requests ended → IsOver schedule (with_answers requests replies) ended
-  over_answered schedule requests replies None over = tt
-  over_answered schedule requests replies (Some end) over =
-      (over.0, over.1, over.2, rw (none_open_answers requests replies over.3) over.3)
-
-  -- nothing is over where the machine has not ended
-  not_over : (schedule : Schedule C) (requests : List (Request C)) (ended : Option (ℕ × ℕ)) → ended ≡ None → IsOver schedule requests ended
-  not_over schedule requests ended running = rw running tt
-
   module _ (id : MachineId) (schedule : Schedule C) (requests : List (Request C)) (latest now : ℕ) (ended : Option (ℕ × ℕ)) where
     early : now < 2 ^ 63 → latest < 2 ^ 63 → max latest now < 2 ^ 63
     early below lawful = omega (arith, below, lawful)
@@ -56,7 +46,7 @@ module _ {C : Type 0} where
       one_each = one_each_answers requests replies lawful.one_each;
       own = are_of_answers id schedule.next requests replies lawful.own;
       moment = early below lawful.moment;
-      over = over_answered schedule requests replies ended lawful.over;
+      over = over_answers schedule requests ended replies lawful.over;
     }
 
     -- the next event was handled at a moment, and replies were sent
