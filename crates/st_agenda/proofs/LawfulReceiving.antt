@@ -15,14 +15,11 @@ use Rattle.st_agenda.specs.Timing.{expiry_waits}
 use Rattle.st_agenda.specs.Agenda.{Schedule, choice_in, next_in, received_in, disposed_in}
 use Rattle.st_agenda.specs.Lawful.{times, waiting_numbers, running_numbers, live_numbers, NoneReceived, ReceivedFirst, PostponedFirst, IsDueBy, ExpiriesDue, IsLawfulSchedule}
 use Rattle.st_agenda.proofs.PendingLemmas.{same_eq, eq_flips}
-use Rattle.st_agenda.proofs.ItemsLemmas.{timer_same, timer_flips, first_is_last, first_is_first}
+use Rattle.st_agenda.proofs.ItemsLemmas.{timer_same, first_is_last, first_is_first}
 use Rattle.st_agenda.proofs.ChoiceLemmas.{found_timer, running_zero}
+use Rattle.st_agenda.proofs.LawfulSetting.{times-append, neither, runs_on, none_first}
 
 -- ---- how often a number stands in a list
-pub receiving_times_behind : (number : ℕ) (numbers more : List ℕ) → times number (numbers ++ more) ≡ times number numbers + times number more
-receiving_times_behind number [] more = omega arith
-receiving_times_behind number (other ∷ numbers) more = omega (arith, receiving_times_behind number numbers more)
-
 times_self : (number : ℕ) (numbers : List ℕ) → times number (number ∷ numbers) ≡ 1 + times number numbers
 times_self number numbers = rw (same_eq number) refl
 
@@ -59,10 +56,6 @@ stands_among number (other ∷ numbers) h = stands_by (other == number) _ (times
 not_head : (same among : Bool) → (if same then true else among) ≡ false → (same ≡ false) × (among ≡ false)
 not_head true among h = cc
 not_head false among h = (refl, h)
-
-waits_head : (b waits : Bool) → (b || waits) ≡ false → (b ≡ false) × (waits ≡ false)
-waits_head true waits h = cc
-waits_head false waits h = (refl, h)
 
 -- a number is left out
 left_by : (leaves : Bool) (number other : ℕ) (numbers : List ℕ) → (number == other) ≡ leaves → times number numbers ≡ 0
@@ -106,20 +99,6 @@ module _ {C : Type 0} where
   one_each_fewer gone [] o = tt
   one_each_fewer gone (one ∷ others) o =
       one_each_fewer_by one (without_running gone others) (runs_for gone one) (none_fewer one.timer gone others o.0) (one_each_fewer gone others o.1)
-
-  others_run_by : (gone other : Timer) (one : Running C) (others : List (Running C)) (same : Bool) → same_timer gone one.timer ≡ same → same_timer gone other ≡ false
-      → running_of other (without_running gone others) ≡ running_of other others
-      → running_of other (if not same then one ∷ without_running gone others else without_running gone others) ≡ running_of other (one ∷ others)
-  others_run_by gone other one others true e d h =
-      let same : gone ≡ one.timer = timer_same gone one.timer e in
-      let differ : same_timer other one.timer ≡ false = rw (← same) (timer_flips gone other d) in
-      rw differ h
-  others_run_by gone other one others false e d h = rw h refl
-
-  -- the others run on
-  others_run : (gone other : Timer) (running : List (Running C)) → same_timer gone other ≡ false → running_of other (without_running gone running) ≡ running_of other running
-  others_run gone other [] d = refl
-  others_run gone other (one ∷ others) d = others_run_by gone other one others (same_timer gone one.timer) refl d (others_run gone other others d)
 
   counted_by : (number : ℕ) (timer : Timer) (one found : Running C) (others : List (Running C)) (same : Bool) → same_timer timer one.timer ≡ same
       → (if same then Some one else running_of timer others) ≡ Some found → running_of one.timer others ≡ None
@@ -225,17 +204,11 @@ module _ {C : Type 0} where
       let found = expired_by timer one running (running_of timer running) refl u in ap (λ other. running_of other running) found.1 ∙ found.0
 
   -- ---- what was received stands first
-  none_is_first : (items : List (Item C)) → NoneReceived items → ReceivedFirst items
-  none_is_first [] n = tt
-  none_is_first (Received event ∷ items) n = absurd n
-  none_is_first (Posted event ∷ items) n = n
-  none_is_first (Expiry timer ∷ items) n = n
-
   received_first_first : (event : Event C) (items : List (Item C)) → ReceivedFirst items → ReceivedFirst (received_first event items)
   received_first_first event [] r = tt
   received_first_first event (Received other ∷ items) r = received_first_first event items r
-  received_first_first event (Posted other ∷ items) r = none_is_first items r
-  received_first_first event (Expiry timer ∷ items) r = none_is_first items r
+  received_first_first event (Posted other ∷ items) r = none_first items r
+  received_first_first event (Expiry timer ∷ items) r = none_first items r
 
   received_first_last : (event : Event C) (items : List (Item C)) → ReceivedFirst items → ReceivedFirst (received_last event items)
   received_first_last event [] r = tt
@@ -340,8 +313,8 @@ module _ {C : Type 0} where
   due_fewer latest gone running (Received event ∷ items) w d = due_fewer latest gone running items w d
   due_fewer latest gone running (Posted event ∷ items) w d = due_fewer latest gone running items w d
   due_fewer latest gone running (Expiry timer ∷ items) w d =
-      let parts = waits_head (same_timer gone timer) (expiry_waits gone items) w in
-      (rw (others_run gone timer running parts.0) d.0, d.1, due_fewer latest gone running items parts.1 d.2)
+      let parts = neither (same_timer gone timer) (expiry_waits gone items) w in
+      (rw (runs_on gone timer running parts.0) d.0, d.1, due_fewer latest gone running items parts.1 d.2)
 
   due_first : (latest : ℕ) (event : Event C) (running : List (Running C)) (items : List (Item C)) → ExpiriesDue latest running items
       → ExpiriesDue latest running (received_first event items)
@@ -524,7 +497,7 @@ module _ {C : Type 0} where
   received_without_by false event items r = r
 
   posted_without_by : (leaves : Bool) (event : Event C) (items : List (Item C)) → NoneReceived items → ReceivedFirst (if not leaves then Posted event ∷ items else items)
-  posted_without_by true event items n = none_is_first items n
+  posted_without_by true event items n = none_first items n
   posted_without_by false event items n = n
 
   received_without : (number : ℕ) (items : List (Item C)) → ReceivedFirst items → ReceivedFirst (without number items)
@@ -633,14 +606,14 @@ module _ {C : Type 0} where
 
   module _ (latest : ℕ) (s : Schedule C) (law : IsLawfulSchedule latest s) where
     once_in_all : (n : ℕ) → times n (waiting_numbers s.pending) + times n (running_numbers s.running) ≤ 1
-    once_in_all n = omega (arith, law.distinct n, receiving_times_behind n (waiting_numbers s.pending) (running_numbers s.running))
+    once_in_all n = omega (arith, law.distinct n, times-append n (waiting_numbers s.pending) (running_numbers s.running))
 
     live_with : (choice : Option (Choice C)) → choice_in s ≡ choice → (n : ℕ)
         → times n (waiting_numbers (items_with choice s.pending) ++ running_numbers (running_with choice s.running)) ≡ times n (live_numbers s)
     live_with choice e n =
-        receiving_times_behind n (waiting_numbers (items_with choice s.pending)) (running_numbers (running_with choice s.running))
+        times-append n (waiting_numbers (items_with choice s.pending)) (running_numbers (running_with choice s.running))
         ∙ counted_with s.postponed s.pending s.running choice (is_taken s.postponed s.pending s.running choice e) law.one_each n
-        ∙ sym (receiving_times_behind n (waiting_numbers s.pending) (running_numbers s.running))
+        ∙ sym (times-append n (waiting_numbers s.pending) (running_numbers s.running))
 
     lawful_with : (choice : Option (Choice C)) → choice_in s ≡ choice
         → IsLawfulSchedule latest (record s { pending = items_with choice s.pending; running = running_with choice s.running })
@@ -707,7 +680,7 @@ module _ {C : Type 0} where
       pub next_is_live : times number (live_numbers s) ≡ 1
       next_is_live =
           let waits = first_is_live latest (received_in s) number received_lawful received_is_first in
-          let behind = receiving_times_behind number (waiting_numbers (received_in s).pending) (running_numbers (received_in s).running) in
+          let behind = times-append number (waiting_numbers (received_in s).pending) (running_numbers (received_in s).running) in
           let once : times number (live_numbers (received_in s)) ≡ 1 = omega (arith, waits, behind, received_lawful.distinct number) in
           sym (received_live number) ∙ once
 
@@ -722,8 +695,8 @@ module _ {C : Type 0} where
         → (n : ℕ) → times n (live_numbers (disposed_in s number postpone)) + times n (if postpone then [] else number ∷ []) ≡ times n (live_numbers s)
     disposed_live_by postpone once n =
         let counted = disposed_counted postpone once n in
-        let before = receiving_times_behind n (waiting_numbers s.pending) (running_numbers s.running) in
-        let after = receiving_times_behind n (waiting_numbers (kept postpone number s.pending)) (running_numbers s.running) in
+        let before = times-append n (waiting_numbers s.pending) (running_numbers s.running) in
+        let after = times-append n (waiting_numbers (kept postpone number s.pending)) (running_numbers s.running) in
         omega (arith, counted, before, after)
 
   module _ (latest : ℕ) (s : Schedule C) (number : ℕ) where

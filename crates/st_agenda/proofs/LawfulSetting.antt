@@ -63,7 +63,7 @@ rest_once : (n number rest : ℕ) → (if number == n then 1 else 0) + rest ≤ 
 rest_once n number rest h = omega (arith, h)
 
 -- neither of two
-neither : (first rest : Bool) → (first || rest) ≡ false → (first ≡ false) × (rest ≡ false)
+pub neither : (first rest : Bool) → (first || rest) ≡ false → (first ≡ false) × (rest ≡ false)
 neither true rest e = cc
 neither false rest e = (refl, e)
 
@@ -140,7 +140,7 @@ module _ {C : Type 0} where
   waiting_behind (Posted event ∷ items) new = ap (λ numbers. event.number ∷ numbers) (waiting_behind items new)
   waiting_behind (Expiry timer ∷ items) new = waiting_behind items new
 
-  none_first : (items : List (Item C)) → NoneReceived items → ReceivedFirst items
+  pub none_first : (items : List (Item C)) → NoneReceived items → ReceivedFirst items
   none_first [] none = tt
   none_first (Received event ∷ items) none = absurd none
   none_first (Posted event ∷ items) none = none
@@ -248,7 +248,7 @@ module _ {C : Type 0} where
       rw differ h
   runs_on_by timer other one running rest false e d h = rw h refl
 
-  runs_on : (timer other : Timer) (running : List (Running C)) → same_timer timer other ≡ false
+  pub runs_on : (timer other : Timer) (running : List (Running C)) → same_timer timer other ≡ false
       → running_of other (without_running timer running) ≡ running_of other running
   runs_on timer other [] d = refl
   runs_on timer other (one ∷ running) d =

@@ -8,7 +8,7 @@ pub mod SweepLemmas
 pub mod ReceiveLemmas
 pub mod ExpireLemmas
 pub mod LoopLemmas
-pub mod LawfulReceiving
 pub mod LawfulSetting
+pub mod LawfulReceiving
 pub mod LawfulTurn
 pub mod WorkedSchedules

@@ -1,5 +1,5 @@
-//! Laws of machines. Each speaks of the definitions alone, for every callback module: it is shown once, and
-//! calling it does nothing.
+//! Laws of machines, for every callback module: each is shown once, and calling it does nothing. All but the
+//! first speak of the definitions alone.
 ghost use Rattle.std.specs.Prelude.{◌≡◌, ℕ, ◌<◌, ◌^◌, None, Ok, List};
 ghost use Rattle.st_events.specs.declared.init.Init.{Init};
 ghost use Rattle.st_events.specs.declared.machine_id.MachineId.{MachineId};
