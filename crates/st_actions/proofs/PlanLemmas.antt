@@ -1,6 +1,6 @@
 -- One action after another.
 use Rattle.std.proofs.Common.{◌≡◌, ℕ, ◌+◌, ◌≤◌, ◌<◌, Bool, true, false, Some, None, List, [], ◌∷◌, ◌++◌, refl, sym, ap, ◌∙◌, length, take, get_or, reverse, length-append, append-nil, append_assoc, ◌⊎◌, inl, inr, arith}
-use Rattle.std.specs.Prelude.{slice_get, ◌||◌, ◌==◌, if◌then◌else◌}
+use Rattle.std.specs.Prelude.{slice_get, ◌||◌, if◌then◌else◌}
 use Rattle.std.specs.List.{list_any}
 use Rattle.std.specs.Option.{option_to_list}
 use Rattle.std.proofs.lemmas.List.{reverse-append}
@@ -16,8 +16,8 @@ use Rattle.st_events.specs.declared.insert.Insert.{Insert}
 use Rattle.st_events.specs.declared.setting.Setting.{Setting}
 use Rattle.st_events.specs.declared.time.Time.{Time}
 use Rattle.st_events.specs.declared.timer.Timer.{Timer}
-use Rattle.st_events.specs.declared.timer.Timer.TheVariants as timer
 use Rattle.st_events.specs.Timers.{same_timer}
+use Rattle.st_events.proofs.ComparedLemmas.{timers_same}
 use Rattle.st_actions.specs.declared.planned.Planned.{Planned}
 use Rattle.st_actions.specs.Plan.{replies_of, inserts_of, postpone_or, postpone_of, is_set, sets, requests_of, plan_of}
 use Rattle.st_actions.specs.Joined.{as_action, as_actions, enter_plan_of, requested, remaining_of, joined_of}
@@ -136,21 +136,6 @@ module _ {C : Type 0} where
   enter_sets-reverse timer actions = sets-as_actions timer (reverse actions)
       ∙ sym (list_any-IsPermutation (λ (action : EnterAction C). is_set timer (as_action action)) actions (reverse actions) (IsPermutation-reverse actions))
 
--- ---- timers compared
-numbers_same : (m n : ℕ) → (m == n) ≡ true → m ≡ n
-numbers_same m n h = grind (arith, h)
-
-timer_same : (one other : Timer) → same_timer one other ≡ true → one ≡ other
-timer_same timer.Event timer.Event h = refl
-timer_same timer.Event timer.State h = cc
-timer_same timer.Event (timer.Named name) h = cc
-timer_same timer.State timer.Event h = cc
-timer_same timer.State timer.State h = refl
-timer_same timer.State (timer.Named name) h = cc
-timer_same (timer.Named name) timer.Event h = cc
-timer_same (timer.Named name) timer.State h = cc
-timer_same (timer.Named name) (timer.Named other) h = ap timer.Named (numbers_same name other h)
-
 -- ---- two lists of actions, one after the other
 module _ {C : Type 0} where
   replies-append : (first second : List (Action C)) → replies_of (first ++ second) ≡ replies_of first ++ replies_of second
@@ -185,7 +170,7 @@ module _ {C : Type 0} where
       → requested timer (if later then requests_of actions else record { timer = other; time = time; content = content } ∷ requests_of actions)
       ≡ (same || sets timer actions)
   requested_once timer other time content actions true true later same known =
-      known ∙ (ap (λ (t : Timer). sets t actions) (timer_same timer other same) ∙ later)
+      known ∙ (ap (λ (t : Timer). sets t actions) (timers_same timer other same) ∙ later)
   requested_once timer other time content actions true false later same known = known
   requested_once timer other time content actions false same_bool later same known = rw (same, known) refl
 

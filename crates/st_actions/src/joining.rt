@@ -15,7 +15,7 @@ use std::alloc::{AllocError, AllocFailed, Global};
 /// have at most four of each kind it takes no memory. Where memory is wanted and there is none, both
 /// come back.
 ///
-/// Manual: `state_enter()`, `timeout_action()`.
+/// Manual: `state_enter()`; `action()`, on the last one that decides.
 pub fn join<C: Drop>(
     alloc: Global,
     first: Planned<C>,

@@ -13,3 +13,4 @@ pub use enter_planning::plan_enter;
 pub use joining::join;
 pub use planned::Planned;
 pub use planning::plan;
+pub use st_events::{Actions, EnterActions, Inserts, Replies, Settings};

@@ -4,22 +4,19 @@ use Rattle.std.specs.Prelude.{is_some}
 use Rattle.st_events.specs.declared.event.Event.{Event}
 use Rattle.st_events.specs.declared.timer.Timer.{Timer}
 use Rattle.st_events.specs.Timers.{same_timer}
-use Rattle.st_timeouts.specs.Running.{Running, OneEach, running_of, without_running, runs_for}
+use Rattle.st_events.proofs.ComparedLemmas.{same_number}
+use Rattle.st_timeouts.specs.Running.{Running, OneEach, running_of, runs_for}
 use Rattle.st_timeouts.specs.Timeouts.{Listed, all_of, live, with_this_number, without_listed, with_expired}
+use Rattle.st_timeouts.proofs.OrderLemmas.{one_each_without, all_of_more, one_each_more}
 use Rattle.st_agenda.specs.declared.slot.Slot.{Slot}
 use Rattle.st_agenda.specs.declared.slot.Slot.TheVariants as slot
 use Rattle.st_agenda.specs.Items.{has, or_else}
 use Rattle.st_agenda.specs.Slots.{number_of}
 use Rattle.st_agenda.specs.Waiting.{Place, Seen, Unseen, Waiting, slot_of, place_numbers, slot_numbers, first_seen, first_unseen, with_unseen_seen, next_of, without_slot, put_in, Distinct, AreBelow, SeenFirst, IsOrdered}
 use Rattle.st_agenda.specs.Agenda.{HasExpiry, SeenEvents, expiries_in, IsMarked, AreMarked, IsAlive, Agrees, timeout_numbers}
-use Rattle.st_agenda.proofs.PendingLemmas.{same_eq, eq_flips, no_tail, no_step, differs, below_more, has_below}
-use Rattle.st_agenda.proofs.ItemsLemmas.{timer_flips, AllFound, all_found}
+use Rattle.st_agenda.proofs.PendingLemmas.{eq_flips, no_tail, no_step, differs, below_more, has_below}
+use Rattle.st_agenda.proofs.ItemsLemmas.{AllFound, all_found, slots_stay}
 use Rattle.st_agenda.proofs.AgreesLemmas.{has_step, true_not_false, below_member, differ_from, has_without, numbers_seen, has_put_in, has_behind, expiry_number, expiry_kept, expiry_unseen, expiry_arrived, expiry_put_in, expiry_before, expiry_differs, seen_number, marked_after, marked_cancelled, marked_begun}
-
--- an option that is none, by cases
-none_is : {X : Type 0} (same : Bool) (one : X) (rest : Option X) → (if same then Some one else rest) ≡ None → (same ≡ false) × (rest ≡ None)
-none_is true one rest n = cc
-none_is false one rest n = (refl, n)
 
 -- ---- received events, and how many expiries there are
 module _ {C : Type 0} where
@@ -66,12 +63,6 @@ module _ {C : Type 0} where
   events_without gone (Seen (slot.Expiry timer number) ∷ places) s = absurd s
   events_without gone (Unseen one ∷ places) s = unseen_cut gone one places (gone == number_of one) (events_without gone places s)
 
-  -- what no slot has may leave
-  pub without_absent : (gone : ℕ) (places : List (Place C)) → has (place_numbers places) gone ≡ false → without_slot gone places ≡ places
-  without_absent gone [] h = refl
-  without_absent gone (place ∷ places) h =
-      rw ((differs gone (place_numbers (place ∷ places)) h).0) (ap (λ rest. place ∷ rest) (without_absent gone places (no_tail (number_of (slot_of place) == gone) _ h)))
-
   -- the first expiry that was not received leaves
   pub events_dropped : (timer : Timer) (number : ℕ) (places : List (Place C)) → Distinct (place_numbers places) → SeenEvents places
       → first_unseen places ≡ Some (slot.Expiry timer number) → SeenEvents (without_slot number (with_unseen_seen places))
@@ -82,7 +73,7 @@ module _ {C : Type 0} where
   events_dropped timer number (Unseen one ∷ places) d s u =
       let equal : one ≡ slot.Expiry timer number = cc in
       let fresh : has (place_numbers places) number ≡ false = rw equal at d.0 in
-      rw (equal, same_eq number, without_absent number places fresh) s
+      rw (equal, same_number number, slots_stay number places fresh) s
 
   counted_event : (gone : ℕ) (event : Event C) (places : List (Place C)) (same : Bool)
       → expiries_in (if not same then Seen (slot.Event event) ∷ without_slot gone places else without_slot gone places) ≡ expiries_in (without_slot gone places)
@@ -98,7 +89,7 @@ module _ {C : Type 0} where
   counted_dropped timer number (Unseen one ∷ places) d s u =
       let equal : one ≡ slot.Expiry timer number = cc in
       let fresh : has (place_numbers places) number ≡ false = rw equal at d.0 in
-      rw (equal, same_eq number, without_absent number places fresh) refl
+      rw (equal, same_number number, slots_stay number places fresh) refl
 
   -- an event that was received leaves
   unseen_stays : (gone : ℕ) (one : Slot C) (places : List (Place C)) → (gone == number_of one) ≡ false
@@ -118,7 +109,7 @@ module _ {C : Type 0} where
   counted_seen_by postponed event other places false d f k =
       let equal : other ≡ event = cc in
       let fresh : has (place_numbers places) event.number ≡ false = rw equal at d.0 in
-      ap expiries_in (without_absent event.number places fresh)
+      ap expiries_in (slots_stay event.number places fresh)
 
   pub counted_finished : (postponed : List ℕ) (event : Event C) (places : List (Place C)) → Distinct (place_numbers places) → SeenEvents places
       → first_seen postponed places ≡ Some (slot.Event event) → expiries_in (without_slot event.number places) ≡ expiries_in places
@@ -163,11 +154,6 @@ module _ {C : Type 0} where
       → SeenEvents (if skip then place ∷ put_in postponed (map Seen (map slot.Event new)) places else map Seen (map slot.Event new) ++ place ∷ places)
   events_put_by postponed new place places true s f = place_events place places _ s f
   events_put_by postponed new place places false s f = events_both new (place ∷ places) s
-
-  no_more_events : (place : Place C) (places : List (Place C)) → SeenEvents (place ∷ places) → SeenEvents places
-  no_more_events (Seen (slot.Event event)) places s = s
-  no_more_events (Seen (slot.Expiry timer number)) places s = absurd s
-  no_more_events (Unseen one) places s = s
 
   pub events_put_in : (postponed : List ℕ) (new : List (Event C)) (places : List (Place C)) → SeenEvents places
       → SeenEvents (put_in postponed (map Seen (map slot.Event new)) places)
@@ -269,10 +255,7 @@ module _ {C : Type 0} where
   pub unseen_number : (one : Slot C) (places : List (Place C)) → first_unseen places ≡ Some one → has (place_numbers places) (number_of one) ≡ true
   unseen_number one [] u = cc
   unseen_number one (Seen other ∷ places) u = has_step (number_of other == number_of one) (unseen_number one places u)
-  unseen_number one (Unseen other ∷ places) u = let equal : other ≡ one = cc in rw (equal, same_eq (number_of one)) refl
-
-  expiries_same : {one other : Slot C} (timer second : Timer) (number : ℕ) → one ≡ other → other ≡ slot.Expiry timer number → one ≡ slot.Expiry second number → second ≡ timer
-  expiries_same timer second number e f k = cc
+  unseen_number one (Unseen other ∷ places) u = let equal : other ≡ one = cc in rw (equal, same_number (number_of one)) refl
 
   same_expiry : (timer second : Timer) (number : ℕ) (places : List (Place C)) → Distinct (place_numbers places) → first_unseen places ≡ Some (slot.Expiry timer number)
       → HasExpiry second number places → second ≡ timer
@@ -285,7 +268,7 @@ module _ {C : Type 0} where
       absurd (true_not_false (sym (expiry_number second number places h) ∙ fresh))
 
   live_found : (all : List (Running C)) (one : Running C) → running_of one.timer all ≡ Some one → is_some (with_this_number one.number (running_of one.timer all)) ≡ true
-  live_found all one e = rw (e, same_eq one.number) refl
+  live_found all one e = rw (e, same_number one.number) refl
 
   dead_one_by : (all : List (Listed C)) (one : Listed C) (timer : Timer) (places : List (Place C)) (mark : Bool) → IsMarked one places mark
       → running_of one.running.timer (all_of all) ≡ Some one.running → Distinct (place_numbers places)
@@ -319,62 +302,11 @@ module _ {C : Type 0} where
   dead_free listed timer number places o m d u l = dead_among listed listed timer number places (all_found listed o) m d u l
 
   -- ---- no timer runs twice
-  none_cut : (timer gone : Timer) (one : Listed C) (listed : List (Listed C)) (same : Bool) → same_timer timer one.running.timer ≡ false
-      → running_of timer (all_of (without_listed gone listed)) ≡ None
-      → running_of timer (all_of (if not same then one ∷ without_listed gone listed else without_listed gone listed)) ≡ None
-  none_cut timer gone one listed true d n = n
-  none_cut timer gone one listed false d n = rw d n
-
-  pub none_cancelled : (timer gone : Timer) (listed : List (Listed C)) → running_of timer (all_of listed) ≡ None → running_of timer (all_of (without_listed gone listed)) ≡ None
-  none_cancelled timer gone [] n = refl
-  none_cancelled timer gone (one ∷ listed) n =
-      let none = none_is (same_timer timer one.running.timer) one.running _ n in
-      none_cut timer gone one listed (runs_for gone one.running) none.0 (none_cancelled timer gone listed none.1)
-
-  one_each_cut : (gone : Timer) (one : Listed C) (listed : List (Listed C)) (same : Bool) → running_of one.running.timer (all_of (without_listed gone listed)) ≡ None
-      → OneEach (all_of (without_listed gone listed))
-      → OneEach (all_of (if not same then one ∷ without_listed gone listed else without_listed gone listed))
-  one_each_cut gone one listed true n o = o
-  one_each_cut gone one listed false n o = (n, o)
-
-  pub one_each_cancelled : (gone : Timer) (listed : List (Listed C)) → OneEach (all_of listed) → OneEach (all_of (without_listed gone listed))
-  one_each_cancelled gone [] o = tt
-  one_each_cancelled gone (one ∷ listed) o =
-      one_each_cut gone one listed (runs_for gone one.running) (none_cancelled one.running.timer gone listed o.0) (one_each_cancelled gone listed o.1)
-
-  none_begun : (timer : Timer) (listed : List (Listed C)) (one : Listed C) → running_of timer (all_of listed) ≡ None → same_timer timer one.running.timer ≡ false
-      → running_of timer (all_of (listed ++ one ∷ [])) ≡ None
-  none_begun timer [] one n d = rw d refl
-  none_begun timer (other ∷ listed) one n d =
-      let none = none_is (same_timer timer other.running.timer) other.running _ n in
-      rw none.0 (none_begun timer listed one none.1 d)
-
   pub one_each_begun : (listed : List (Listed C)) (one : Listed C) → OneEach (all_of listed) → running_of one.running.timer (all_of listed) ≡ None
       → OneEach (all_of (listed ++ one ∷ []))
-  one_each_begun [] one o n = (refl, tt)
-  one_each_begun (other ∷ listed) one o n =
-      let none = none_is (same_timer one.running.timer other.running.timer) other.running _ n in
-      (none_begun other.running.timer listed one o.0 (timer_flips one.running.timer other.running.timer none.0), one_each_begun listed one o.1 none.1)
-
-  pub all_begun : (listed : List (Listed C)) (one : Listed C) → all_of (listed ++ one ∷ []) ≡ all_of listed ++ one.running ∷ []
-  all_begun [] one = refl
-  all_begun (other ∷ listed) one = ap (λ rest. other.running ∷ rest) (all_begun listed one)
-
-  all_cut : (gone : Timer) (one : Listed C) (listed : List (Listed C)) (same : Bool) → all_of (without_listed gone listed) ≡ without_running gone (all_of listed)
-      → all_of (if not same then one ∷ without_listed gone listed else without_listed gone listed)
-      ≡ (if not same then one.running ∷ without_running gone (all_of listed) else without_running gone (all_of listed))
-  all_cut gone one listed true e = e
-  all_cut gone one listed false e = ap (λ rest. one.running ∷ rest) e
-
-  pub all_cancelled : (gone : Timer) (listed : List (Listed C)) → all_of (without_listed gone listed) ≡ without_running gone (all_of listed)
-  all_cancelled gone [] = refl
-  all_cancelled gone (one ∷ listed) = all_cut gone one listed (runs_for gone one.running) (all_cancelled gone listed)
+  one_each_begun listed one o n = rw all_of_more (one_each_more (all_of listed) one.running o n)
 
   -- ---- marks of time-outs that expire
-  pub all_marked : (timer : Timer) (listed : List (Listed C)) → all_of (with_expired timer listed) ≡ all_of listed
-  all_marked timer [] = refl
-  all_marked timer (one ∷ listed) = ap (λ rest. one.running ∷ rest) (all_marked timer listed)
-
   pub numbers_marked : (timer : Timer) (listed : List (Listed C)) → timeout_numbers (with_expired timer listed) ≡ timeout_numbers listed
   numbers_marked timer [] = refl
   numbers_marked timer (one ∷ listed) = ap (λ rest. one.running.number ∷ rest) (numbers_marked timer listed)
@@ -494,7 +426,7 @@ module _ {C : Type 0} (old : Waiting C) (listed : List (Listed C)) (expiries : �
   agrees_cancelled timer = record {
     ordered = a.ordered;
     events = a.events;
-    one_each = one_each_cancelled timer listed a.one_each;
+    one_each = one_each_without timer listed a.one_each;
     distinct = distinct_cancelled timer listed a.distinct;
     below = below_cancelled old.next timer listed a.below;
     marked = marked_cancelled timer listed old.items a.marked;

@@ -7,6 +7,7 @@ use Rattle.st_events.specs.declared.timer.Timer.{Timer}
 use Rattle.st_events.specs.declared.kind.Kind.{Kind}
 use Rattle.st_events.specs.declared.kind.Kind.TheVariants.{Timeout}
 use Rattle.st_events.specs.Timers.{same_timer}
+use Rattle.st_events.proofs.ComparedLemmas.{same_number, timers_same, same_timer_self}
 use Rattle.st_timeouts.specs.Running.{Running, OneEach, running_of, first_zero_of, is_zero}
 use Rattle.st_timeouts.specs.Timeouts.{Listed, all_of, live, name_of}
 use Rattle.st_agenda.specs.declared.slot.Slot.{Slot}
@@ -16,8 +17,7 @@ use Rattle.st_agenda.specs.Items.{or_else, first_received}
 use Rattle.st_agenda.specs.Choice.{Choice, Resumed, Lapsed, Arrived, Expired, timeout_event, event_of, first_unreceived}
 use Rattle.st_agenda.specs.Waiting.{Place, Seen, Unseen, Waiting, first_seen, first_unseen, next_of}
 use Rattle.st_agenda.specs.Agenda.{SeenEvents, IsAlive, items_in, with_live, schedule_of, choice_in, next_in, zero_in, name_of_event}
-use Rattle.st_agenda.proofs.ItemsLemmas.{received_is, live_is, timer_same, timer_self}
-use Rattle.st_agenda.proofs.PendingLemmas.{same_eq}
+use Rattle.st_agenda.proofs.ItemsLemmas.{received_is, live_is}
 
 module _ {C : Type 0} where
   -- the first item that was not received
@@ -84,7 +84,7 @@ module _ {C : Type 0} where
   found_timer_by : (timer : Timer) (running one : Running C) (others : List (Running C)) (same : Bool) → same_timer timer one.timer ≡ same
       → (if same then Some one else running_of timer others) ≡ Some running → (running_of timer others ≡ Some running → running.timer ≡ timer) → running.timer ≡ timer
   found_timer_by timer running one others true e f k =
-      let equal : one ≡ running = cc in rw (← equal) (sym (timer_same timer one.timer e))
+      let equal : one ≡ running = cc in rw (← equal) (sym (timers_same timer one.timer e))
   found_timer_by timer running one others false e f k = k f
 
   pub found_timer : (timer : Timer) (running : Running C) (all : List (Running C)) → running_of timer all ≡ Some running → running.timer ≡ timer
@@ -101,14 +101,14 @@ module _ {C : Type 0} where
       → running_of running.timer others ≡ Some running → (if same then Some one else running_of running.timer others) ≡ Some running
   other_runs one running others false e n f = f
   other_runs one running others true e n f =
-      let timers : running.timer ≡ one.timer = timer_same running.timer one.timer e in
+      let timers : running.timer ≡ one.timer = timers_same running.timer one.timer e in
       let none : running_of running.timer others ≡ None = rw timers n in cc
 
   running_zero_by : (one running : Running C) (others : List (Running C)) (zero : Bool) → running_of one.timer others ≡ None
       → (if zero then Some one else first_zero_of others) ≡ Some running
       → (first_zero_of others ≡ Some running → running_of running.timer others ≡ Some running)
       → (if same_timer running.timer one.timer then Some one else running_of running.timer others) ≡ Some running
-  running_zero_by one running others true n f k = let equal : one ≡ running = cc in rw (equal, timer_self running.timer) refl
+  running_zero_by one running others true n f k = let equal : one ≡ running = cc in rw (equal, same_timer_self running.timer) refl
   running_zero_by one running others false n f k = other_runs one running others (same_timer running.timer one.timer) refl n (k f)
 
   pub running_zero : (all : List (Running C)) (running : Running C) → OneEach all → first_zero_of all ≡ Some running → running_of running.timer all ≡ Some running
@@ -118,7 +118,7 @@ module _ {C : Type 0} where
 
   pub zero_live : (listed : List (Listed C)) → OneEach (all_of listed) → (running : Running C) → first_zero_of (all_of listed) ≡ Some running
       → live running.timer running.number listed ≡ Some running
-  zero_live listed o running f = rw (running_zero (all_of listed) running o f, same_eq running.number) refl
+  zero_live listed o running f = rw (running_zero (all_of listed) running o f, same_number running.number) refl
 
   lapsed_by : (received : Option (Event C)) (zero : Option (Running C)) (rest : Option (Choice C)) (running : Running C) → (if is_some received then None else zero) ≡ Some running
       → option_map event_of (or_else (option_map Resumed received) (or_else (option_map Lapsed zero) rest)) ≡ Some (timeout_event running)
@@ -170,16 +170,6 @@ module _ {C : Type 0} where
 
     pub next_lapsed : (running : Running C) → zero_in (schedule_of waiting listed) ≡ Some running → next_in (schedule_of waiting listed) ≡ Some (timeout_event running)
     next_lapsed running z = lapsed_by (first_received waiting.postponed (items_in listed waiting.items)) (first_zero_of (all_of listed)) _ running z
-
-    named_zero_by : (timer : Timer) (number : ℕ) (zero : Option (Running C)) → zero_in (schedule_of waiting listed) ≡ zero
-        → ◌≡◌ {A = Option (Timer × ℕ)} (Some (timer, number)) (option_map name_of zero)
-        → ◌≡◌ {A = Option (ℕ × Kind)} (Some (number, Timeout timer)) (option_map name_of_event (next_in (schedule_of waiting listed)))
-    named_zero_by timer number None z e = cc
-    named_zero_by timer number (Some running) z e =
-        let pair : ◌≡◌ {A = Timer × ℕ} (timer, number) (running.timer, running.number) = cc in
-        let numbers : number ≡ running.number = ap (λ (p : Timer × ℕ). p.1) pair in
-        let timers : timer ≡ running.timer = ap (λ (p : Timer × ℕ). p.0) pair in
-        rw (next_lapsed running z, timers, numbers) refl
 
     content_zero_by : OneEach (all_of listed) → (timer : Timer) (number : ℕ) (zero : Option (Running C)) → zero_in (schedule_of waiting listed) ≡ zero
         → ◌≡◌ {A = Option (Timer × ℕ)} (Some (timer, number)) (option_map name_of zero)
@@ -264,11 +254,6 @@ module _ {C : Type 0} where
     pub content_zero : OneEach (all_of listed) → (timer : Timer) (number : ℕ) → ◌≡◌ {A = Option (Timer × ℕ)} (Some (timer, number)) (option_map name_of (zero_in (schedule_of waiting listed)))
         → option_map (λ (one : Running C). one.content) (live timer number listed) ≡ option_map (λ (event : Event C). event.content) (next_in (schedule_of waiting listed))
     content_zero o timer number e = content_zero_by o timer number (zero_in (schedule_of waiting listed)) refl e
-
-    -- a time-out that is due at once has its number and its timer
-    pub named_zero : (timer : Timer) (number : ℕ) → ◌≡◌ {A = Option (Timer × ℕ)} (Some (timer, number)) (option_map name_of (zero_in (schedule_of waiting listed)))
-        → ◌≡◌ {A = Option (ℕ × Kind)} (Some (number, Timeout timer)) (option_map name_of_event (next_in (schedule_of waiting listed)))
-    named_zero timer number e = named_zero_by timer number (zero_in (schedule_of waiting listed)) refl e
 
 module _ {C : Type 0} where
   -- an event that is named has that number

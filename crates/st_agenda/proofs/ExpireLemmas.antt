@@ -3,50 +3,33 @@ use Rattle.std.proofs.Common.{◌≡◌, ℕ, ◌+◌, ◌-◌, ◌<◌, ◌≤�
 use Rattle.std.proofs.lemmas.List.{length-append}
 use Rattle.std.specs.Prelude.{is_some, Result, Ok, Err, IfOk}
 use Rattle.std.specs.Option.{option_map}
+use Rattle.std.proofs.lemmas.Bool.{and_parts, not-true}
 use Rattle.st_events.specs.declared.timer.Timer.{Timer}
 use Rattle.st_events.specs.Timers.{same_timer}
+use Rattle.st_events.proofs.ComparedLemmas.{same_number, timers_same}
 use Rattle.st_timeouts.specs.declared.due.Due.{Due}
 use Rattle.st_timeouts.specs.declared.due.Due.TheVariants.{Zero, At}
 use Rattle.st_timeouts.specs.Running.{Running, running_of, is_zero, is_due_by, is_before, put_in_order, in_order}
 use Rattle.st_timeouts.specs.Timeouts.{Timeouts, Listed, all_of, live, name_of, without_listed, with_expired, expiring, first_of, with_first_expired, with_set, shown}
-use Rattle.st_timeouts.proofs.OrderLemmas.{expiring_after}
+use Rattle.st_timeouts.proofs.OrderLemmas.{expiring_after, all_of_more, all_of_with_expired}
+use Rattle.st_timeouts.proofs.EntryLemmas.{without_listed_none}
 use Rattle.st_agenda.specs.declared.slot.Slot.TheVariants as slot
 use Rattle.st_agenda.specs.Items.{has}
 use Rattle.st_agenda.specs.Timing.{expiring_by}
 use Rattle.st_agenda.specs.Waiting.{Place, Unseen, Waiting, place_numbers, next_of, AreBelow, IsOrdered}
 use Rattle.st_agenda.specs.Agenda.{Schedule, IsMarked, AreMarked, Agrees, IsKept, timeout_numbers, items_in, schedule_of, with_all_expired, with_first_expiry, all_but_first}
-use Rattle.st_agenda.proofs.PendingLemmas.{same_eq, no_tail, differs, has_below, below_more}
-use Rattle.st_agenda.proofs.ItemsLemmas.{AllFound, all_found, timer_same, items_begun, items_expiry_more, items_same, expiring_is, slots_counted}
+use Rattle.st_agenda.proofs.PendingLemmas.{no_tail, differs, has_below, below_more}
+use Rattle.st_agenda.proofs.ItemsLemmas.{AllFound, all_found, items_begun, items_expiry_more, items_same, expiring_is, slots_counted}
 use Rattle.st_agenda.proofs.AgreesLemmas.{has_behind, expiry_before, expiry_last}
-use Rattle.st_agenda.proofs.AgendaLemmas.{events_behind, counted_behind, all_begun, all_marked, numbers_marked, agrees_begun, alive_begun, alive_behind, alive_same}
+use Rattle.st_agenda.proofs.AgendaLemmas.{events_behind, counted_behind, numbers_marked, agrees_begun, alive_begun, alive_behind, alive_same}
 use Rattle.st_agenda.proofs.ReceiveLemmas.{number_no_more}
 
 due_by : (now : ℕ) (due : Due) → is_due_by now due ≡ true → is_zero due ≡ false
 due_by now Zero d = cc
 due_by now (At moment) d = refl
 
-and_true : (a b : Bool) → (a && b) ≡ true → (a ≡ true) × (b ≡ true)
-and_true true true e = (refl, refl)
-and_true true false e = cc
-and_true false b e = cc
-
-not_true : (a : Bool) → not a ≡ true → a ≡ false
-not_true true e = cc
-not_true false e = refl
-
 module _ {C : Type 0} where
   -- ---- a time-out begins
-  stays_alone : (timer : Timer) (one : Listed C) (listed : List (Listed C)) (same : Bool) → (if same then Some one.running else running_of timer (all_of listed)) ≡ None
-      → (running_of timer (all_of listed) ≡ None → without_listed timer listed ≡ listed)
-      → (if not same then one ∷ without_listed timer listed else without_listed timer listed) ≡ one ∷ listed
-  stays_alone timer one listed true n k = cc
-  stays_alone timer one listed false n k = ap (λ rest. one ∷ rest) (k n)
-
-  -- where a timer does not run, there is none to cancel
-  pub none_without : (timer : Timer) (listed : List (Listed C)) → running_of timer (all_of listed) ≡ None → without_listed timer listed ≡ listed
-  none_without timer [] n = refl
-  none_without timer (one ∷ listed) n = stays_alone timer one listed (same_timer timer one.running.timer) n (none_without timer listed)
-
   module _ (waiting after : Waiting C) (listed : List (Listed C)) (expiries : ℕ) (k : IsKept waiting listed expiries) (o : IsOrdered after) (one : Listed C)
       (same : after ≡ record waiting { next = waiting.next + 1 }) (number_is : one.running.number ≡ waiting.next) (unmarked : one.expired ≡ false)
       (none : running_of one.running.timer (all_of listed) ≡ None) where
@@ -62,7 +45,7 @@ module _ {C : Type 0} where
     pub begun_is : schedule_of after (listed ++ one ∷ []) ≡ record (schedule_of waiting listed) { running = all_of listed ++ one.running ∷ []; next = waiting.next + 1 }
     begun_is =
         let fresh = has_below waiting.next one.running.number (place_numbers waiting.items) k.agrees.ordered.below (omega (arith, number_is)) in
-        rw (same, all_begun listed one, items_begun listed one waiting.items fresh none) refl
+        rw (same, all_of_more listed one, items_begun listed one waiting.items fresh none) refl
 
   -- ---- what holds of each time-out holds of each in order
   abbrev AllAre : (Running C → Type 0) → List (Running C) → Type 0
@@ -102,8 +85,8 @@ module _ {C : Type 0} where
       → AllAre (CanExpire all waiting) (all_of (if due then one ∷ filter (λ (one : Listed C). is_due_by now one.running.due && not one.expired) others
       else filter (λ (one : Listed C). is_due_by now one.running.due && not one.expired) others))
   expire_by all waiting now one others true e m f b a =
-      let both = and_true (is_due_by now one.running.due) (not one.expired) e in
-      let mark = not_true one.expired both.1 in
+      let both = and_parts (is_due_by now one.running.due) (not one.expired) e in
+      let mark = not-true one.expired both.1 in
       (record { found = f; free = unmarked_free one waiting.items one.expired mark m; below = b; waits = due_later now one.running both.0 }, a)
   expire_by all waiting now one others false e m f b a = a
 
@@ -125,7 +108,7 @@ module _ {C : Type 0} where
       → IsMarked (record one { expired = if same then true else one.expired }) (places ++ Unseen (slot.Expiry timer running.number) ∷ []) (if same then true else one.expired)
   marked_as timer running one places true e t z f d m =
       let equal = f refl in
-      let same : one.running.timer ≡ timer = sym (timer_same timer one.running.timer e) in
+      let same : one.running.timer ≡ timer = sym (timers_same timer one.running.timer e) in
       (rw (same, ap (λ (r : Running C). r.number) equal) (expiry_last timer running.number places), rw equal z)
   marked_as timer running one places false e t z f d m = marked_still timer running.number one places one.expired (d refl) m
 
@@ -135,7 +118,7 @@ module _ {C : Type 0} where
   the_same : (all : List (Listed C)) (timer : Timer) (running : Running C) (one : Listed C) → running_of timer (all_of all) ≡ Some running
       → running_of one.running.timer (all_of all) ≡ Some one.running → same_timer timer one.running.timer ≡ true → one.running ≡ running
   the_same all timer running one r f e =
-      let equal : timer ≡ one.running.timer = timer_same timer one.running.timer e in
+      let equal : timer ≡ one.running.timer = timers_same timer one.running.timer e in
       let found : running_of timer (all_of all) ≡ Some one.running = rw equal f in
       some_same (sym found ∙ r)
 
@@ -182,7 +165,7 @@ module _ {C : Type 0} (waiting : Waiting C) (listed : List (Listed C)) (expiries
     expiry_below = first_can.below
 
     first_live : is_some (live first.timer first.number listed) ≡ true
-    first_live = rw (first_can.found, same_eq first.number) refl
+    first_live = rw (first_can.found, same_number first.number) refl
 
     module _ (after : Waiting C) (o : IsOrdered after)
         (same : after ≡ record waiting { items = waiting.items ++ Unseen (slot.Expiry first.timer first.number) ∷ []; staged = waiting.staged - 1 }) where
@@ -196,14 +179,14 @@ module _ {C : Type 0} (waiting : Waiting C) (listed : List (Listed C)) (expiries
             agrees = record {
               ordered = o;
               events = rw after_items (events_behind waiting.items (slot.Expiry first.timer first.number) k.agrees.events);
-              one_each = rw (all_marked first.timer listed) k.agrees.one_each;
+              one_each = rw (all_of_with_expired first.timer listed) k.agrees.one_each;
               distinct = rw (numbers_marked first.timer listed) k.agrees.distinct;
               below = rw (numbers_marked first.timer listed) (below_more waiting.next after.next (timeout_numbers listed) next k.agrees.below);
               marked = rw after_items (marked_all listed listed first.timer first waiting.items refl first_can.waits first_can.found (all_found listed k.agrees.one_each)
                   (number_no_more first.timer first listed k.agrees.distinct first_can.found) k.agrees.marked);
               counted = rw after_items (omega (arith, k.agrees.counted, counted_behind waiting.items (slot.Expiry first.timer first.number)));
             };
-            alive = rw same (alive_same listed (with_expired first.timer listed) _ (all_marked first.timer listed)
+            alive = rw same (alive_same listed (with_expired first.timer listed) _ (all_of_with_expired first.timer listed)
                 (alive_behind listed waiting.postponed waiting.items (slot.Expiry first.timer first.number) first_live k.alive));
           }
 
@@ -211,8 +194,8 @@ module _ {C : Type 0} (waiting : Waiting C) (listed : List (Listed C)) (expiries
       expiring_schedule =
           rw (
             same,
-            all_marked first.timer listed,
-            items_same listed (with_expired first.timer listed) (waiting.items ++ Unseen (slot.Expiry first.timer first.number) ∷ []) (all_marked first.timer listed),
+            all_of_with_expired first.timer listed,
+            items_same listed (with_expired first.timer listed) (waiting.items ++ Unseen (slot.Expiry first.timer first.number) ∷ []) (all_of_with_expired first.timer listed),
             items_expiry_more listed first.timer first.number waiting.items first_live,
           ) refl
 
@@ -251,7 +234,7 @@ module _ {C : Type 0} where
 
   -- a timer that does not run is set
   pub set_is : (old new : Timeouts C) (one : Listed C) → running_of one.running.timer (all_of old.listed) ≡ None → new ≡ with_set old one → new.listed ≡ old.listed ++ one ∷ []
-  set_is old new one n h = ap (λ (t : Timeouts C). t.listed) h ∙ ap (λ listed. listed ++ one ∷ []) (none_without one.running.timer old.listed n)
+  set_is old new one n h = ap (λ (t : Timeouts C). t.listed) h ∙ ap (λ listed. listed ++ one ∷ []) (without_listed_none one.running.timer old.listed n)
 
   pub pushed_named : (old new : Waiting C) (first : Running C) (timer : Timer) (number : ℕ) → timer ≡ first.timer → number ≡ first.number
       → new ≡ record old { items = old.items ++ Unseen (slot.Expiry timer number) ∷ []; staged = old.staged - 1 }

@@ -1,11 +1,11 @@
 -- The slots of the queue, read as what waits.
-use Rattle.std.proofs.Common.{◌≡◌, ◌||◌, ◌&&◌, cond, filter, append-nil, ℕ, ◌+◌, Bool, true, false, not, ◌==◌, List, [], ◌∷◌, ◌++◌, Option, Some, None, map, refl, sym, ◌∙◌, ap, length, arith, inl, inr, if◌then◌else◌}
+use Rattle.std.proofs.Common.{◌≡◌, ◌||◌, ◌&&◌, cond, filter, append-nil, ℕ, ◌+◌, Bool, true, false, not, ◌==◌, List, [], ◌∷◌, ◌++◌, Option, Some, None, map, refl, sym, ◌∙◌, ap, length, arith, inl, inr, if◌then◌else◌, eqb-true}
 use Rattle.std.specs.Prelude.{is_some}
 use Rattle.std.specs.Option.{option_map}
 use Rattle.st_events.specs.declared.event.Event.{Event}
 use Rattle.st_events.specs.declared.timer.Timer.{Timer}
-use Rattle.st_events.specs.declared.timer.Timer.TheVariants as timer
 use Rattle.st_events.specs.Timers.{same_timer}
+use Rattle.st_events.proofs.ComparedLemmas.{same_number, same_timer_self, timers_same, same_timer_flips, no_first}
 use Rattle.st_timeouts.specs.Running.{Running, OneEach, running_of, is_due_by, in_order}
 use Rattle.st_timeouts.specs.Timeouts.{Listed, all_of, live, with_this_number, without_listed, expiring}
 use Rattle.st_agenda.specs.declared.slot.Slot.{Slot}
@@ -17,38 +17,11 @@ use Rattle.st_agenda.specs.Timing.{without_expiry, expiry_waits, expiring_by}
 use Rattle.st_agenda.specs.Waiting.{Place, Seen, Unseen, place_numbers, first_seen, first_unseen, with_unseen_seen, without_slot, put_in, slot_of, Distinct, SeenFirst, AllUnseen}
 use Rattle.st_agenda.specs.Agenda.{items_in, with_live, HasExpiry, IsMarked, SeenEvents, expiries_in, AreMarked}
 use Rattle.st_agenda.specs.Slots.{number_of}
-use Rattle.st_agenda.proofs.PendingLemmas.{same_eq, eq_flips, no_tail}
+use Rattle.st_agenda.proofs.PendingLemmas.{eq_flips, no_tail}
 
 -- ---- timers compared
-numbers_same : (m n : ℕ) → (m == n) ≡ true → m ≡ n
-numbers_same m n h = grind (arith, h)
-
-pub timer_self : (timer : Timer) → same_timer timer timer ≡ true
-timer_self timer.Event = refl
-timer_self timer.State = refl
-timer_self (timer.Named name) = same_eq name
-
-pub timer_same : (one other : Timer) → same_timer one other ≡ true → one ≡ other
-timer_same timer.Event timer.Event h = refl
-timer_same timer.Event timer.State h = cc
-timer_same timer.Event (timer.Named name) h = cc
-timer_same timer.State timer.Event h = cc
-timer_same timer.State timer.State h = refl
-timer_same timer.State (timer.Named name) h = cc
-timer_same (timer.Named name) timer.Event h = cc
-timer_same (timer.Named name) timer.State h = cc
-timer_same (timer.Named name) (timer.Named other) h = ap timer.Named (numbers_same name other h)
-
 pub timer_flips : (one other : Timer) → same_timer one other ≡ false → same_timer other one ≡ false
-timer_flips timer.Event timer.Event h = cc
-timer_flips timer.Event timer.State h = refl
-timer_flips timer.Event (timer.Named name) h = refl
-timer_flips timer.State timer.Event h = refl
-timer_flips timer.State timer.State h = cc
-timer_flips timer.State (timer.Named name) h = refl
-timer_flips (timer.Named name) timer.Event h = refl
-timer_flips (timer.Named name) timer.State h = refl
-timer_flips (timer.Named name) (timer.Named other) h = eq_flips name other h
+timer_flips one other h = same_timer_flips other one ∙ h
 
 -- ---- an expiry in front of items: it waits where its time-out is live
 live_end : {C : Type 0} (alive : Bool) (timer : Timer) (items more : List (Item C)) → with_live alive timer (items ++ more) ≡ with_live alive timer items ++ more
@@ -82,7 +55,7 @@ live_without number false timer items = refl
 -- the expiry of a timer is taken out
 live_gone : {C : Type 0} (timer : Timer) (alive : Bool) (items : List (Item C))
     → without_expiry timer (with_live alive timer items) ≡ without_expiry timer items
-live_gone timer true items = rw (timer_self timer) refl
+live_gone timer true items = rw (same_timer_self timer) refl
 live_gone timer false items = refl
 
 live_stays : {C : Type 0} (timer other : Timer) (alive : Bool) (items : List (Item C)) → same_timer timer other ≡ false
@@ -127,7 +100,7 @@ module _ {C : Type 0} where
       → running_of other (all_of (without_listed timer listed)) ≡ running_of other (all_of listed)
       → running_of other (all_of (without_listed timer (one ∷ listed))) ≡ running_of other (all_of (one ∷ listed))
   stays_by timer other one listed true e d h =
-      let same : timer ≡ one.running.timer = timer_same timer one.running.timer e in
+      let same : timer ≡ one.running.timer = timers_same timer one.running.timer e in
       let differ : same_timer other one.running.timer ≡ false = rw (← same) (timer_flips timer other d) in
       rw (e, differ) h
   stays_by timer other one listed false e d h = rw (e, h) refl
@@ -184,7 +157,7 @@ module _ {C : Type 0} where
       let same : other ≡ one = cc in rw (← same) (eq_flips _ _ (no_head (number_of other == number) _ h))
 
   -- a number that no slot has: nothing leaves
-  slots_stay : (number : ℕ) (places : List (Place C)) → has (place_numbers places) number ≡ false → without_slot number places ≡ places
+  pub slots_stay : (number : ℕ) (places : List (Place C)) → has (place_numbers places) number ≡ false → without_slot number places ≡ places
   slots_stay number [] h = refl
   slots_stay number (place ∷ places) h =
       rw (eq_flips _ _ (no_head (number_of (slot_of place) == number) _ h))
@@ -200,26 +173,22 @@ module _ {C : Type 0} where
   AllFound running [] = Unit {0}
   AllFound running (one ∷ listed) = (running_of one.running.timer running ≡ Some one.running) × AllFound running listed
 
-  none_first : (b : Bool) (one : Running C) (x : Option (Running C)) → (if b then Some one else x) ≡ None → (b ≡ false) × (x ≡ None)
-  none_first true one x h = cc
-  none_first false one x h = (refl, h)
-
   found_more : (one : Running C) (running : List (Running C)) (listed : List (Listed C)) → running_of one.timer (all_of listed) ≡ None
       → AllFound running listed → AllFound (one ∷ running) listed
   found_more one running [] n a = tt
   found_more one running (other ∷ listed) n a =
-      let none = none_first (same_timer one.timer other.running.timer) other.running _ n in
+      let none = no_first (same_timer one.timer other.running.timer) other.running _ n in
       (rw (timer_flips one.timer other.running.timer none.0) a.0, found_more one running listed none.1 a.1)
 
   pub all_found : (listed : List (Listed C)) → OneEach (all_of listed) → AllFound (all_of listed) listed
   all_found [] o = tt
   all_found (one ∷ listed) o =
-      (rw (timer_self one.running.timer) refl, found_more one.running (all_of listed) listed o.0 (all_found listed o.1))
+      (rw (same_timer_self one.running.timer) refl, found_more one.running (all_of listed) listed o.0 (all_found listed o.1))
 
   -- a live time-out runs, and has its number
   live_by : (number : ℕ) (one running : Running C) (b : Bool) → (one.number == number) ≡ b → (if b then Some one else None) ≡ Some running
       → (◌≡◌ {A = Option (Running C)} (Some one) (Some running)) × (running.number ≡ number)
-  live_by number one running true e h = let same : one ≡ running = cc in (h, rw (← same) (numbers_same one.number number e))
+  live_by number one running true e h = let same : one ≡ running = cc in (h, rw (← same) (eqb-true one.number number e))
   live_by number one running false e h = cc
 
   pub live_is : (number : ℕ) (found : Option (Running C)) (running : Running C) → with_this_number number found ≡ Some running
@@ -262,7 +231,7 @@ module _ {C : Type 0} (listed : List (Listed C)) where
       → items_in (without_listed timer listed) (Unseen (slot.Expiry other number) ∷ places)
       ≡ without_expiry timer (items_in listed (Unseen (slot.Expiry other number) ∷ places))
   cancelled_by timer other number places true e h =
-      let same : timer ≡ other = timer_same timer other e in
+      let same : timer ≡ other = timers_same timer other e in
       rw (← same, running_gone timer listed, live_gone timer (is_some (live timer number listed)) (items_in listed places)) h
   cancelled_by timer other number places false e h =
       rw (running_stays timer other listed e, live_stays timer other (is_some (live other number listed)) (items_in listed places) e, h) refl
@@ -291,7 +260,7 @@ module _ {C : Type 0} (listed : List (Listed C)) where
       let same : other ≡ timer = cc in
       let equal : old ≡ number = cc in
       let none : has (place_numbers places) number ≡ false = rw (← equal) d.0 in
-      rw (same, equal, same_eq number, l, slots_stay number places none) refl
+      rw (same, equal, same_number number, l, slots_stay number places none) refl
 
   -- 4. an event that was received leaves
   finished_none : (number : ℕ) (places : List (Place C)) → has (place_numbers places) number ≡ false
@@ -324,7 +293,7 @@ module _ {C : Type 0} (listed : List (Listed C)) where
   finished_by postponed event other places false d f k =
       let same : other ≡ event = cc in
       let none : has (place_numbers places) event.number ≡ false = rw (← same) d in
-      rw (same, same_eq event.number, slots_stay event.number places none, finished_none event.number places none) refl
+      rw (same, same_number event.number, slots_stay event.number places none, finished_none event.number places none) refl
 
   pub items_finished : (postponed : List ℕ) (event : Event C) (places : List (Place C)) → Distinct (place_numbers places) → SeenEvents places
       → first_seen postponed places ≡ Some (slot.Event event)
@@ -414,7 +383,7 @@ module _ {C : Type 0} (listed : List (Listed C)) where
       → without_expiry timer (items_in listed (Unseen (slot.Expiry other number) ∷ places))
       ≡ items_in listed (Unseen (slot.Expiry other number) ∷ places)
   unmarked_by timer other number running places true e r d h =
-      let same : timer ≡ other = timer_same timer other e in rw (← same, r, eq_flips number running.number d) h
+      let same : timer ≡ other = timers_same timer other e in rw (← same, r, eq_flips number running.number d) h
   unmarked_by timer other number running places false e r d h =
       rw (live_stays timer other (is_some (live other number listed)) (items_in listed places) e, h) refl
 
@@ -454,7 +423,7 @@ module _ {C : Type 0} (listed : List (Listed C)) where
       let none : has (place_numbers places) number ≡ false = rw (← equal) d.0 in
       let found = live_is number (running_of timer (all_of listed)) running l in
       let none_of_it : has (place_numbers places) running.number ≡ false = rw found.1 none in
-      rw (same, equal, same_eq number, l, slots_stay number places none, put_unseen postponed (Seen (slot.Event event) ∷ []) places f.1)
+      rw (same, equal, same_number number, l, slots_stay number places none, put_unseen postponed (Seen (slot.Event event) ∷ []) places f.1)
       (ap (λ items. Received event ∷ items) (items_cancelled timer places ∙ items_unmarked timer running places found.0 none_of_it))
 
   -- 10. one more at the end
@@ -521,7 +490,7 @@ module _ {C : Type 0} (listed : List (Listed C)) where
   waits_marked timer number (Unseen (slot.Expiry other old) ∷ places) l (inl here) =
       let same : other ≡ timer = cc in
       let equal : old ≡ number = cc in
-      rw (same, equal, l, timer_self timer) refl
+      rw (same, equal, l, same_timer_self timer) refl
   waits_marked timer number (Unseen (slot.Expiry other old) ∷ places) l (inr there) =
       waits_more timer other (is_some (live other old listed)) (items_in listed places) (waits_marked timer number places l there)
 
@@ -530,7 +499,7 @@ module _ {C : Type 0} (listed : List (Listed C)) where
       → expiry_waits timer (items_in listed places) ≡ false
       → expiry_waits timer (items_in listed (Unseen (slot.Expiry other number) ∷ places)) ≡ false
   unmarked_waits_by timer other number running places true e r d h =
-      let same : timer ≡ other = timer_same timer other e in rw (← same, r, eq_flips number running.number d) h
+      let same : timer ≡ other = timers_same timer other e in rw (← same, r, eq_flips number running.number d) h
   unmarked_waits_by timer other number running places false e r d h =
       rw (waits_same timer other (is_some (live other number listed)) (items_in listed places) e) h
 
@@ -550,7 +519,7 @@ module _ {C : Type 0} (listed : List (Listed C)) where
   mark_is : (one : Listed C) (places : List (Place C)) (b : Bool) → running_of one.running.timer (all_of listed) ≡ Some one.running
       → IsMarked one places b → expiry_waits one.running.timer (items_in listed places) ≡ b
   mark_is one places true r m =
-      let alive : is_some (live one.running.timer one.running.number listed) ≡ true = rw (r, same_eq one.running.number) refl in
+      let alive : is_some (live one.running.timer one.running.number listed) ≡ true = rw (r, same_number one.running.number) refl in
       waits_marked one.running.timer one.running.number places alive m.0
   mark_is one places false r m = waits_unmarked one.running.timer one.running places r m
 

@@ -4,6 +4,7 @@ use Rattle.std.specs.Option.{option_map}
 use Rattle.st_events.specs.declared.event.Event.{Event}
 use Rattle.st_events.specs.declared.timer.Timer.{Timer}
 use Rattle.st_events.specs.Timers.{same_timer}
+use Rattle.st_events.proofs.ComparedLemmas.{same_number, timers_same}
 use Rattle.st_timeouts.specs.declared.due.Due.{Due}
 use Rattle.st_timeouts.specs.declared.due.Due.TheVariants.{Zero, At}
 use Rattle.st_timeouts.specs.Running.{Running, OneEach, runs_for, running_of, without_running, first_zero_of, is_zero, is_due_by}
@@ -14,14 +15,14 @@ use Rattle.st_agenda.specs.Choice.{Choice, Resumed, Lapsed, Arrived, Expired, ti
 use Rattle.st_agenda.specs.Timing.{expiry_waits}
 use Rattle.st_agenda.specs.Agenda.{Schedule, choice_in, next_in, received_in, disposed_in}
 use Rattle.st_agenda.specs.Lawful.{times, waiting_numbers, running_numbers, live_numbers, NoneReceived, ReceivedFirst, PostponedFirst, IsDueBy, ExpiriesDue, IsLawfulSchedule}
-use Rattle.st_agenda.proofs.PendingLemmas.{same_eq, eq_flips}
-use Rattle.st_agenda.proofs.ItemsLemmas.{timer_same, first_is_last, first_is_first}
+use Rattle.st_agenda.proofs.PendingLemmas.{eq_flips}
+use Rattle.st_agenda.proofs.ItemsLemmas.{first_is_last, first_is_first}
 use Rattle.st_agenda.proofs.ChoiceLemmas.{found_timer, running_zero}
 use Rattle.st_agenda.proofs.LawfulSetting.{times-append, neither, runs_on, none_first}
 
 -- ---- how often a number stands in a list
 times_self : (number : ℕ) (numbers : List ℕ) → times number (number ∷ numbers) ≡ 1 + times number numbers
-times_self number numbers = rw (same_eq number) refl
+times_self number numbers = rw (same_number number) refl
 
 times_other : (number other : ℕ) (numbers : List ℕ) → (other == number) ≡ false → times number (other ∷ numbers) ≡ times number numbers
 times_other number other numbers d = rw d (omega arith)
@@ -107,7 +108,7 @@ module _ {C : Type 0} where
       ≡ times number (running_numbers (one ∷ others))
   counted_by number timer one found others true e f n k =
       let equal : one ≡ found = cc in
-      let same : timer ≡ one.timer = timer_same timer one.timer e in
+      let same : timer ≡ one.timer = timers_same timer one.timer e in
       let none : running_of timer others ≡ None = rw same n in
       rw (without_none timer others none, equal) refl
   counted_by number timer one found others false e f n k = omega (arith, k f)
@@ -343,7 +344,7 @@ module _ {C : Type 0} where
   zero_waits_by : (latest : ℕ) (one : Running C) (timer : Timer) (running : List (Running C)) (waits same : Bool) → same_timer one.timer timer ≡ same
       → running_of one.timer running ≡ Some one → is_due_by latest one.due ≡ false → IsDueBy latest (running_of timer running) → waits ≡ false → (same || waits) ≡ false
   zero_waits_by latest one timer running waits true e f z d w =
-      let same : one.timer ≡ timer = timer_same one.timer timer e in
+      let same : one.timer ≡ timer = timers_same one.timer timer e in
       let runs : running_of timer running ≡ Some one = rw (← same) f in
       let due : is_due_by latest one.due ≡ true = rw runs at d in
       cc

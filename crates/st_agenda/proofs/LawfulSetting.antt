@@ -11,16 +11,17 @@ use Rattle.st_events.specs.declared.time.Time.TheVariants.{After, Infinity}
 use Rattle.st_events.specs.declared.timer.Timer.{Timer}
 use Rattle.st_events.specs.declared.timer.Timer.TheVariants as timer
 use Rattle.st_events.specs.Timers.{same_timer}
+use Rattle.st_events.proofs.ComparedLemmas.{same_number, same_timer_self, timers_same, same_timer_flips}
 use Rattle.st_timeouts.specs.declared.due.Due.{Due}
 use Rattle.st_timeouts.specs.declared.due.Due.TheVariants.{Zero, At}
 use Rattle.st_timeouts.specs.Running.{Running, OneEach, due_after, running_of, runs_for, without_running, is_due_by, is_before, put_in_order, in_order}
-use Rattle.st_timeouts.proofs.OrderLemmas.{same_timer_self, timers_same, same_timer_flips, not_first, gone, one_each_more}
+use Rattle.st_timeouts.proofs.OrderLemmas.{not_first, gone, one_each_more, put_none, ordered_none}
 use Rattle.st_agenda.specs.Item.{Item, Received, Posted, Expiry}
 use Rattle.st_agenda.specs.Items.{has, first_received, is_postponed, numbers_of, placed, numbered}
 use Rattle.st_agenda.specs.Timing.{is_expiry, without_expiry, expiry_waits, number_taken, numbers_taken, expiring_by}
 use Rattle.st_agenda.specs.Agenda.{Schedule, with_all_expired, cancelled_in, retried_in, inserted_in, begun_in, set_in, all_set_in}
 use Rattle.st_agenda.specs.Lawful.{times, waiting_numbers, running_numbers, live_numbers, NoneReceived, ReceivedFirst, PostponedFirst, IsDueBy, ExpiriesDue, IsLawfulSchedule}
-use Rattle.st_agenda.proofs.PendingLemmas.{same_eq, eq_flips}
+use Rattle.st_agenda.proofs.PendingLemmas.{eq_flips}
 use Rattle.st_agenda.proofs.ItemsLemmas.{first_cancelled}
 use Rattle.st_agenda.proofs.AgreesLemmas.{has_step}
 
@@ -397,14 +398,6 @@ module _ {C : Type 0} where
   received_alone [] = tt
   received_alone (event ∷ new) = received_alone new
 
-  waits_front : (timer : Timer) (new : List (Event C)) (items : List (Item C)) → expiry_waits timer (as_received new ++ items) ≡ expiry_waits timer items
-  waits_front timer [] items = refl
-  waits_front timer (event ∷ new) items = waits_front timer new items
-
-  waits_alone : (timer : Timer) (new : List (Event C)) → expiry_waits timer (as_received new) ≡ false
-  waits_alone timer [] = refl
-  waits_alone timer (event ∷ new) = waits_alone timer new
-
   expiries_front : (latest : ℕ) (running : List (Running C)) (new : List (Event C)) (items : List (Item C)) → ExpiriesDue latest running items
       → ExpiriesDue latest running (as_received new ++ items)
   expiries_front latest running [] items e = e
@@ -481,21 +474,10 @@ module _ {C : Type 0} where
   postponed_placed postponed [] new items h p = tt
   postponed_placed postponed (number ∷ numbers) new [] h p = absurd p
   postponed_placed postponed (number ∷ numbers) new (Received event ∷ items) h p =
-      let found : has postponed event.number ≡ true = rw p.0 (h number (rw (same_eq number) refl)) in
+      let found : has postponed event.number ≡ true = rw p.0 (h number (rw (same_number number) refl)) in
       rw found (p.0, postponed_placed postponed numbers new items (λ n k. h n (has_step (number == n) k)) p.1)
   postponed_placed postponed (number ∷ numbers) new (Posted event ∷ items) h p = absurd p
   postponed_placed postponed (number ∷ numbers) new (Expiry timer ∷ items) h p = absurd p
-
-  waits_placed_by : (timer : Timer) (new : List (Event C)) (item : Item C) (items rest : List (Item C)) (skip : Bool) → expiry_waits timer rest ≡ expiry_waits timer items
-      → expiry_waits timer (if skip then item ∷ rest else as_received new ++ item ∷ items) ≡ expiry_waits timer (item ∷ items)
-  waits_placed_by timer new item items rest true h = ap (λ waits. is_expiry timer item || waits) h
-  waits_placed_by timer new item items rest false h = waits_front timer new (item ∷ items)
-
-  waits_placed : (timer : Timer) (postponed : List ℕ) (new : List (Event C)) (items : List (Item C))
-      → expiry_waits timer (placed postponed (as_received new) items) ≡ expiry_waits timer items
-  waits_placed timer postponed new [] = waits_alone timer new
-  waits_placed timer postponed new (item ∷ items) =
-      waits_placed_by timer new item items (placed postponed (as_received new) items) (is_postponed postponed item) (waits_placed timer postponed new items)
 
   expiries_placed_by : (latest : ℕ) (running : List (Running C)) (new : List (Event C)) (item : Item C) (items rest : List (Item C)) (skip : Bool)
       → ExpiriesDue latest running (item ∷ items) → ExpiriesDue latest running (item ∷ rest)
@@ -662,18 +644,6 @@ module _ {C : Type 0} where
       (lawful_set now now s setting (omega (arith, room)) law)
 
   -- ---- in the order in which they are due the time-outs are the same
-  none_put_by : (timer : Timer) (one other : Running C) (others rest : List (Running C)) (before : Bool) → runs_for timer one ≡ false → runs_for timer other ≡ false
-      → running_of timer others ≡ None → running_of timer rest ≡ None → running_of timer (if before then one ∷ other ∷ others else other ∷ rest) ≡ None
-  none_put_by timer one other others rest true d k n m = rw (d, k) n
-  none_put_by timer one other others rest false d k n m = rw k m
-
-  none_put : (timer : Timer) (one : Running C) (ordered : List (Running C)) → runs_for timer one ≡ false → running_of timer ordered ≡ None
-      → running_of timer (put_in_order one ordered) ≡ None
-  none_put timer one [] d n = rw d refl
-  none_put timer one (other ∷ others) d n =
-      let parts = not_first timer other others n in
-      none_put_by timer one other others (put_in_order one others) (is_before one other) d parts.0 parts.1 (none_put timer one others d parts.1)
-
   one_each_put_by : (one other : Running C) (others rest : List (Running C)) (before : Bool) → running_of one.timer (other ∷ others) ≡ None
       → OneEach (other ∷ others) → running_of other.timer rest ≡ None → OneEach rest → OneEach (if before then one ∷ other ∷ others else other ∷ rest)
   one_each_put_by one other others rest true n o m p = (n, o)
@@ -684,17 +654,12 @@ module _ {C : Type 0} where
   one_each_put one (other ∷ others) n o =
       let parts = not_first one.timer other others n in
       let differ : runs_for other.timer one ≡ false = same_timer_flips other.timer one.timer ∙ parts.0 in
-      one_each_put_by one other others (put_in_order one others) (is_before one other) n o (none_put other.timer one others differ o.0) (one_each_put one others parts.1 o.1)
-
-  none_in_order : (timer : Timer) (running : List (Running C)) → running_of timer running ≡ None → running_of timer (in_order running) ≡ None
-  none_in_order timer [] n = refl
-  none_in_order timer (one ∷ running) n =
-      let parts = not_first timer one running n in none_put timer one (in_order running) parts.0 (none_in_order timer running parts.1)
+      one_each_put_by one other others (put_in_order one others) (is_before one other) n o (put_none other.timer one others differ o.0) (one_each_put one others parts.1 o.1)
 
   one_each_in_order : (running : List (Running C)) → OneEach running → OneEach (in_order running)
   one_each_in_order [] o = tt
   one_each_in_order (one ∷ running) o =
-      one_each_put one (in_order running) (none_in_order one.timer running o.0) (one_each_in_order running o.1)
+      one_each_put one (in_order running) (ordered_none one.timer running o.0) (one_each_in_order running o.1)
 
   -- ---- each time-out is the one that is found for its timer
   abbrev AreFound : List (Running C) → List (Running C) → Type 0

@@ -8,6 +8,7 @@ use Rattle.std.specs.Prelude.{is_some, nat_lt, max, OnSome, IsNone, ◌↔◌}
 use Rattle.std.proofs.lemmas.Bool.{cases_lt, lt-ltb}
 use Rattle.std.proofs.lemmas.List.Edits.{length-remove}
 use Rattle.st_events.specs.declared.insert.Insert.{Insert}
+use Rattle.st_events.proofs.ComparedLemmas.{same_number}
 use Rattle.st_agenda.specs.declared.slot.Slot.{Slot}
 use Rattle.st_agenda.specs.declared.slot.Slot.TheVariants as slot
 use Rattle.st_agenda.specs.Items.{has}
@@ -34,11 +35,8 @@ all_has_more : (m : ℕ) (those ns : List ℕ) → AllHas those ns → AllHas (m
 all_has_more m those [] a = tt
 all_has_more m those (n ∷ ns) a = (has_more m n those a.0, all_has_more m those ns a.1)
 
-pub same_eq : (n : ℕ) → (n == n) ≡ true
-same_eq n = grind arith
-
 has_self : (n : ℕ) (ns : List ℕ) → has (n ∷ ns) n ≡ true
-has_self n ns = rw (same_eq n) refl
+has_self n ns = rw (same_number n) refl
 
 all_has_self : (ns : List ℕ) → AllHas ns ns
 all_has_self [] = tt
@@ -207,7 +205,7 @@ module _ {C : Type 0} where
 
   without_first : (r : ℕ) (x : Slot C) (events : List (Slot C)) → Distinct (slot_numbers (x ∷ events))
       → without_slot (number_of x) (places_of (suc r) (x ∷ events)) ≡ places_of r events
-  without_first r x events d = rw (same_eq (number_of x)) (without_none (number_of x) r events (differs (number_of x) _ d.0))
+  without_first r x events d = rw (same_number (number_of x)) (without_none (number_of x) r events (differs (number_of x) _ d.0))
 
   pub without_is : (cursor r : ℕ) (events : List (Slot C)) (e : Slot C) → cursor ≤ r → slice_get events cursor ≡ Some e → Distinct (slot_numbers events)
       → without_slot (number_of e) (places_of (suc r) events) ≡ places_of r (remove events cursor)

@@ -6,8 +6,10 @@ use Rattle.st_events.specs.declared.event.Event.{Event}
 use Rattle.st_events.specs.declared.timer.Timer.{Timer}
 use Rattle.st_events.specs.declared.kind.Kind.TheVariants.{Timeout}
 use Rattle.st_events.specs.Timers.{same_timer}
+use Rattle.st_events.proofs.ComparedLemmas.{same_number}
 use Rattle.st_timeouts.specs.Running.{Running, running_of, without_running, first_zero_of, is_zero}
 use Rattle.st_timeouts.specs.Timeouts.{Timeouts, Listed, all_of, live, name_of, without_listed, with_cancelled, with_taken}
+use Rattle.st_timeouts.proofs.OrderLemmas.{all_of_without_listed}
 use Rattle.st_agenda.specs.declared.slot.Slot.{Slot}
 use Rattle.st_agenda.specs.declared.slot.Slot.TheVariants as slot
 use Rattle.st_agenda.specs.Items.{has, first_received, received_first, received_last}
@@ -15,10 +17,10 @@ use Rattle.st_agenda.specs.Slots.{number_of}
 use Rattle.st_agenda.specs.Choice.{Arrived, Expired, timeout_event, event_of, first_unreceived, items_with}
 use Rattle.st_agenda.specs.Waiting.{Place, Seen, Unseen, Waiting, slot_of, place_numbers, slot_numbers, first_seen, first_unseen, with_unseen_seen, with_next_seen, next_of, without_slot, put_in, Distinct, SeenFirst, IsOrdered}
 use Rattle.st_agenda.specs.Agenda.{Schedule, IsMarked, AreMarked, Agrees, IsKept, timeout_numbers, items_in, schedule_of, choice_in, next_in, received_in}
-use Rattle.st_agenda.proofs.PendingLemmas.{same_eq, eq_flips}
+use Rattle.st_agenda.proofs.PendingLemmas.{eq_flips}
 use Rattle.st_agenda.proofs.ItemsLemmas.{live_is, items_cancelled, items_last, items_unmarked, items_arrived, items_expired, first_is_last, first_is_first, running_gone}
 use Rattle.st_agenda.proofs.AgreesLemmas.{below_member, differ_from, has_step}
-use Rattle.st_agenda.proofs.AgendaLemmas.{unseen_number, number_gone, counted_dropped, all_cancelled, agrees_put, agrees_dropped, agrees_cancelled, agrees_arrived, first_put_in, alive_first, alive_arrived}
+use Rattle.st_agenda.proofs.AgendaLemmas.{unseen_number, number_gone, counted_dropped, agrees_put, agrees_dropped, agrees_cancelled, agrees_arrived, first_put_in, alive_first, alive_arrived}
 use Rattle.st_agenda.proofs.ChoiceLemmas.{found_timer, zero_live, choice_resumed, choice_lapsed, choice_arrived, choice_expired, choice_none, none_first, unreceived_event, unreceived_expiry}
 
 module _ {C : Type 0} where
@@ -62,7 +64,7 @@ module _ {C : Type 0} where
   among_by : (timer : Timer) (running : Running C) (one : Listed C) (others : List (Listed C)) (same : Bool) → (if same then Some one.running else running_of timer (all_of others)) ≡ Some running
       → (running_of timer (all_of others) ≡ Some running → has (timeout_numbers others) running.number ≡ true)
       → has (timeout_numbers (one ∷ others)) running.number ≡ true
-  among_by timer running one others true f k = let equal : one.running ≡ running = cc in rw (equal, same_eq running.number) refl
+  among_by timer running one others true f k = let equal : one.running ≡ running = cc in rw (equal, same_number running.number) refl
   among_by timer running one others false f k = has_step (one.running.number == running.number) (k f)
 
   pub among : (timer : Timer) (running : Running C) (listed : List (Listed C)) → running_of timer (all_of listed) ≡ Some running → has (timeout_numbers listed) running.number ≡ true
@@ -210,7 +212,7 @@ module _ {C : Type 0} (waiting : Waiting C) (listed : List (Listed C)) (expiries
             items_last (without_listed timer listed) waiting.postponed event waiting.items k.agrees.events k.agrees.ordered.seen_first f
             ∙ ap (λ items. received_last event items) (items_cancelled listed timer waiting.items ∙ items_unmarked listed timer lapsed_running.0 waiting.items lapsed_found (rw (← lapsed_running.3) lapsed_free))
             ∙ ap (λ (one : Event C). received_last one (items_in listed waiting.items)) e in
-            let running : all_of (without_listed timer listed) ≡ without_running lapsed_running.0.timer (all_of listed) = all_cancelled timer listed ∙ ap (λ (one : Timer). without_running one (all_of listed)) lapsed_running.2 in
+            let running : all_of (without_listed timer listed) ≡ without_running lapsed_running.0.timer (all_of listed) = all_of_without_listed timer listed ∙ ap (λ (one : Timer). without_running one (all_of listed)) lapsed_running.2 in
             rw (same, choice_lapsed waiting listed k.agrees.events f lapsed_running.0 lapsed_running.1, items, running) refl
 
         pub lapsed_first : option_map (λ (one : Event C). one.number) (first_received after.postponed (items_in (without_listed timer listed) after.items))
@@ -329,7 +331,7 @@ module _ {C : Type 0} (waiting : Waiting C) (listed : List (Listed C)) (expiries
           pub expired_is : schedule_of after (without_listed timer listed) ≡ received_in (schedule_of waiting listed)
           expired_is =
               let timers : expired_running.0.timer ≡ timer = found_timer timer expired_running.0 (all_of listed) expired_found.0 in
-              let running : all_of (without_listed timer listed) ≡ without_running expired_running.0.timer (all_of listed) = all_cancelled timer listed ∙ ap (λ (one : Timer). without_running one (all_of listed)) (sym timers) in
+              let running : all_of (without_listed timer listed) ≡ without_running expired_running.0.timer (all_of listed) = all_of_without_listed timer listed ∙ ap (λ (one : Timer). without_running one (all_of listed)) (sym timers) in
               let postponed : after.postponed ≡ waiting.postponed = ap (λ (w : Waiting C). w.postponed) same ∙ ap (λ (w : Waiting C). w.postponed) left in
               let next : after.next ≡ waiting.next = ap (λ (w : Waiting C). w.next) same ∙ ap (λ (w : Waiting C). w.next) left in
               rw (choice_is, expired_items, running, postponed, next) refl

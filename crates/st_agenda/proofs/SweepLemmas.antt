@@ -7,6 +7,7 @@ use Rattle.st_events.specs.declared.insert.Insert.{Insert}
 use Rattle.st_events.specs.declared.timer.Timer.{Timer}
 use Rattle.st_events.specs.declared.timer.Timer.TheVariants as timer
 use Rattle.st_timeouts.specs.Timeouts.{Listed, Timeouts, all_of, live, without_listed, with_cancelled}
+use Rattle.st_timeouts.proofs.OrderLemmas.{all_of_without_listed}
 use Rattle.st_agenda.specs.declared.slot.Slot.{Slot}
 use Rattle.st_agenda.specs.declared.slot.Slot.TheVariants as slot
 use Rattle.st_agenda.specs.Item.{Item, Posted}
@@ -18,7 +19,7 @@ use Rattle.st_agenda.specs.Agenda.{Schedule, Agenda, Agrees, items_in, schedule_
 use Rattle.st_agenda.proofs.PendingLemmas.{has_below}
 use Rattle.st_agenda.proofs.ItemsLemmas.{first_cancelled, received_is, items_without_dead, items_cancelled, items_finished, items_put_in, items_posted}
 use Rattle.st_agenda.proofs.AgreesLemmas.{below_member}
-use Rattle.st_agenda.proofs.AgendaLemmas.{unseen_expiry, counted_dropped, agrees_dropped, agrees_kept, agrees_finished, agrees_put, agrees_pushed, all_cancelled, alive_retried, alive_put_in, alive_behind}
+use Rattle.st_agenda.proofs.AgendaLemmas.{unseen_expiry, counted_dropped, agrees_dropped, agrees_kept, agrees_finished, agrees_put, agrees_pushed, alive_retried, alive_put_in, alive_behind}
 
 module _ {C : Type 0} where
   -- ---- the next slot is dead, or alive
@@ -90,7 +91,7 @@ module _ {C : Type 0} where
       agenda_is after now (cancelled_in (schedule_of old timeouts.listed) timer) old.staged timeouts.room
       (same ∙ ap (λ listed. items_in listed old.items) listed_are ∙ items_cancelled timeouts.listed timer old.items)
       (ap (λ w. w.postponed) rest)
-      (ap all_of listed_are ∙ all_cancelled timer timeouts.listed)
+      (ap all_of listed_are ∙ all_of_without_listed timer timeouts.listed)
       (ap (λ w. w.next) rest)
       (ap (λ w. w.staged) rest)
       (ap (λ t. t.room) e)

@@ -92,6 +92,7 @@ module _ {C : Type 0} where
   IsMarked one places true = HasExpiry one.running.timer one.running.number places × (is_zero one.running.due ≡ false)
   IsMarked one places false = has (place_numbers places) one.running.number ≡ false
 
+  -- each of them is marked so
   abbrev pub AreMarked : List (Listed C) → List (Place C) → Type 0
   AreMarked [] places = Unit {0}
   AreMarked (one ∷ listed) places = IsMarked one places one.expired × AreMarked listed places

@@ -1,6 +1,6 @@
 //! What waits and the time-outs that run, as one: which event comes next, and what a transition makes
 //! of them.
-ghost use Rattle.std.specs.Prelude.{◌≡◌, ℕ, ◌+◌, ◌-◌, ◌<◌, ◌≤◌, ◌^◌, [], ◌∷◌, ◌++◌, Some, None, IfOk, IfErr, OnOk, OnErr, length, map, max, option_copied};
+ghost use Rattle.std.specs.Prelude.{◌≡◌, ◌+◌, ◌-◌, ◌<◌, ◌≤◌, ◌^◌, [], ◌∷◌, ◌++◌, Some, None, IfOk, IfErr, OnOk, OnErr, length, max, option_copied};
 ghost use Rattle.std.specs.Option.{option_map};
 ghost use Rattle.st_events.specs.Rows.{InsertsFit, SettingsFit};
 ghost use Rattle.st_timeouts.specs.Running.{running_of};
@@ -22,6 +22,8 @@ use std::marker::Model;
 
 /// What waits, in a queue, and the time-outs that run. An expiry whose time-out runs no more stays in
 /// the queue until it comes to the front; it is never the next slot.
+///
+/// Manual: the introduction, on the event queue; ours: docs/ARCHITECTURE.md, The way of one event.
 #[derive(Drop)]
 pub struct Agenda<C> {
     pending: Pending<C>,

@@ -9,3 +9,5 @@ mod slot;
 mod tests;
 
 pub use agenda::Agenda;
+pub use st_events::{Inserts, Kind, PlainList, Settings, Timer};
+pub use st_timeouts::Due;

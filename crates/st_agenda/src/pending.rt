@@ -1,5 +1,5 @@
 //! The events that wait: which comes next, what becomes of it, and where others come in.
-ghost use Rattle.std.specs.Prelude.{◌≡◌, ℕ, ◌+◌, ◌-◌, ◌<◌, ◌≤◌, ◌^◌, true, false, [], ◌∷◌, ◌++◌, Some, IfOk, IfErr, OnOk, OnErr, is_some, length, map, max, option_copied};
+ghost use Rattle.std.specs.Prelude.{◌≡◌, ◌+◌, ◌-◌, ◌<◌, ◌≤◌, ◌^◌, true, false, [], ◌∷◌, ◌++◌, Some, IfOk, IfErr, OnOk, OnErr, is_some, length, map, max, option_copied};
 ghost use Rattle.st_agenda.specs.declared.slot.Slot.TheVariants as slot;
 ghost use Rattle.st_agenda.specs.Items.{has};
 ghost use Rattle.st_agenda.specs.Slots.{inserted_slots, is_event, content_in};

@@ -18,18 +18,19 @@ fn tell_refusals(rt: HostRuntime) {
 }
 
 /// All that can be read of an agenda without memory: the next event with its kind and its content, how
-/// many events wait, and the next number.
-fn readable(agenda: &Agenda<u64>) -> (Option<(u64, Kind)>, Option<u64>, usize, u64) {
+/// many events wait, the next number, and how many time-outs are due sooner or later.
+fn readable(agenda: &Agenda<u64>) -> (Option<(u64, Kind)>, Option<u64>, usize, u64, usize) {
     (
         agenda.next_event(),
         agenda.next_content().copied(),
         agenda.waiting(),
         agenda.next(),
+        agenda.count_due(u64::MAX),
     )
 }
 
 /// The time-outs that run. Where memory was refused, they are read again.
-fn timers(rt: &impl Abort, agenda: &Agenda<u64>) -> PlainList<(Timer, u64, Due)> {
+fn listed(rt: &impl Abort, agenda: &Agenda<u64>) -> PlainList<(Timer, u64, Due)> {
     match agenda.timers() {
         Ok(timers) => timers,
         Err(_) => agenda
@@ -40,7 +41,7 @@ fn timers(rt: &impl Abort, agenda: &Agenda<u64>) -> PlainList<(Timer, u64, Due)>
 
 /// Looks that these time-outs run, in this order, and no others.
 fn run(rt: &impl Abort, agenda: &Agenda<u64>, wanted: &[(Timer, u64, Due)]) {
-    let found = timers(rt, agenda);
+    let found = listed(rt, agenda);
     let found = found.as_slice();
     assert_eq!(rt; found.len(), wanted.len());
     for (index, timer) in wanted.iter().enumerate() {
@@ -50,7 +51,7 @@ fn run(rt: &impl Abort, agenda: &Agenda<u64>, wanted: &[(Timer, u64, Due)]) {
 
 /// Looks that this event comes next: its number, its kind and its content; and that so many wait.
 fn comes(rt: &impl Abort, agenda: &Agenda<u64>, next: (u64, Kind, u64), waiting: usize) {
-    let (event, content, count, _) = readable(agenda);
+    let (event, content, count, ..) = readable(agenda);
     assert!(rt; event == Some((next.0, next.1)), "the event");
     assert!(rt; content == Some(next.2), "its content");
     assert_eq!(rt; count, waiting);
@@ -58,7 +59,7 @@ fn comes(rt: &impl Abort, agenda: &Agenda<u64>, next: (u64, Kind, u64), waiting:
 
 /// Looks that nothing comes next, and that so many wait.
 fn nothing_comes(rt: &impl Abort, agenda: &Agenda<u64>, waiting: usize) {
-    let (event, content, count, _) = readable(agenda);
+    let (event, content, count, ..) = readable(agenda);
     assert!(rt; event == None, "an event");
     assert!(rt; content == None, "a content");
     assert_eq!(rt; count, waiting);
@@ -68,12 +69,13 @@ fn nothing_comes(rt: &impl Abort, agenda: &Agenda<u64>, waiting: usize) {
 /// posted again.
 fn push(rt: &impl Abort, agenda: &mut Agenda<u64>, content: u64, number: u64) {
     assert!(rt; agenda.next() < 1_000);
-    let before = readable(agenda);
+    let (before, running) = (readable(agenda), listed(rt, agenda));
     match agenda.push(Kind::Cast, content) {
         Ok(given) => assert_eq!(rt; given, number),
         Err(failed) => {
             assert_eq!(rt; failed.value, content);
             assert!(rt; readable(agenda) == before, "a refused push");
+            run(rt, agenda, running.as_slice());
             match agenda.push(Kind::Cast, content) {
                 Ok(given) => assert_eq!(rt; given, number),
                 Err(_) => panic!(rt; "one allocation alone is refused"),
@@ -90,11 +92,12 @@ fn make_room(rt: &impl Abort, agenda: &mut Agenda<u64>, inserts: usize, timers: 
     ensures room { timers ≤ agenda.new.room }
     ensures unchanged { agenda.new.schedule ≡ agenda.old.schedule }
 {
-    let before = readable(agenda);
+    let (before, running) = (readable(agenda), listed(rt, agenda));
     if agenda.make_room(inserts, timers).is_ok() {
         return;
     }
     assert!(rt; readable(agenda) == before, "refused room");
+    run(rt, agenda, running.as_slice());
     if agenda.make_room(inserts, timers).is_err() {
         panic!(rt; "one allocation alone is refused");
     }
@@ -140,7 +143,7 @@ fn tick(rt: &impl Abort, agenda: &mut Agenda<u64>, now: u32, expired: usize) {
     agenda.expire(now as u64);
 }
 
-/// One event that is inserted. Where memory was refused, it is asked for again.
+/// One event that is inserted.
 fn insert(rt: &impl Abort, alloc: Global, content: u64) -> Inserts<u64> {
     let mut inserts = Inserts::new(alloc);
     let one = Insert {

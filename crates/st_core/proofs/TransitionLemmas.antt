@@ -13,20 +13,18 @@ use Rattle.st_events.specs.declared.insert.Insert.{Insert}
 use Rattle.st_events.specs.declared.refusal.Refusal.{Refusal}
 use Rattle.st_events.specs.declared.refusal.Refusal.TheVariants.{Exhausted, NoMemory}
 use Rattle.st_events.specs.declared.setting.Setting.{Setting}
-use Rattle.st_events.specs.declared.time.Time.{Time}
-use Rattle.st_events.specs.declared.time.Time.TheVariants.{After, Infinity}
 use Rattle.st_requests.specs.declared.request.Request.{Request}
 use Rattle.st_agenda.specs.Agenda.{Schedule, name_of_event, settled_in}
 use Rattle.st_agenda.specs.Items.{numbered, numbers_of}
 use Rattle.st_agenda.specs.Timing.{number_taken, numbers_taken}
 use Rattle.st_core.specs.declared.report.Report.{Report}
 use Rattle.st_core.specs.declared.turned.Turned.{Turned}
-use Rattle.st_core.specs.declared.turned.Turned.TheVariants.{Reported, Idle}
+use Rattle.st_core.specs.declared.turned.Turned.TheVariants.{Reported}
 use Rattle.st_core.specs.MachineState.{MachineState}
 use Rattle.st_core.specs.Callbacks.{Callbacks, Called, or_old, called_of, outcome_of, handled_with, entered_by, is_entered}
 use Rattle.st_core.specs.Choice.{next_event_of}
-use Rattle.st_core.specs.Stop.{with_ended, unless_ended}
-use Rattle.st_core.specs.Transition.{with_moment, with_called, with_settled, has_numbers, times_of, report_of, stop_report_of, went_on, stopped, settled, transition_of, turn_running, turn_of}
+use Rattle.st_core.specs.Stop.{unless_ended}
+use Rattle.st_core.specs.Transition.{with_moment, with_called, with_settled, has_numbers, times_of, report_of, went_on, stopped, settled, transition_of, turn_running, turn_of}
 use Rattle.st_core.specs.declared.entry.Entry.{Entry}
 use Rattle.st_core.specs.Post.{post_of, post_running, post_refused}
 use Rattle.st_core.specs.Run.{Meets, turn_takes_memory, turn_without_memory, post_takes_memory}
@@ -105,12 +103,6 @@ module _ {S D C : Type 0} (old machine after : MachineState S D C) (number : ℕ
       → Meets turn_takes_memory turn_without_memory (Ok (Reported report)) old after (went_on old machine number called)
   went_on_is h same_report same_after = rw (h, same_report, same_after) (inl (refl, refl))
 
-  -- the machine stopped
-  pub stopped_is : (callbacks : Callbacks S D C) (reason word : ℕ) → word ≡ callbacks.terminate_is reason called.state called.data
-      → {report : Report S} → report ≡ stop_report_of machine number called reason word → after ≡ with_ended (with_called machine called) reason word
-      → Meets turn_takes_memory turn_without_memory (Ok (Reported report)) old after (stopped callbacks machine number called reason)
-  stopped_is callbacks reason word same_word same_report same_after = rw (same_report, same_after, same_word) (inl (refl, refl))
-
 -- a call meets a definition that is the same
 pub meets_same : {A T : Type 0} (takes : A → Bool) (without answer : A) (old new : T) {definition other : A × T} → other ≡ definition
     → Meets takes without answer old new definition → Meets takes without answer old new other
@@ -156,13 +148,6 @@ module _ {S D C : Type 0} (callbacks : Callbacks S D C) (machine : MachineState 
       ∙ ap (λ (enters : Bool). settled callbacks machine (with_moment machine now) event.number
       (if enters then entered_by callbacks machine.state handled else handled) (if enters then entered_by callbacks machine.state handled else handled).reason) call
 
-  -- without an event it is idle
-  pub idle_is : machine.ended ≡ None → now < 2 ^ 63 → next_event_of machine ≡ None
-      → turn_of callbacks machine now ≡ (Ok Idle, with_moment machine now)
-  idle_is ended early next =
-      let running : turn_running callbacks machine now ≡ (Ok Idle, with_moment machine now) = rw (lt-ltb now (2 ^ 63) early, next) refl in
-      ap (λ (end : Option (ℕ × ℕ)). unless_ended end (λ refusal. Err refusal) machine (turn_running callbacks machine now)) ended ∙ running
-
 module _ {S D C : Type 0} (machine : MachineState S D C) (entry : Entry) (content : C) where
   -- a post to a machine that runs takes memory where a number is left
   pub post_wants_memory : machine.ended ≡ None → machine.schedule.next < 2 ^ 63 → post_takes_memory (post_of machine entry content).0 ≡ true
@@ -206,17 +191,6 @@ module _ {C : Type 0} where
       let held : event.content ≡ content = some_injective same_content in
       rw (← named, ← held) refl
 
-  -- where it has a name, it has a content
-  pub has_content : (next : Option (Event C)) (name : ℕ × Kind) → option_map name_of_event next ≡ Some name
-      → option_map (λ (event : Event C). event.content) next ≡ None → ⊥
-  has_content None name same_name none = none_not_some None name refl same_name
-  has_content (Some event) name same_name none = none_not_some (Some event.content) event.content none refl
-
-  -- no name, no event
-  pub no_event : (next : Option (Event C)) → option_map name_of_event next ≡ None → next ≡ None
-  no_event None h = refl
-  no_event (Some event) h = absurd (none_not_some (Some (name_of_event event)) (name_of_event event) h refl)
-
   -- its number is that of its name
   pub number_named : (next : Option (Event C)) (name : ℕ × Kind) → option_map name_of_event next ≡ Some name
       → option_map (λ (event : Event C). event.number) next ≡ Some name.0
@@ -242,11 +216,6 @@ module _ {C : Type 0} where
   numbers_taken-append (first ∷ settings) setting =
       let more = numbers_taken-append settings setting in
       rw more (omega arith)
-
--- a request takes one number at most
-pub one_number_at_most : (time : Time) → number_taken time ≤ 1
-one_number_at_most Infinity = omega arith
-one_number_at_most (After time) = omega arith
 
 module _ {C : Type 0} (settings : List (Setting C)) (index : ℕ) where
   -- one more request

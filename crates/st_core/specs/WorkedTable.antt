@@ -1,4 +1,5 @@
--- The module of the examples and of the tests, by a table: states, data and contents are numbers.
+-- The module of the examples and of the tests, by a table: states, data and contents are numbers. It stands
+-- here because the clauses of a test can name nothing else.
 use Rattle.std.specs.Prelude.{ℕ, Bool, ◌==◌, nat_le, if◌then◌else◌, true, false, Some, None, List, [], ◌∷◌}
 use Rattle.st_events.specs.declared.action.Action.{Action}
 use Rattle.st_events.specs.declared.action.Action.TheVariants.{Reply, Postpone, NextEvent, Set, Hibernate}

@@ -103,10 +103,10 @@ impl<M: Module> Core<M> {
         self.latest
     }
 
-    /// How many accepted events are not finished. A time-out that runs is none, nor is one that has
-    /// expired and was not handled yet.
+    /// How many accepted events wait, the postponed ones too; once the machine has ended, none. A time-out
+    /// that runs is none, nor is one that has expired and was not handled yet.
     ///
-    /// Manual: `event_handler_result()`; ours: docs/TRANSITIONS.md, Next event.
+    /// Manual: the introduction, on the event queue; ours: docs/TRANSITIONS.md, Next event.
     pub fn waiting(&self) -> usize
         ensures { result ≡ waiting_of self.now.machine }
     {
@@ -116,7 +116,7 @@ impl<M: Module> Core<M> {
     /// The running time-outs in the order of their requests: timer, number of the event, and when it is
     /// due, in milliseconds.
     ///
-    /// Refused with `NoMemory` where memory is wanted.
+    /// Refused with `NoMemory` where memory is wanted and there is none; then nothing is listed.
     ///
     /// Manual: `timeout_action()`; ours: docs/TRANSITIONS.md, Time-outs.
     pub fn timers(&self) -> Result<PlainList<(Timer, u64, Due)>, Refusal>
@@ -124,10 +124,7 @@ impl<M: Module> Core<M> {
 
         ensures refusals { IfErr result (λ refusal. refusal ≡ NoMemory) }
     {
-        match self.agenda.timers() {
-            Ok(timers) => Ok(timers),
-            Err(_) => Err(Refusal::NoMemory),
-        }
+        Ok(self.agenda.timers()?)
     }
 
     /// The reason for which the machine has ended, and its last word; `None` as long as it runs.

@@ -39,6 +39,10 @@ pub use laws::{
     a_machine_is_lawful, a_run_is_accounted, a_run_keeps_machines_lawful, a_start_is_lawful,
 };
 pub use report::Report;
+pub use st_events::{
+    Action, Actions, EnterAction, EnterActions, EnterOutcome, Init, Kind, MachineId, Module,
+    Outcome, PlainList, Reason, Refusal, Refused, Replies, SmallList, Tag, Time, Timer,
+};
 pub use st_requests::Collected;
 pub use st_timeouts::Due;
 pub use start::Start;

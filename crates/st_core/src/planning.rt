@@ -21,10 +21,7 @@ pub(crate) fn plan_actions<C: Drop>(
     requires settings_fit { SettingsFit C.row }
     ensures { IfOk result (λ planned. planned ≡ plan_of actions) }
 {
-    match plan(alloc, actions) {
-        Ok(planned) => Ok(planned),
-        Err(_) => Err(AllocError),
-    }
+    Ok(plan(alloc, actions)?)
 }
 
 /// What replies alone ask for. It takes no memory.
@@ -53,9 +50,7 @@ pub(crate) fn plan_both<C: Drop>(
     requires settings_fit { SettingsFit C.row }
     ensures { (actions : List (Action C)) → first ≡ plan_of actions → IfOk result (λ planned. planned ≡ plan_of (actions ++ as_actions later)) }
 {
-    let Ok(second) = plan_enter(alloc, later) else {
-        return Err(AllocError);
-    };
+    let second = plan_enter(alloc, later)?;
     join_plans(alloc, first, second)
 }
 
@@ -70,8 +65,5 @@ pub(crate) fn join_plans<C: Drop>(
     requires settings_fit { SettingsFit C.row }
     ensures { IfOk result (λ planned. planned ≡ joined_of first second) }
 {
-    match join(alloc, first, second) {
-        Ok(planned) => Ok(planned),
-        Err(_) => Err(AllocError),
-    }
+    Ok(join(alloc, first, second)?)
 }

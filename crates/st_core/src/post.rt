@@ -22,13 +22,6 @@ fn kind_of(tag: Tag, entry: Entry) -> Kind
     }
 }
 
-/// What a refused post answers.
-fn refused<C>(refusal: Refusal, value: C) -> Refused<C>
-    ensures { result ≡ record { refusal = refusal; value = value } }
-{
-    Refused { refusal, value }
-}
-
 /// Opens the request of an event that is posted so: of a call there is one.
 fn open<C: Drop>(requests: &mut Requests<C>, tag: Tag, entry: Entry) -> Result<(), AllocError>
     requires { held_for requests.old tag ≡ None }
@@ -55,7 +48,7 @@ fn withdraw<C: Drop>(requests: &mut Requests<C>, tag: Tag, entry: Entry)
 impl<M: Module> Core<M> {
     /// Hands the machine an event from outside, and answers the event's number. The event waits
     /// behind all others. A call opens a request, whose tag is the machine's id and that number: `collect`
-    /// hands its reply out.
+    /// hands its reply out. Until then the request is held, as long as there is the machine.
     ///
     /// Refused with `Stopped` once the machine has ended, with `Exhausted` where no number is left, and
     /// with `NoMemory` where memory is wanted. A refusal changes nothing and gives the content back.
@@ -68,24 +61,24 @@ impl<M: Module> Core<M> {
         ensures unchanged { OnErr result (self.new ≡ self.old) }
     {
         if let Some((reason, _)) = self.ended {
-            return Err(refused(Refusal::Stopped(reason), content));
+            return Err(Refused::new(Refusal::Stopped(reason), content));
         }
         let number = self.agenda.next();
         if number >= LIMIT {
-            return Err(refused(Refusal::Exhausted, content));
+            return Err(Refused::new(Refusal::Exhausted, content));
         }
         let tag = Tag {
             machine: self.id,
             request: number,
         };
         if open(&mut self.requests, tag, entry).is_err() {
-            return Err(refused(Refusal::NoMemory, content));
+            return Err(Refused::new(Refusal::NoMemory, content));
         }
         match self.agenda.push(kind_of(tag, entry), content) {
             Ok(number) => Ok(number),
             Err(failed) => {
                 withdraw(&mut self.requests, tag, entry);
-                Err(refused(Refusal::NoMemory, failed.value))
+                Err(Refused::new(Refusal::NoMemory, failed.value))
             }
         }
     }

@@ -44,18 +44,10 @@ pub(crate) fn prepare<C: Drop>(
     if !has_numbers(agenda.next(), inserts, &planned.requests) {
         return Err(Refusal::Exhausted);
     }
-    let Ok(replied) = Vec::with_capacity(alloc, planned.replies.len()) else {
-        return Err(Refusal::NoMemory);
-    };
-    let Ok(inserted) = numbers_from(alloc, agenda.next(), inserts) else {
-        return Err(Refusal::NoMemory);
-    };
-    let Ok(set) = times_of(alloc, &planned.requests) else {
-        return Err(Refusal::NoMemory);
-    };
-    let Ok(()) = agenda.make_room(inserts, timers) else {
-        return Err(Refusal::NoMemory);
-    };
+    let replied = Vec::with_capacity(alloc, planned.replies.len())?;
+    let inserted = numbers_from(alloc, agenda.next(), inserts)?;
+    let set = times_of(alloc, &planned.requests)?;
+    agenda.make_room(inserts, timers)?;
     Ok(Prepared {
         replied,
         inserted,

@@ -4,13 +4,15 @@ use crate::{Call, Done};
 use st_events::{PlainList, Tag, Time, Timer};
 
 /// What a start or a turn did.
+///
+/// Ours: docs/TRANSITIONS.md, A turn.
 #[derive(Debug, Drop)]
 pub struct Report<S> {
     /// The number of the event that was handled; a start has none.
     pub event: Option<u64>,
     /// How it ended.
     pub done: Done,
-    /// The callbacks that were made, in order.
+    /// The callbacks that were made, in order; the `init` of a start is not among them.
     pub calls: PlainList<Call<S>>,
     /// The state before it; of a start the one that `init` answered.
     pub before: S,

@@ -1,11 +1,12 @@
 //! A list of commands, one after another.
 ghost use Rattle.std.specs.Prelude.{◌≡◌, None, IfOk, IfErr};
+ghost use Rattle.st_events.specs.declared.refusal.Refusal.TheVariants.{NoMemory};
 ghost use Rattle.st_core.specs.Accounting.{IsAccounted};
 ghost use Rattle.st_core.specs.Callbacks.{callbacks_of};
 ghost use Rattle.st_core.specs.Run.{step_of, takes_memory, without_memory, Meets, Runs};
 
 use crate::{Answer, Command, Core};
-use st_events::Module;
+use st_events::{Module, Refusal, Refused};
 
 impl<M: Module> Core<M> {
     /// Does one command.
@@ -29,22 +30,23 @@ impl<M: Module> Core<M> {
     /// As long as the machine has not ended, each event that waited before or was accepted since waits still or
     /// was finished once: none is lost, and none is finished twice.
     ///
-    /// Where there is no memory for the answers, nothing is done and the commands come back.
+    /// Refused with `NoMemory` where there is no memory for the answers: then nothing is done, and the
+    /// commands come back.
     ///
     /// Ours: docs/DECISIONS.md, Runs.
     pub fn run(
         &mut self,
         commands: Vec<Command<M::Content>>,
-    ) -> Result<Vec<Answer<M::State, M::Content>>, Vec<Command<M::Content>>>
+    ) -> Result<Vec<Answer<M::State, M::Content>>, Refused<Vec<Command<M::Content>>>>
         ensures run { IfOk result (λ answers. Runs (callbacks_of M.Module M.State.eq self.old.module_) self.old.machine commands.items answers.items self.new.machine) }
         ensures accounted { IfOk result (λ answers. self.new.machine.ended ≡ None → IsAccounted self.old.machine answers.items self.new.machine) }
         ensures unchanged_module { self.new.module_ ≡ self.old.module_ }
 
-        ensures unchanged { IfErr result (λ back. (back ≡ commands) × (self.new ≡ self.old)) }
+        ensures unchanged { IfErr result (λ refused. (refused.refusal ≡ NoMemory) × (refused.value ≡ commands) × (self.new ≡ self.old)) }
     {
         let mut answers = match Vec::with_capacity(self.alloc, commands.len()) {
             Ok(answers) => answers,
-            Err(_) => return Err(commands),
+            Err(_) => return Err(Refused::new(Refusal::NoMemory, commands)),
         };
         for command in commands {
             let answer = self.step(command);

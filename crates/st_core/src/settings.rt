@@ -1,5 +1,5 @@
 //! Timers that are to be set: the numbers that they take, and what a report says of them.
-ghost use Rattle.std.specs.Prelude.{◌≡◌, ◌+◌, ◌≤◌, ◌^◌, length, nat_le, IfOk};
+ghost use Rattle.std.specs.Prelude.{◌≡◌, ◌+◌, ◌≤◌, ◌^◌, nat_le, IfOk};
 ghost use Rattle.st_agenda.specs.Timing.{number_taken, numbers_taken};
 ghost use Rattle.st_core.specs.Transition.{times_of};
 

@@ -22,24 +22,19 @@ use std::alloc::Global;
 /// Manual: `start_ret()`, `init_result()`.
 #[derive(Drop)]
 pub enum Start<M: Module> {
-    /// A machine, and what its start did.
+    /// A machine, and what its start did. It has ended where the first enter call stopped: `Core::ended`
+    /// says so.
     Running(Core<M>, Report<M::State>),
-    /// No machine: `init` answered that this start is to be ignored.
+    /// No machine: `init` answered that this start is to be ignored. The module is let go.
     Ignored,
-    /// No machine: `init` stopped for this reason.
+    /// No machine: `init` stopped for this reason. The module is let go.
     Stopped(Reason),
-}
-
-/// What a refused start answers.
-fn refused<M>(refusal: Refusal, value: M) -> Refused<M>
-    ensures { result ≡ record { refusal = refusal; value = value } }
-{
-    Refused { refusal, value }
 }
 
 impl<M: Module> Core<M> {
     /// Starts a machine at a moment, in milliseconds: calls the module's `init` on the argument. The
-    /// first event gets the number 1.
+    /// first event gets the number 1. The id is the caller's choice, and no other machine's: the tags of
+    /// requests name it.
     ///
     /// With enter calls the first state is entered, with itself as the old one. What the actions of `init`
     /// and then of `enter` ask for is done: events are inserted, and then timers are set. There is no event
@@ -79,10 +74,10 @@ impl<M: Module> Core<M> {
         ensures start { Starts «module» result (start_of (callbacks_of M.Module M.State.eq «module») «module» id (M.init_is «module» arg.now) now first) }
     {
         if now >= LIMIT {
-            return Err(refused(Refusal::Moment, module));
+            return Err(Refused::new(Refusal::Moment, module));
         }
         match module.init(alloc, arg) {
-            Err(_) => Err(refused(Refusal::NoMemory, module)),
+            Err(_) => Err(Refused::new(Refusal::NoMemory, module)),
             Ok(Init::Ignore) => Ok(Start::Ignored),
             Ok(Init::Stop(reason)) => Ok(Start::Stopped(reason)),
             Ok(Init::Ok(state, data, actions)) => {
@@ -111,7 +106,7 @@ impl<M: Module> Core<M> {
         ensures start { Starts «module» result (started_with «module» (first_state id state «data» now first) (begun_with state «data» actions)) }
     {
         let Ok(planned) = plan_actions(alloc, actions) else {
-            return Err(refused(Refusal::NoMemory, module));
+            return Err(Refused::new(Refusal::NoMemory, module));
         };
         let calls = PlainList::new(alloc);
         Core::run_from(alloc, module, id, calls, state, data, planned, now, first)
@@ -135,18 +130,18 @@ impl<M: Module> Core<M> {
             → Starts «module» result (begun_as (callbacks_of M.Module M.State.eq «module») «module» id called now first) }
     {
         let Ok(planned) = plan_actions(alloc, actions) else {
-            return Err(refused(Refusal::NoMemory, module));
+            return Err(Refused::new(Refusal::NoMemory, module));
         };
         let Ok(entered) = module.enter(alloc, state, state, &data) else {
-            return Err(refused(Refusal::NoMemory, module));
+            return Err(Refused::new(Refusal::NoMemory, module));
         };
         let reason = entered_reason(&entered);
         let mut new = None;
         let Ok(planned) = plan_entered(alloc, planned, entered, &mut new) else {
-            return Err(refused(Refusal::NoMemory, module));
+            return Err(Refused::new(Refusal::NoMemory, module));
         };
         let Ok(calls) = one_call(alloc, Call::Enter { old: state, state }) else {
-            return Err(refused(Refusal::NoMemory, module));
+            return Err(Refused::new(Refusal::NoMemory, module));
         };
         replace(&mut data, new);
         match reason {
@@ -178,7 +173,7 @@ impl<M: Module> Core<M> {
         let mut agenda = Agenda::new(alloc, first);
         let prepared = match prepare(alloc, &mut agenda, &planned) {
             Ok(prepared) => prepared,
-            Err(refusal) => return Err(refused(refusal, module)),
+            Err(refusal) => return Err(Refused::new(refusal, module)),
         };
         // Nothing fails from here on.
         agenda.insert(planned.inserts);
@@ -232,7 +227,7 @@ impl<M: Module> Core<M> {
             word,
         };
         let Ok(calls) = with_call(calls, terminate) else {
-            return Err(refused(Refusal::NoMemory, module));
+            return Err(Refused::new(Refusal::NoMemory, module));
         };
         let core = Core {
             alloc,

@@ -31,8 +31,8 @@ impl<M: Module> Core<M> {
         }
         let latest = self.latest.max(now);
         let count = self.agenda.count_due(latest);
-        if count > 0 && self.agenda.stage(count).is_err() {
-            return Err(Refusal::NoMemory);
+        if count > 0 {
+            self.agenda.stage(count)?;
         }
         // Nothing fails from here on.
         self.latest = latest;

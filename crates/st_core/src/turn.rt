@@ -76,9 +76,11 @@ fn done_by(postpone: bool) -> Done
 
 impl<M: Module> Core<M> {
     /// Handles the next event at a moment, in milliseconds: calls the module back, and changes the
-    /// machine as it answers. With enter calls a new state is entered, or the same one where it is
-    /// repeated, by one call of `enter`; its actions follow those of `handle`, as if in one list, and it may
-    /// stop. Without an event the answer is `Idle`. A moment before the latest one
+    /// machine as it answers. It lets no time-out expire: that is `tick`, which belongs before it.
+    ///
+    /// With enter calls a new state is entered, or the same one where it is repeated, by one call of
+    /// `enter`; its actions follow those of `handle`, as if in one list, and it may stop. Without an event
+    /// the answer is `Idle`, and nothing changes but the latest moment. A moment before the latest one
     /// counts as the latest.
     ///
     /// Refused with `Stopped` once the machine has ended, with `Moment` at 2^63 or later, with
@@ -107,12 +109,9 @@ impl<M: Module> Core<M> {
         let Some(content) = self.agenda.next_content() else {
             unreachable!()
         };
-        let Ok(outcome) = self
+        let outcome = self
             .module
-            .handle(self.alloc, kind, content, self.state, &self.data)
-        else {
-            return Err(Refusal::NoMemory);
-        };
+            .handle(self.alloc, kind, content, self.state, &self.data)?;
         if is_entered(&self.module, self.state, &outcome) {
             self.enter(now, number, kind, outcome)
         } else {
@@ -142,12 +141,8 @@ impl<M: Module> Core<M> {
         let changed = changes_state(self.state, &outcome);
         let reason = reason_of(&outcome);
         let mut data = None;
-        let Ok(planned) = plan_outcome(self.alloc, outcome, &mut data) else {
-            return Err(Refusal::NoMemory);
-        };
-        let Ok(calls) = handle_alone(self.alloc, number, kind, self.state) else {
-            return Err(Refusal::NoMemory);
-        };
+        let planned = plan_outcome(self.alloc, outcome, &mut data)?;
+        let calls = handle_alone(self.alloc, number, kind, self.state)?;
         match reason {
             None => self.go_on(now, number, calls, after, data, changed, planned),
             Some(reason) => self.stop_at(now, number, calls, after, data, planned.replies, reason),
@@ -177,20 +172,12 @@ impl<M: Module> Core<M> {
         let after = state_after(self.state, &outcome);
         let changed = changes_state(self.state, &outcome);
         let mut data = None;
-        let Ok(first) = plan_outcome(self.alloc, outcome, &mut data) else {
-            return Err(Refusal::NoMemory);
-        };
+        let first = plan_outcome(self.alloc, outcome, &mut data)?;
         let held = or_old(&self.data, &data);
-        let Ok(entered) = self.module.enter(self.alloc, self.state, after, held) else {
-            return Err(Refusal::NoMemory);
-        };
+        let entered = self.module.enter(self.alloc, self.state, after, held)?;
         let reason = entered_reason(&entered);
-        let Ok(planned) = plan_entered(self.alloc, first, entered, &mut data) else {
-            return Err(Refusal::NoMemory);
-        };
-        let Ok(calls) = handle_and_enter(self.alloc, number, kind, self.state, after) else {
-            return Err(Refusal::NoMemory);
-        };
+        let planned = plan_entered(self.alloc, first, entered, &mut data)?;
+        let calls = handle_and_enter(self.alloc, number, kind, self.state, after)?;
         match reason {
             None => self.go_on(now, number, calls, after, data, changed, planned),
             Some(reason) => self.stop_at(now, number, calls, after, data, planned.replies, reason),
@@ -220,10 +207,7 @@ impl<M: Module> Core<M> {
 
         ensures unchanged { OnErr result (self.new ≡ self.old) }
     {
-        let prepared = match prepare(self.alloc, &mut self.agenda, &planned) {
-            Ok(prepared) => prepared,
-            Err(refusal) => return Err(refusal),
-        };
+        let prepared = prepare(self.alloc, &mut self.agenda, &planned)?;
         // Nothing fails from here on.
         let before = self.state;
         self.latest = self.latest.max(now);
@@ -282,12 +266,8 @@ impl<M: Module> Core<M> {
             state: after,
             word,
         };
-        let Ok(calls) = with_call(calls, terminate) else {
-            return Err(Refusal::NoMemory);
-        };
-        let Ok(mut replied) = Vec::with_capacity(self.alloc, replies.len()) else {
-            return Err(Refusal::NoMemory);
-        };
+        let calls = with_call(calls, terminate)?;
+        let mut replied = Vec::with_capacity(self.alloc, replies.len())?;
         // Nothing fails from here on.
         let before = self.state;
         self.latest = self.latest.max(now);

@@ -2,9 +2,13 @@
 
 use crate::Report;
 
-/// What a turn answers: what it did, or that there was no event to handle.
+/// What a turn answers.
+///
+/// Ours: docs/TRANSITIONS.md, A turn.
 #[derive(Debug, Drop)]
 pub enum Turned<S> {
+    /// It handled an event.
     Reported(Report<S>),
+    /// There was no event to handle.
     Idle,
 }

@@ -1,3 +1,4 @@
+-- Lemmas on bytes, words and lines, on doors and on what a line makes of them; and scripts computed.
 pub mod PieceLemmas
 pub mod StreamLemmas
 pub mod WordLemmas

@@ -26,7 +26,7 @@ use Rattle.st_door.specs.declared.door_state.DoorState.TheVariants.{Locked}
 use Rattle.st_door.specs.declared.line.Line.TheVariants as line
 use Rattle.st_door.specs.declared.reply.Reply.{Reply}
 use Rattle.st_door.specs.declared.reply.Reply.TheVariants.{Printed, Refuses}
-use Rattle.st_door.specs.Doors.{NamedDoor, DoorMachine, IsFirst, IsKept, RestsOutside, SameLabels, door_limit, door_named, door_of, has_name, is_ready_door, names_of, slots_of, least_from, free_slot_of, press_of, pressed_door, refusal_of, door_callbacks, door_stop_of, ended_door, stop_refusal_of, upward}
+use Rattle.st_door.specs.Doors.{NamedDoor, DoorMachine, IsFirst, IsKept, SameLabels, door_limit, door_named, door_of, has_name, is_ready_door, slots_of, least_from, free_slot_of, press_of, pressed_door, refusal_of, door_callbacks, door_stop_of, ended_door, stop_refusal_of, upward}
 use Rattle.st_door.specs.Printing.{status_of}
 use Rattle.st_door.specs.Script.{ScriptState, door_start_of, next_id_of, the_door, named_status_of, rested_of, step_of, with_start}
 use Rattle.st_door.proofs.DoorLemmas.{IsFirst-within, IsFirst-changed, IsFirst-found, IsFirst-map, IsFirst-of_map}
@@ -56,17 +56,6 @@ upward-more zero first last same = let here : last ≡ first = omega arith in ap
 upward-more (suc more) first last same = ap (λ (t : List ℕ). first ∷ t) (upward-more more (first + 1) last (omega arith))
 
 -- ---- what is kept of the doors
-length-names : (doors : List NamedDoor) → length (names_of doors) ≡ length doors
-length-names [] = refl
-length-names (door ∷ doors) = ap suc (length-names doors)
-
-pub length-labels : (old new : List NamedDoor) → SameLabels old new → length new ≡ length old
-length-labels old new same =
-    sym (length-names new) ∙ (ap length same.names ∙ length-names old)
-
-pub kept-empty : IsKept [] 0 0
-kept-empty = record { ordered = omega arith; within = omega arith; few = omega arith; numbered = refl; resting = λ k d less outside. absurd (omega arith) }
-
 -- a door that rests goes to the end
 pub kept-pushed : (doors : List NamedDoor) (from until : ℕ) (door : NamedDoor) → IsKept doors from until
     → length doors < door_limit → door.machine.id.slot ≡ length doors → is_ready_door door ≡ false → IsKept (doors ++ door ∷ []) from until
@@ -144,18 +133,6 @@ kept-resting doors from until place machine kept within same rests = record {
         | inr other ↦ let ne : k ≢ place = other.1 in rw get_or-set_other (kept.resting k d there outside)
       ];
 }
-
--- the doors had turns
-pub kept-labels : (old new : List NamedDoor) (from until first : ℕ) → IsKept old from until → SameLabels old new → first ≤ until → RestsOutside first until new → IsKept new first until
-kept-labels old new from until first kept same less rests =
-    let long : length new ≡ length old = length-labels old new same in
-    record {
-      ordered = less;
-      within = rw long kept.within;
-      few = rw long kept.few;
-      numbered = same.slots ∙ (kept.numbered ∙ ap (upward 0) (sym long));
-      resting = rests;
-    }
 
 -- ---- the place of a name
 -- the place is found by the names alone

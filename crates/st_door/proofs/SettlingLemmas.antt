@@ -1,9 +1,9 @@
 -- Turns until the doors rest.
-use Rattle.std.proofs.Common.{◌≡◌, ℕ, zero, suc, ◌+◌, ◌<◌, ◌≤◌, ◌≢◌, Bool, true, false, nat_lt, List, [], ◌∷◌, length, get_or, set, map, refl, ap, ◌∙◌, arith, inl, inr, ◌^◌, Option, Some, None}
+use Rattle.std.proofs.Common.{◌≡◌, ℕ, zero, suc, ◌<◌, ◌≤◌, ◌≢◌, Bool, true, false, nat_lt, List, [], ◌∷◌, length, get_or, set, map, refl, ap, ◌∙◌, arith, inl, inr, ◌^◌, Option, Some, None}
 use Rattle.std.specs.List.{list_any}
 use Rattle.std.proofs.Math.Path.{fun_ext}
 use Rattle.std.proofs.lemmas.Bool.{cases_Bool, cases_lt}
-use Rattle.std.proofs.lemmas.List.{get_or-set_other, get_or_default, length-set}
+use Rattle.std.proofs.lemmas.List.{get_or-set_other, length-set}
 use Rattle.st_core.specs.Choice.{next_event_of}
 use Rattle.st_core.specs.Callbacks.{Called, callbacks_of, called_of}
 use Rattle.st_core.specs.Stop.{unless_ended}
@@ -101,9 +101,6 @@ id-running machine moment = elim (cases_Bool (nat_lt moment (2 ^ 63))) [
 pub id-turn : (machine : DoorMachine) (moment : ℕ) → (turn_of door_callbacks machine moment).1.id ≡ machine.id
 id-turn machine moment = id-unless machine.ended _ machine (turn_running door_callbacks machine moment) (id-running machine moment)
 
-pub labels-same : (doors : List NamedDoor) → SameLabels doors doors
-labels-same doors = record { names = refl; slots = refl }
-
 pub labels-more : (a b c : List NamedDoor) → SameLabels a b → SameLabels b c → SameLabels a c
 labels-more a b c one two = record { names = two.names ∙ one.names; slots = two.slots ∙ one.slots }
 
@@ -127,26 +124,6 @@ rests-set doors from until place x low high rests = λ k d less outside.
     let other : k ≢ place = elim outside [ inl before ↦ omega arith | inr after ↦ omega arith ] in
     let within : k < length doors = omega (arith, less, length-set {A = NamedDoor}) in
     rw get_or-set_other (rests k d within outside)
-
-pub rests-more : (doors : List NamedDoor) (from until : ℕ)
-    → is_ready_door (get_or doors from no_door) ≡ false → RestsOutside from until doors → RestsOutside (from + 1) until doors
-rests-more doors from until here rests = λ k d less outside. elim (cases_lt k from) [
-  | inl before ↦ rests k d less (inl before)
-  | inr after ↦ elim outside [
-    | inl up_to ↦
-        let same : k ≡ from = omega arith in
-        let within : from < length doors = omega arith in
-        rw (same, get_or_default doors from d no_door within) here
-    | inr past ↦ rests k d less (inr past)
-  ]
-]
-
--- fewer doors may be ready
-pub rests-wider : (doors : List NamedDoor) (narrow from until : ℕ) → from ≤ narrow → RestsOutside narrow until doors → RestsOutside from until doors
-rests-wider doors narrow from until less rests = λ k d within outside. rests k d within (elim outside [
-  | inl before ↦ inl (omega arith)
-  | inr after ↦ inr after
-])
 
 -- ---- one turn, and none
 pub run-turned : (turns moment : ℕ) (doors : List NamedDoor) (first until : ℕ) → first < until → first < length doors

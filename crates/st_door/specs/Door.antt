@@ -23,6 +23,7 @@ use Rattle.st_door.specs.declared.door_data.DoorData.{DoorData}
 use Rattle.st_door.specs.declared.door_state.DoorState.{DoorState}
 use Rattle.st_door.specs.declared.door_state.DoorState.TheVariants.{Locked, Open}
 
+-- what a door's `handle` answers
 abbrev pub DoorOutcome : Type 0
 DoorOutcome = Outcome DoorState DoorData DoorContent
 

@@ -22,6 +22,7 @@ use Rattle.st_door.specs.declared.door_data.DoorData.{DoorData}
 use Rattle.st_door.specs.declared.door_state.DoorState.{DoorState}
 use Rattle.st_door.specs.Door.{handle_of, enters, enter_of, terminate_of, is_same_state}
 
+-- the machine state of a door
 abbrev pub DoorMachine : Type 0
 DoorMachine = MachineState DoorState DoorData DoorContent
 
@@ -30,6 +31,7 @@ pub record NamedDoor : Type 0 where
   pub name : List ℕ
   pub machine : DoorMachine
 
+-- this machine under this name
 abbrev pub door_named : List ℕ → DoorMachine → NamedDoor
 door_named name machine = record { name = name; machine = machine }
 

@@ -7,6 +7,7 @@ use Rattle.st_door.specs.declared.door_data.DoorData.{DoorData}
 use Rattle.st_door.specs.declared.door_state.DoorState.{DoorState}
 use Rattle.st_door.specs.Doors.{NamedDoor}
 
+-- what contracts see of a door's `Core`
 abbrev pub DoorCore : Type 0
 DoorCore = Machine Door DoorState DoorData DoorContent
 

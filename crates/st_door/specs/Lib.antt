@@ -1,3 +1,4 @@
+-- The door's tables, what a script's lines are, and what they bring about.
 pub mod Door
 pub mod Doors
 pub mod Entries

@@ -31,6 +31,7 @@ pub record ScriptState : Type 0 where
   pub moment : ℕ
   pub started : ℕ
 
+-- a script begins at moment 0, with no door
 abbrev pub first_script_state : ScriptState
 first_script_state = record { doors = []; moment = 0; started = 0 }
 
@@ -46,6 +47,7 @@ next_id_of script = record { slot = free_slot_of script.doors; serial = script.s
 abbrev pub the_door : Door
 the_door = record {}
 
+-- what comes of the start of a door
 abbrev pub DoorStart : Type 0
 DoorStart = Result (Start Door DoorState DoorData DoorContent (List ℕ)) (Refused Door)
 

@@ -10,7 +10,7 @@ use st_events::{
 };
 use std::alloc::{AllocError, Global};
 
-/// After how many milliseconds without an event a locked door forgets its buttons.
+/// How many milliseconds after a button a locked door forgets its buttons, where no other event comes.
 const BUTTONS_TIME: u32 = 30_000;
 
 /// How many milliseconds a door stays open.
@@ -23,8 +23,9 @@ type DoorOutcome = Outcome<DoorState, DoorData, DoorContent>;
 type DoorEntered = EnterOutcome<DoorData, DoorContent>;
 
 /// A door that opens on a code. It is locked at first; buttons that make up the code open it. After
-/// 10,000 milliseconds it is locked again. While it is locked, its buttons are forgotten after 30,000
-/// milliseconds in which no event came.
+/// 10,000 milliseconds it is locked again. While it is locked, its buttons are forgotten 30,000
+/// milliseconds after the last one; any other event that it handles before, a call too, cancels that,
+/// and then they stay until one more button sets the time anew.
 ///
 /// It has enter calls: that of the open door sets the time-out that locks it again, and that of the locked
 /// door, the first one too, forgets its buttons.

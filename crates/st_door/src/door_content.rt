@@ -9,5 +9,6 @@ pub enum DoorContent {
     CodeLength,
     /// The code has so many digits.
     Length(usize),
+    /// What a time-out of the door says.
     Nothing,
 }

@@ -43,3 +43,7 @@ pub use run::run_script;
 pub use script_fault::ScriptFault;
 pub use sink::Sink;
 pub use source::Source;
+pub use st_events::{
+    Action, Actions, EnterAction, EnterActions, EnterOutcome, Init, Kind, MachineId, Module,
+    Outcome, PlainList, Reason, Refusal, Refused, Replies, SmallList, Tag, Time, Timer,
+};

@@ -1,6 +1,6 @@
 //! Whole scripts against outputs worked out by hand, faults, limits, and each public call once.
 
-mod calls;
+mod digits;
 mod door;
 mod faults;
 mod lengths;

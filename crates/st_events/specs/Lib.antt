@@ -1,3 +1,4 @@
+-- What lists are to contracts, the numbers of refusals, what has to fit in memory, and when two timers are one.
 pub mod Building
 pub mod Places
 pub mod Refusal

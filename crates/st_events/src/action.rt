@@ -9,13 +9,14 @@ use crate::{Kind, SmallList, Tag, Time, Timer};
 pub enum Action<C> {
     /// Answers a request. Manual: `reply_action()`.
     Reply(Tag, C),
-    /// Says whether the event is postponed. Of several the last one decides. Manual: `postpone()`.
+    /// Says whether the event is postponed. Of several the last one decides. Manual: `postpone()`,
+    /// `action()`.
     Postpone(bool),
-    /// Inserts an event, which is handled before all that was not handled yet. Manual: `action()`,
-    /// the bullet on `next_event`.
+    /// Inserts an event, which is handled before all that was not handled yet. One of kind call opens no
+    /// request. Manual: `action()`, the bullet on `next_event`.
     NextEvent(Kind, C),
-    /// Sets a timer, or stops it, and the content of its event. Of several for one timer the last one
-    /// decides. Manual: `timeout_action()`.
+    /// Sets a timer for a time, or stops it; the content is that of the time-out's event. Of several for
+    /// one timer the last one decides. Manual: `timeout_action()`, `action()`.
     Set(Timer, Time, C),
     /// Is accepted and has no effect. Manual: `hibernate()`; ours: docs/DECISIONS.md, Hibernation.
     Hibernate,

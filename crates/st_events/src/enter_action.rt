@@ -10,8 +10,8 @@ use crate::{SmallList, Tag, Time, Timer};
 pub enum EnterAction<C> {
     /// Answers a request. Manual: `reply_action()`.
     Reply(Tag, C),
-    /// Sets a timer, or stops it, and the content of its event. Of several for one timer the last one
-    /// decides. Manual: `timeout_action()`.
+    /// Sets a timer for a time, or stops it; the content is that of the time-out's event. Of several for
+    /// one timer the last one decides. Manual: `timeout_action()`, `enter_action()`.
     Set(Timer, Time, C),
     /// Is accepted and has no effect. Manual: `hibernate()`; ours: docs/DECISIONS.md, Hibernation.
     Hibernate,

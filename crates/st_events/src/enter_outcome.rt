@@ -5,7 +5,7 @@ use crate::{EnterActions, Reason, Replies};
 /// What `enter` answers: the data and the actions that come of entering a state, or that the machine
 /// ends. The state stays: an enter call cannot lead to another.
 ///
-/// Manual: `state_enter_result()`.
+/// Manual: `state_enter_result()`, `state_callback_result()`.
 #[derive(Drop)]
 pub enum EnterOutcome<D, C> {
     /// The data is this. Manual: `{keep_state, ..}`.

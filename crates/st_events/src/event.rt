@@ -7,7 +7,10 @@ use crate::Kind;
 /// Manual: `event_type()`, `event_content()`. Ours: docs/DECISIONS.md, Numbers of events.
 #[derive(Debug, Drop)]
 pub struct Event<C> {
+    /// Its number.
     pub number: u64,
+    /// Its type.
     pub kind: Kind,
+    /// Its content.
     pub content: C,
 }

@@ -7,7 +7,9 @@ use crate::{Kind, SmallList};
 /// Manual: `action()`, the bullet on `next_event`.
 #[derive(Debug, Drop)]
 pub struct Insert<C> {
+    /// Its type.
     pub kind: Kind,
+    /// Its content.
     pub content: C,
 }
 

@@ -7,9 +7,14 @@ use crate::{Tag, Timer};
 /// Manual: `event_type()`.
 #[derive(Clone, Copy, Debug, PartialEq, Eq)]
 pub enum Kind {
+    /// A call, whose request has this tag. Manual: `call/2`.
     Call(Tag),
+    /// A cast. Manual: `cast/2`.
     Cast,
+    /// Any other message. Manual: `info`.
     Info,
+    /// The time-out of this timer. Manual: `timeout_event_type()`.
     Timeout(Timer),
+    /// What only the machine itself inserts. Manual: `internal`.
     Internal,
 }

@@ -15,8 +15,9 @@ use std::alloc::{AllocError, Global};
 
 /// A callback module: what an embedder writes, and a machine runs.
 ///
-/// Each call has a definition, its ghost member, which its answer must be; the one other answer is
-/// want of memory. So a callback is a function of what it is handed, and its effects are actions.
+/// Each call but the copies has a definition, its ghost member, which its answer must be; a copy equals
+/// its source. `init`, `handle`, `enter` and the copies may find no memory instead, and say so. So a
+/// callback is a function of what it is handed, and its effects are actions.
 ///
 /// Manual: Callback Functions, in the callback mode `handle_event_function`, with `state_enter()` where
 /// `enters` answers so.
@@ -48,7 +49,7 @@ pub trait Module: Drop {
     // What `terminate` answers to a reason, in a state, with the data.
     ghost terminate_is: { Self → ℕ → Self.State → Self.Data → ℕ };
 
-    /// Begins: the first state, data and actions, or that no machine starts.
+    /// Begins: the first state, data and actions, or that no machine starts. It may find no memory.
     ///
     /// Manual: `Module:init/1`.
     fn init(
@@ -58,7 +59,7 @@ pub trait Module: Drop {
     ) -> Result<Init<Self::State, Self::Data, Self::Content>, AllocError>
         ensures { IfOk result (λ outcome. outcome ≡ init_is self.now arg.now) };
 
-    /// Handles an event of a kind and a content, in a state, with the data.
+    /// Handles an event of a kind and a content, in a state, with the data. It may find no memory.
     ///
     /// Manual: `Module:handle_event/4`.
     fn handle(
@@ -79,7 +80,7 @@ pub trait Module: Drop {
 
     /// Enters a state from the one that was left, with the data: where `enters` says so, this is called
     /// where a machine starts, with the first state as both, after a `NextState` to another state, and
-    /// after `RepeatState` and `RepeatStateAndData`.
+    /// after `RepeatState` and `RepeatStateAndData`. It may find no memory.
     ///
     /// Manual: `Module:handle_event/4` with the event type `enter`; `state_enter()`.
     fn enter(
@@ -97,7 +98,7 @@ pub trait Module: Drop {
     fn terminate(&self, reason: Reason, state: Self::State, data: &Self::Data) -> u32
         ensures { result ≡ terminate_is self.now reason state «data».now };
 
-    /// A copy of a content, equal to it.
+    /// A copy of a content, equal to it. It may find no memory.
     ///
     /// Ours: docs/DECISIONS.md, Copies.
     fn copy_content(
@@ -107,7 +108,7 @@ pub trait Module: Drop {
     ) -> Result<Self::Content, AllocError>
         ensures { IfOk result (λ copy. copy ≡ content.now) };
 
-    /// A copy of the data, equal to it.
+    /// A copy of the data, equal to it. It may find no memory.
     ///
     /// Ours: docs/DECISIONS.md, Copies.
     fn copy_data(&self, alloc: Global, data: &Self::Data) -> Result<Self::Data, AllocError>

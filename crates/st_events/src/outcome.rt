@@ -15,7 +15,7 @@ pub type Replies<C> = SmallList<(Tag, C)>;
 /// What `handle` answers: the state, the data and the actions that come of an event, or that the
 /// machine ends.
 ///
-/// Manual: `event_handler_result()`.
+/// Manual: `event_handler_result()`, `state_callback_result()`.
 #[derive(Drop)]
 pub enum Outcome<S, D, C> {
     /// The state and the data are these. Manual: `{next_state, ..}`.

@@ -5,6 +5,8 @@ use std::alloc::Global;
 use std::marker::Model;
 
 /// A vector of which contracts see the elements alone, and no capacity.
+///
+/// Ours: docs/DECISIONS.md, Lists in values that definitions compare.
 #[derive(Debug, Drop)]
 pub struct PlainList<T> {
     elements: Vec<T>,

@@ -1,8 +1,10 @@
 //! Why a call is refused.
 ghost use Rattle.std.specs.Prelude.{◌≡◌};
 ghost use Rattle.st_events.specs.Refusal.{number_of};
+ghost use Rattle.st_events.specs.declared.refusal.Refusal.TheVariants.{NoMemory};
 
 use crate::{MachineId, Reason};
+use std::alloc::AllocError;
 use thiserror::Error;
 
 /// Why a call was refused. A refused call changes nothing, and gives back what it took.
@@ -35,6 +37,8 @@ pub enum Refusal {
 
 impl Refusal {
     /// The refusal's number, by which scripts report it.
+    ///
+    /// Ours: docs/TRANSITIONS.md, Refusals.
     pub fn number(&self) -> u8
         ensures { result ≡ number_of self.now }
     {
@@ -47,5 +51,14 @@ impl Refusal {
             Refusal::NoSuchName => 8,
             Refusal::Full => 11,
         }
+    }
+}
+
+/// Want of memory is told as `NoMemory`, so that `?` turns it into a refusal.
+impl From<AllocError> for Refusal {
+    ghost from_gives = { λ _ refusal. refusal ≡ NoMemory };
+
+    fn from(_cause: AllocError) -> Refusal {
+        Refusal::NoMemory
     }
 }

@@ -7,8 +7,11 @@ use crate::{SmallList, Time, Timer};
 /// Manual: `timeout_action()`.
 #[derive(Debug, Drop)]
 pub struct Setting<C> {
+    /// Which timer.
     pub timer: Timer,
+    /// For how long, or that it is stopped.
     pub time: Time,
+    /// The content of the event that the time-out becomes.
     pub content: C,
 }
 

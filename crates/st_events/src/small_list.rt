@@ -7,6 +7,8 @@ use std::alloc::{AllocFailed, Global};
 use std::marker::Model;
 
 /// A list of which up to four elements lie in the value itself. Contracts see its elements alone.
+///
+/// Ours: docs/DECISIONS.md, Lists in values that definitions compare.
 #[derive(Debug, Drop)]
 pub struct SmallList<T> {
     // Each is `Some`: an inline place that is not used holds `None`, so that no element needs a blank.

@@ -8,6 +8,8 @@ use std::alloc::{AllocError, Global};
 use std::marker::Model;
 
 /// A list in the making, for which the room is got first: after that no call can fail.
+///
+/// Ours: docs/DECISIONS.md, Small vectors want a blank element.
 #[derive(Debug, Drop)]
 pub struct SmallListBuilder<T> {
     // Each is `Some`, as in the list that they become. The room is the capacity that is left.
@@ -28,7 +30,8 @@ impl<T> Model for SmallListBuilder<T> {
 }
 
 impl<T: Drop> SmallListBuilder<T> {
-    /// No element yet, and room for so many, at least four. For up to four this takes no memory.
+    /// No element yet, and room for so many, at least four. For up to four this takes no memory. Where
+    /// memory is wanted and there is none, there is no list.
     pub fn with_room(alloc: Global, count: usize) -> Result<SmallListBuilder<T>, AllocError>
         ensures room { IfOk result (λ builder. builder ≡ record { items = []; room = max 4 count }) }
 

@@ -7,6 +7,8 @@ use crate::MachineId;
 /// Manual: `from()`.
 #[derive(Clone, Copy, Debug, PartialEq, Eq)]
 pub struct Tag {
+    /// The machine that was called.
     pub machine: MachineId,
+    /// The number of the call's event, as `post` answered it.
     pub request: u64,
 }

@@ -1,8 +1,10 @@
 //! Each call once with memory, and lists while an allocation is refused.
 ghost use Rattle.std.specs.Prelude.{◌≡◌, [], max};
 
-use crate::{Action, Actions, MachineId, PlainList, Refusal, SmallList, SmallListBuilder, Tag};
-use std::alloc::Global;
+use crate::{
+    Action, Actions, MachineId, PlainList, Refusal, Refused, SmallList, SmallListBuilder, Tag,
+};
+use std::alloc::{AllocError, Global};
 use std::process::Abort;
 
 const MACHINE: MachineId = MachineId { slot: 2, serial: 5 };
@@ -132,6 +134,10 @@ fn refusals_have_numbers_and_texts(rt: HostRuntime) {
         assert_eq!(rt; refusal.number(), number);
         assert_eq!(rt; text_of(&rt, rt.alloc(), refusal).as_str(), text);
     }
+    assert_eq!(rt; Refusal::from(AllocError), Refusal::NoMemory);
+    let refused = Refused::new(Refusal::Moment, 7);
+    assert_eq!(rt; refused.refusal, Refusal::Moment);
+    assert_eq!(rt; refused.value, 7);
     tell_refusals(rt);
 }
 

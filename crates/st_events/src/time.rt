@@ -5,6 +5,8 @@
 /// Manual: `event_timeout()`, `generic_timeout()`, `state_timeout()`.
 #[derive(Clone, Copy, Debug, PartialEq, Eq)]
 pub enum Time {
+    /// After so many milliseconds; of none at once, before events that were not received yet.
     After(u32),
+    /// Never: the timer is stopped.
     Infinity,
 }

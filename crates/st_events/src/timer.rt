@@ -5,7 +5,10 @@
 /// Manual: `timeout_event_type()`. Names are numbers here.
 #[derive(Clone, Copy, Debug, PartialEq, Eq)]
 pub enum Timer {
+    /// That of the event: any event that is handled cancels it. Manual: `event_timeout()`.
     Event,
+    /// That of the state: a state change cancels it. Manual: `state_timeout()`.
     State,
+    /// One of this name: nothing but a request cancels it. Manual: `generic_timeout()`.
     Named(u32),
 }

@@ -50,7 +50,7 @@ impl<E> EventQueue<E> {
 
     /// Puts an event at the end, in memory of its own: the nodes that are ready stay ready.
     ///
-    /// Where there is no memory, it gives the event back.
+    /// Where there is no memory, it gives the event back, and the queue stays as it was.
     pub fn push_back(&mut self, event: E) -> Result<(), AllocFailed<E>>
         ensures pushed { OnOk result (self.new ≡ with_pushed self.old event) }
 
@@ -145,7 +145,8 @@ impl<E> EventQueue<E> {
 impl<E: Drop> EventQueue<E> {
     /// Makes the nodes that are lacking, so that `count` events can come in by calls that cannot fail.
     ///
-    /// Where so many are ready, it makes none and takes no memory.
+    /// Where so many are ready, it makes none and takes no memory. Where memory is wanted and there is
+    /// none, nothing changes.
     pub fn stage(&mut self, count: usize) -> Result<(), AllocError>
         ensures staged { OnOk result (self.new ≡ with_staged self.old (max self.old.staged count)) }
 

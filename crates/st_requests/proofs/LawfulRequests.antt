@@ -1,14 +1,14 @@
 -- What each call keeps: the requests are of one machine and below a number, each tag stands once, and where none
 -- is open, none is opened.
 use Rattle.std.proofs.Common.{◌≡◌, ℕ, ◌+◌, ◌<◌, ◌≤◌, Bool, true, false, not, ◌&&◌, ◌||◌, ◌==◌, if◌then◌else◌, List, [], ◌∷◌, ◌++◌, refl, ap, ◌∙◌, arith}
-use Rattle.std.specs.Prelude.{Option, Some, None}
+use Rattle.std.specs.Prelude.{None}
 use Rattle.std.specs.List.{filter}
 use Rattle.st_events.specs.declared.machine_id.MachineId.{MachineId}
 use Rattle.st_events.specs.declared.tag.Tag.{Tag}
 use Rattle.st_requests.specs.declared.held.Held.{Held}
 use Rattle.st_requests.specs.declared.held.Held.TheVariants.{Open, Reply, Stopped}
 use Rattle.st_requests.specs.declared.request.Request.{Request}
-use Rattle.st_requests.specs.Requests.{is_for, held_for, OneEach, is_waiting, is_some_waiting, is_open, answered, with_answer, with_answers, without_kept, closed, closed_by, AreOf, NoneOpen}
+use Rattle.st_requests.specs.Requests.{is_for, held_for, OneEach, is_waiting, answered, with_answer, with_answers, without_kept, closed, closed_by, AreOf, NoneOpen}
 use Rattle.st_requests.proofs.RequestLemmas.{answers, one_each_answer}
 
 -- ---- numbers and tests
@@ -128,12 +128,3 @@ module _ {C : Type 0} where
   none_open_kept [] tag none = tt
   none_open_kept (request ∷ others) tag none =
       none_open_fewer_by (not (is_for tag request) || is_waiting request.held) request (without_kept others tag) none.0 (none_open_kept others tag none.1)
-
-  not_open_by : (b : Bool) (held : Held C) (rest : Option (Held C)) → is_waiting held ≡ false → is_some_waiting rest ≡ false
-      → is_some_waiting (if b then Some held else rest) ≡ false
-  not_open_by true held rest shut none = shut
-  not_open_by false held rest shut none = none
-
-  pub not_open : (requests : List (Request C)) (tag : Tag) → NoneOpen requests → is_open requests tag ≡ false
-  not_open [] tag none = refl
-  not_open (request ∷ others) tag none = not_open_by (is_for tag request) request.held (held_for others tag) none.0 (not_open others tag none.1)

@@ -1,10 +1,12 @@
 -- The requests that are kept: where a tag's stands, and what each call makes of them.
-use Rattle.std.proofs.Common.{◌≡◌, ℕ, zero, suc, ◌+◌, ◌<◌, ◌≤◌, Bool, true, false, not, ◌&&◌, ◌||◌, ◌==◌, cond, if◌then◌else◌, List, [], ◌∷◌, ◌++◌, refl, sym, ap, subst, ◌∙◌, arith, length, take, drop, get_or, set, nat_lt}
-use Rattle.std.specs.Prelude.{Option, Some, None, ◌↔◌}
+use Rattle.std.proofs.Common.{◌≡◌, ℕ, zero, suc, ◌+◌, ◌<◌, ◌≤◌, Bool, true, false, not, ◌&&◌, ◌||◌, ◌==◌, cond, if◌then◌else◌, List, [], ◌∷◌, ◌++◌, refl, sym, ap, subst, ◌∙◌, arith, length, take, drop, get_or, set, nat_lt, eqb-true}
+use Rattle.std.specs.Prelude.{Option, Some, None}
 use Rattle.std.specs.List.{filter, slice_get, position, position_or_len, remove}
 use Rattle.std.specs.Option.{option_map}
-use Rattle.std.proofs.lemmas.Option.{slice_get_past, slice_get-get_or}
+use Rattle.std.proofs.lemmas.Option.{slice_get_past, slice_get-get_or, cond_some}
+use Rattle.std.proofs.lemmas.Bool.{and_parts}
 use Rattle.st_events.specs.declared.tag.Tag.{Tag}
+use Rattle.st_events.proofs.ComparedLemmas.{same_number, none_if, no_first}
 use Rattle.st_requests.specs.declared.collected.Collected.TheVariants as collected
 use Rattle.st_requests.specs.declared.held.Held.{Held}
 use Rattle.st_requests.specs.declared.held.Held.TheVariants.{Open, Reply, Stopped}
@@ -12,17 +14,6 @@ use Rattle.st_requests.specs.declared.request.Request.{Request}
 use Rattle.st_requests.specs.Requests.{same_tag, is_for, held_for, OneEach, is_waiting, is_some_waiting, is_open, answered, with_answer, collected_of, without_kept, without_request, closed, closed_by}
 
 -- ---- tags compared
-same_number : (n : ℕ) → (n == n) ≡ true
-same_number n = grind arith
-
-both : (a b : Bool) → (a && b) ≡ true → (a ≡ true) × (b ≡ true)
-both true true h = (refl, refl)
-both true false h = cc
-both false b h = cc
-
-numbers_same : (m n : ℕ) → (m == n) ≡ true → m ≡ n
-numbers_same m n h = grind (arith, h)
-
 pub same_tag_self : (tag : Tag) → same_tag tag tag ≡ true
 same_tag_self tag = rw (same_number tag.machine.slot, same_number tag.machine.serial, same_number tag.request) refl
 
@@ -31,11 +22,11 @@ tag_of slot serial request = record { machine = record { slot = slot; serial = s
 
 pub tags_same : (a b : Tag) → same_tag a b ≡ true → a ≡ b
 tags_same a b h =
-    let machines = both ((a.machine.slot == b.machine.slot) && (a.machine.serial == b.machine.serial)) (a.request == b.request) h in
-    let places = both (a.machine.slot == b.machine.slot) (a.machine.serial == b.machine.serial) machines.0 in
-    ap (λ (slot : ℕ). tag_of slot a.machine.serial a.request) (numbers_same a.machine.slot b.machine.slot places.0)
-    ∙ (ap (λ (serial : ℕ). tag_of b.machine.slot serial a.request) (numbers_same a.machine.serial b.machine.serial places.1)
-    ∙ ap (λ (request : ℕ). tag_of b.machine.slot b.machine.serial request) (numbers_same a.request b.request machines.1))
+    let machines = and_parts ((a.machine.slot == b.machine.slot) && (a.machine.serial == b.machine.serial)) (a.request == b.request) h in
+    let places = and_parts (a.machine.slot == b.machine.slot) (a.machine.serial == b.machine.serial) machines.0 in
+    ap (λ (slot : ℕ). tag_of slot a.machine.serial a.request) (eqb-true a.machine.slot b.machine.slot places.0)
+    ∙ (ap (λ (serial : ℕ). tag_of b.machine.slot serial a.request) (eqb-true a.machine.serial b.machine.serial places.1)
+    ∙ ap (λ (request : ℕ). tag_of b.machine.slot b.machine.serial request) (eqb-true a.request b.request machines.1))
 
 numbers_flip : (m n : ℕ) → (m == n) ≡ (n == m)
 numbers_flip m n = grind arith
@@ -44,25 +35,8 @@ pub same_tag_flips : (a b : Tag) → same_tag a b ≡ same_tag b a
 same_tag_flips a b =
     rw (numbers_flip a.machine.slot b.machine.slot, numbers_flip a.machine.serial b.machine.serial, numbers_flip a.request b.request) refl
 
--- tags are one where they are the same
-pub same_tag_is : (a b : Tag) → (a ≡ b) ↔ (same_tag a b ≡ true)
-same_tag_is a b = (λ same. rw (← same) (same_tag_self a), tags_same a b)
-
--- ---- an option that a test makes
-some_if : {X : Type 0} (b : Bool) (x y : X) → cond b (Some x) None ≡ Some y → (b ≡ true) × (x ≡ y)
-some_if true x y h = let same : x ≡ y = cc in (refl, same)
-some_if false x y h = cc
-
-none_if : {X : Type 0} (b : Bool) (x : X) → cond b (Some x) None ≡ None → b ≡ false
-none_if true x h = cc
-none_if false x h = refl
-
 module _ {C : Type 0} where
   -- ---- nothing is held for a tag
-  no_first : (b : Bool) (held : Held C) (rest : Option (Held C)) → (if b then Some held else rest) ≡ None → (b ≡ false) × (rest ≡ None)
-  no_first true held rest h = cc
-  no_first false held rest h = (refl, h)
-
   -- the first is not for it, and neither is one of the others
   not_first : (tag : Tag) (request : Request C) (others : List (Request C)) → held_for (request ∷ others) tag ≡ None
       → (is_for tag request ≡ false) × (held_for others tag ≡ None)
@@ -86,7 +60,7 @@ module _ {C : Type 0} where
   pub found_at : (tag : Tag) (requests : List (Request C)) (place : ℕ) (request : Request C) → position (is_for tag) requests ≡ Some place
       → request ≡ get_or requests place request → held_for requests tag ≡ Some request.held
   found_at tag requests place request at is =
-      let parts = some_if (nat_lt (position_or_len (is_for tag) requests) (length requests)) (position_or_len (is_for tag) requests) place at in
+      let parts = cond_some (nat_lt (position_or_len (is_for tag) requests) (length requests)) (position_or_len (is_for tag) requests) place at in
       let within : place < length requests = grind (arith, parts) in
       let got : slice_get requests place ≡ Some request = slice_get-get_or requests place request within ∙ ap Some (sym is) in
       found tag requests ∙ (rw (parts.1, got) refl)
@@ -155,7 +129,7 @@ module _ {C : Type 0} where
       → position (is_for tag) requests ≡ Some place → request ≡ get_or requests place request
       → set requests place (record request { held = answered content request.held }) ≡ with_answer requests tag content
   answered_at tag content requests place request each at is =
-      let parts = some_if (nat_lt (position_or_len (is_for tag) requests) (length requests)) (position_or_len (is_for tag) requests) place at in
+      let parts = cond_some (nat_lt (position_or_len (is_for tag) requests) (length requests)) (position_or_len (is_for tag) requests) place at in
       let there : set requests place (answers content (get_or requests place request)) ≡ with_answer requests tag content =
       rw (← parts.1) (answered_there tag content requests request each) in
       subst (λ (one : Request C). set requests place (answers content one) ≡ with_answer requests tag content) (sym is) there
@@ -239,7 +213,7 @@ module _ {C : Type 0} where
   pub removed_at : (tag : Tag) (requests : List (Request C)) (place : ℕ) → OneEach requests → position (is_for tag) requests ≡ Some place
       → is_open requests tag ≡ false → remove requests place ≡ without_kept requests tag
   removed_at tag requests place each at waits =
-      let parts = some_if (nat_lt (position_or_len (is_for tag) requests) (length requests)) (position_or_len (is_for tag) requests) place at in
+      let parts = cond_some (nat_lt (position_or_len (is_for tag) requests) (length requests)) (position_or_len (is_for tag) requests) place at in
       rw (← parts.1) (removed tag requests each waits)
 
   none_fewer_by : (b : Bool) (tag : Tag) (request : Request C) (rest : List (Request C)) → is_for tag request ≡ false → held_for rest tag ≡ None

@@ -2,14 +2,18 @@
 
 use st_events::Reason;
 
-/// What is collected for a tag: nothing yet, the reply, the reason for which the machine stopped before
-/// it replied, or nothing any more: no such request was opened, or it was collected.
+/// What is collected for a tag.
 ///
-/// Manual: `receive_response/1`, where a term stands for the last three.
+/// Manual: `receive_response/1`, `check_response/2`, where a term stands for each of the first three; the last is
+/// ours.
 #[derive(Debug, Drop)]
 pub enum Collected<C> {
+    /// The request is open: no reply has come.
     Waiting,
+    /// The reply.
     Reply(C),
+    /// No reply comes: the machine stopped before it replied, for this reason.
     Stopped(Reason),
+    /// There is nothing: no such request was opened, or it was collected.
     Gone,
 }

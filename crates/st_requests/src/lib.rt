@@ -1,4 +1,5 @@
 //! The requests to one machine that are open, and the replies that are kept until they are collected.
+//! It knows nothing of who asks, and of how a reply comes about.
 #![tactic(auto)]
 
 mod collected;
@@ -12,3 +13,4 @@ pub use collected::Collected;
 pub use held::Held;
 pub use request::Request;
 pub use requests::Requests;
+pub use st_events::{Reason, Replies, Tag};

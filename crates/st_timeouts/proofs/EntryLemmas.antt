@@ -5,23 +5,15 @@ use Rattle.std.specs.List.{filter, find, slice_get, position, position_or_len, r
 use Rattle.std.specs.Option.{option_map}
 use Rattle.std.proofs.lemmas.List.{map-append}
 use Rattle.std.proofs.lemmas.List.Sums.{sum_by-cons}
-use Rattle.std.proofs.lemmas.Option.{slice_get_past, slice_get-get_or}
+use Rattle.std.proofs.lemmas.Option.{slice_get_past, slice_get-get_or, cond_some}
 use Rattle.st_events.specs.declared.timer.Timer.{Timer}
 use Rattle.st_events.specs.Timers.{same_timer}
+use Rattle.st_events.proofs.ComparedLemmas.{same_timer_self, timers_same, same_timer_flips, none_if}
 use Rattle.st_timeouts.specs.declared.entry.Entry.{Entry}
 use Rattle.st_timeouts.specs.Running.{Running, is_zero, is_before, running_of, first_zero_of, OneEach, put_in_order, in_order}
 use Rattle.st_timeouts.specs.Timeouts.{Listed, Timeouts, all_of, name_of, shown, without_listed, content_of, runs, expiring, first_of, with_expired, with_first_expired, live}
 use Rattle.st_timeouts.specs.Entries.{running, listed_of, is_for, is_due, waits, waiting, is_before_any, IsSound}
-use Rattle.st_timeouts.proofs.OrderLemmas.{same_timer_self, timers_same, same_timer_flips, not_first, all_of_with_expired, one_each_set}
-
--- ---- an option that a test makes
-some_if : {X : Type 0} (b : Bool) (x y : X) → cond b (Some x) None ≡ Some y → (b ≡ true) × (x ≡ y)
-some_if true x y h = let same : x ≡ y = cc in (refl, same)
-some_if false x y h = cc
-
-none_if : {X : Type 0} (b : Bool) (x : X) → cond b (Some x) None ≡ None → b ≡ false
-none_if true x h = cc
-none_if false x h = refl
+use Rattle.st_timeouts.proofs.OrderLemmas.{not_first, all_of_with_expired, one_each_set}
 
 module _ {C : Type 0} where
   -- ---- where a timer's entry stands
@@ -42,7 +34,7 @@ module _ {C : Type 0} where
   pub found_at : (timer : Timer) (entries : List (Entry C)) (place : ℕ) (entry : Entry C) → position (is_for timer) entries ≡ Some place
       → entry ≡ get_or entries place entry → running_of timer (all_of (map listed_of entries)) ≡ Some (running entry)
   found_at timer entries place entry at is =
-      let parts = some_if (nat_lt (position_or_len (is_for timer) entries) (length entries)) (position_or_len (is_for timer) entries) place at in
+      let parts = cond_some (nat_lt (position_or_len (is_for timer) entries) (length entries)) (position_or_len (is_for timer) entries) place at in
       let within : place < length entries = grind (arith, parts) in
       let got : slice_get entries place ≡ Some entry = slice_get-get_or entries place entry within ∙ ap Some (sym is) in
       found timer entries ∙ (rw (parts.1, got) refl)
@@ -82,7 +74,7 @@ module _ {C : Type 0} where
   pub removed_at : (timer : Timer) (entries : List (Entry C)) (place : ℕ) → OneEach (all_of (map listed_of entries)) → position (is_for timer) entries ≡ Some place
       → map listed_of (remove entries place) ≡ without_listed timer (map listed_of entries)
   removed_at timer entries place each at =
-      let parts = some_if (nat_lt (position_or_len (is_for timer) entries) (length entries)) (position_or_len (is_for timer) entries) place at in
+      let parts = cond_some (nat_lt (position_or_len (is_for timer) entries) (length entries)) (position_or_len (is_for timer) entries) place at in
       rw (← parts.1) (removed timer entries each)
 
   -- ---- the expiry of an entry is handed out
@@ -127,10 +119,6 @@ module _ {C : Type 0} where
       → with_first_expired expiring old ≡ record old { listed = with_expired first.timer old.listed }
   first_expired [] old first h = cc
   first_expired (one ∷ others) old first h = let same : one ≡ first = cc in rw same refl
-
-  pub none_expired : (expiring : List (Running C)) (old : Timeouts C) → first_of expiring ≡ None → with_first_expired expiring old ≡ old
-  none_expired [] old h = refl
-  none_expired (one ∷ others) old h = cc
 
   -- ---- a timer's entry is set anew
   pub one_each_pushed : (entries fewer : List (Entry C)) (entry : Entry C) → OneEach (all_of (map listed_of entries))

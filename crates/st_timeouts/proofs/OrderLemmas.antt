@@ -1,54 +1,15 @@
 -- Running time-outs without a timer's, and in the order in which they are due.
-use Rattle.std.proofs.Common.{◌≡◌, ℕ, Bool, true, false, not, ◌&&◌, ◌==◌, if◌then◌else◌, List, [], ◌∷◌, ◌++◌, refl, sym, ap, ◌∙◌, arith}
+use Rattle.std.proofs.Common.{◌≡◌, ℕ, Bool, true, false, not, ◌&&◌, if◌then◌else◌, List, [], ◌∷◌, ◌++◌, refl, sym, ap, ◌∙◌}
 use Rattle.std.specs.List.{filter}
-use Rattle.std.specs.Prelude.{Option, Some, None, ◌↔◌}
+use Rattle.std.specs.Prelude.{None}
 use Rattle.st_events.specs.declared.timer.Timer.{Timer}
-use Rattle.st_events.specs.declared.timer.Timer.TheVariants as timer
 use Rattle.st_events.specs.Timers.{same_timer}
+use Rattle.st_events.proofs.ComparedLemmas.{same_timer_self, same_timer_flips, no_first}
 use Rattle.st_timeouts.specs.Running.{Running, is_due_by, is_before, runs_for, running_of, without_running, OneEach, put_in_order, in_order}
 use Rattle.st_timeouts.specs.Timeouts.{Listed, all_of, without_listed, with_expired, expiring}
 
-same_number : (n : ℕ) → (n == n) ≡ true
-same_number n = grind arith
-
--- ---- timers compared
-pub same_timer_self : (a : Timer) → same_timer a a ≡ true
-same_timer_self timer.Event = refl
-same_timer_self timer.State = refl
-same_timer_self (timer.Named name) = same_number name
-
-pub timers_same : (a b : Timer) → same_timer a b ≡ true → a ≡ b
-timers_same timer.Event timer.Event h = refl
-timers_same timer.Event timer.State h = cc
-timers_same timer.Event (timer.Named other) h = cc
-timers_same timer.State timer.Event h = cc
-timers_same timer.State timer.State h = refl
-timers_same timer.State (timer.Named other) h = cc
-timers_same (timer.Named name) timer.Event h = cc
-timers_same (timer.Named name) timer.State h = cc
-timers_same (timer.Named name) (timer.Named other) h = let same : name ≡ other = grind (arith, h) in ap timer.Named same
-
--- timers are one where they are the same
-pub same_timer_is : (a b : Timer) → (a ≡ b) ↔ (same_timer a b ≡ true)
-same_timer_is a b = (λ same. rw (← same) (same_timer_self a), timers_same a b)
-
-pub same_timer_flips : (a b : Timer) → same_timer a b ≡ same_timer b a
-same_timer_flips timer.Event timer.Event = refl
-same_timer_flips timer.Event timer.State = refl
-same_timer_flips timer.Event (timer.Named other) = refl
-same_timer_flips timer.State timer.Event = refl
-same_timer_flips timer.State timer.State = refl
-same_timer_flips timer.State (timer.Named other) = refl
-same_timer_flips (timer.Named name) timer.Event = refl
-same_timer_flips (timer.Named name) timer.State = refl
-same_timer_flips (timer.Named name) (timer.Named other) = grind arith
-
 -- ---- a timer that does not run
 module _ {C : Type 0} where
-  no_first : (b : Bool) (one : Running C) (rest : Option (Running C)) → (if b then Some one else rest) ≡ None → (b ≡ false) × (rest ≡ None)
-  no_first true one rest h = cc
-  no_first false one rest h = (refl, h)
-
   -- the first does not run for it, and neither does one of the others
   pub not_first : (timer : Timer) (one : Running C) (others : List (Running C)) → running_of timer (one ∷ others) ≡ None
       → (runs_for timer one ≡ false) × (running_of timer others ≡ None)
@@ -122,7 +83,7 @@ module _ {C : Type 0} where
       let other = same_timer_flips first.timer one.timer ∙ parts.0 in
       (none_more first.timer running one each.0 other, one_each_more running one each.1 parts.1)
 
-  all_of_more : (listed : List (Listed C)) (one : Listed C) → all_of (listed ++ one ∷ []) ≡ all_of listed ++ one.running ∷ []
+  pub all_of_more : (listed : List (Listed C)) (one : Listed C) → all_of (listed ++ one ∷ []) ≡ all_of listed ++ one.running ∷ []
   all_of_more [] one = refl
   all_of_more (first ∷ listed) one = ap (λ t. first.running ∷ t) (all_of_more listed one)
 
@@ -167,14 +128,14 @@ module _ {C : Type 0} where
   put_none_by true timer one other others put e f h k = rw (e, f) h
   put_none_by false timer one other others put e f h k = rw f k
 
-  put_none : (timer : Timer) (one : Running C) (others : List (Running C)) → runs_for timer one ≡ false → running_of timer others ≡ None
+  pub put_none : (timer : Timer) (one : Running C) (others : List (Running C)) → runs_for timer one ≡ false → running_of timer others ≡ None
       → running_of timer (put_in_order one others) ≡ None
   put_none timer one [] e h = rw e refl
   put_none timer one (other ∷ others) e h =
       let parts = not_first timer other others h in
       put_none_by (is_before one other) timer one other others (put_in_order one others) e parts.0 parts.1 (put_none timer one others e parts.1)
 
-  ordered_none : (timer : Timer) (running : List (Running C)) → running_of timer running ≡ None → running_of timer (in_order running) ≡ None
+  pub ordered_none : (timer : Timer) (running : List (Running C)) → running_of timer running ≡ None → running_of timer (in_order running) ≡ None
   ordered_none timer [] h = refl
   ordered_none timer (one ∷ running) h =
       let parts = not_first timer one running h in

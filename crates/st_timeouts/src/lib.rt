@@ -8,4 +8,5 @@ mod tests;
 mod timeouts;
 
 pub use due::Due;
+pub use st_events::{PlainList, Timer};
 pub use timeouts::Timeouts;

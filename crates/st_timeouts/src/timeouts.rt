@@ -54,7 +54,7 @@ impl<C> Timeouts<C> {
 
     /// Shows the first time-out that is due at once: its timer and its event's number.
     ///
-    /// Manual: `timeout_action()`, on a time of zero.
+    /// Manual: `event_timeout()`, `state_timeout()`, `generic_timeout()`, on a time of zero.
     pub fn first_zero(&self) -> Option<(Timer, u64)>
         ensures { result ≡ option_map name_of (first_zero_of (all_of self.now.listed)) }
     {
@@ -97,7 +97,7 @@ impl<C> Timeouts<C> {
 
     /// The content of the time-out of a timer whose event has this number, if it runs.
     ///
-    /// Manual: `timeout_event_type()`, on the content of the event.
+    /// Manual: `timeout_action()`, on the content of the event.
     pub fn content(&self, timer: Timer, number: u64) -> Option<&C>
         ensures { option_copied result ≡ option_map (λ one. one.content) (live timer number self.now.listed) }
     {
@@ -119,6 +119,7 @@ impl<C> Timeouts<C> {
     }
 
     /// The running time-outs in the order of their requests: timer, number of the event, and when it is due.
+    /// Where memory is wanted and there is none, nothing is listed.
     ///
     /// Manual: `timeout_action()`; ours: docs/TRANSITIONS.md, Time-outs.
     pub fn list(&self) -> Result<PlainList<(Timer, u64, Due)>, AllocError>
@@ -131,7 +132,7 @@ impl<C> Timeouts<C> {
 
 impl<C: Drop> Timeouts<C> {
     /// Makes room, so that `count` time-outs can be set that do not run. Where there is so much, it
-    /// takes no memory.
+    /// takes no memory. Where memory is wanted and there is none, nothing changes.
     ///
     /// Ours: docs/DECISIONS.md, Choices in the code.
     pub fn reserve(&mut self, count: usize) -> Result<(), AllocError>
@@ -147,8 +148,9 @@ impl<C: Drop> Timeouts<C> {
         Ok(())
     }
 
-    /// Sets a timer at a moment, for so many milliseconds: it is due then, or at once for none. It goes
-    /// last in the order of requests. The timer's old time-out runs no more, and its content comes back.
+    /// Sets a timer at a moment, for so many milliseconds: it is due that long after the moment, or at once
+    /// where there are none. It goes last in the order of requests. The timer's old time-out runs no more,
+    /// and its content comes back.
     ///
     /// Manual: `event_timeout()`, `state_timeout()`, `generic_timeout()`.
     pub fn set(&mut self, timer: Timer, time: u32, content: C, number: u64, now: u64) -> Option<C>
@@ -173,7 +175,7 @@ impl<C: Drop> Timeouts<C> {
 
     /// Stops a timer: its time-out runs no more, and its content comes back.
     ///
-    /// Manual: `timeout_action()`, on `infinity`.
+    /// Manual: `generic_timeout()`, `state_timeout()`, on `infinity`; `timeout_cancel_action()`.
     pub fn cancel(&mut self, timer: Timer) -> Option<C>
         ensures returned { result ≡ content_of timer self.old.listed }
         ensures cancelled { self.new ≡ with_cancelled self.old timer }

@@ -296,7 +296,7 @@ pub fn ended<S: Copy, C>(
     })))
 }
 
-/// What a turn answers that handles a call in a state, ends so, leads to a state, and answers requests.
+/// What a turn answers that handles a call in a state, finishes it, leads to a state, and answers requests.
 pub fn replying<S: Copy, C>(
     rt: &impl Abort,
     alloc: Global,

@@ -84,13 +84,13 @@ impl Module for Lamp {
         _kind: Kind,
         content: &Press,
         state: Light,
-        held: &Bulb,
+        data: &Bulb,
     ) -> Result<Outcome<Light, Bulb, Press>, AllocError> {
         let none = Actions::new(alloc);
         match (content, state) {
-            (Press::Switch, Light::Off) if held.left == 0 => Ok(Outcome::KeepStateAndData(none)),
-            (Press::Switch, Light::Off) => Ok(Outcome::NextState(Light::On, *held, none)),
-            (Press::Switch, Light::On) => Ok(Outcome::NextState(Light::Off, *held, none)),
+            (Press::Switch, Light::Off) if data.left == 0 => Ok(Outcome::KeepStateAndData(none)),
+            (Press::Switch, Light::Off) => Ok(Outcome::NextState(Light::On, *data, none)),
+            (Press::Switch, Light::On) => Ok(Outcome::NextState(Light::Off, *data, none)),
             (Press::Renew(bulb), _) => Ok(Outcome::KeepState(*bulb, none)),
         }
     }
@@ -104,13 +104,13 @@ impl Module for Lamp {
         alloc: Global,
         _old: Light,
         state: Light,
-        held: &Bulb,
+        data: &Bulb,
     ) -> Result<EnterOutcome<Bulb, Press>, AllocError> {
         let mut actions = EnterActions::new(alloc);
         match state {
             Light::Off => Ok(EnterOutcome::KeepStateAndData(actions)),
             Light::On => {
-                let left = held.left.saturating_sub(1);
+                let left = data.left.saturating_sub(1);
                 let off = EnterAction::Set(Timer::State, Time::After(10_000), Press::Switch);
                 actions.push(off)?;
                 Ok(EnterOutcome::KeepState(Bulb { left }, actions))
@@ -118,16 +118,16 @@ impl Module for Lamp {
         }
     }
 
-    fn terminate(&self, _reason: Reason, _state: Light, held: &Bulb) -> u32 {
-        u32::from(held.left)
+    fn terminate(&self, _reason: Reason, _state: Light, data: &Bulb) -> u32 {
+        u32::from(data.left)
     }
 
     fn copy_content(&self, _alloc: Global, content: &Press) -> Result<Press, AllocError> {
         Ok(*content)
     }
 
-    fn copy_data(&self, _alloc: Global, held: &Bulb) -> Result<Bulb, AllocError> {
-        Ok(*held)
+    fn copy_data(&self, _alloc: Global, data: &Bulb) -> Result<Bulb, AllocError> {
+        Ok(*data)
     }
 
     ghost states_exact = { Prim.search rules };

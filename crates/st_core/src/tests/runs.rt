@@ -1,11 +1,9 @@
 //! Events that come one after another: their kinds, numbers and moments.
 use super::answers::{finished, idle, not_posted, not_turned, posted};
 use super::compared::answers_are;
-use super::lamp::{Bulb, Lamp, Light, Press};
 use super::table_machine::{BEGIN, at_rest, cast, info};
 use super::tell_refusals;
-use super::tested::{Begin, Seen, Tested, Told};
-use crate::Entry;
+use super::tested::{Begin, Tested, Told};
 use st_events::{Kind, Refusal};
 
 #[test]

@@ -2,9 +2,9 @@
 use super::answers::{not_posted, same_answer};
 use super::lamp::{Bulb, Lamp, Press};
 use super::table::Table;
-use super::table_machine::cast;
+use super::table_machine::{at_rest, cast};
 use super::tell_refusals;
-use super::tested::{Begin, Tested, start};
+use super::tested::{Begin, Seen, Tested, start};
 use crate::{Due, Start};
 use st_events::{Module, Refusal, Time, Timer};
 
@@ -72,8 +72,15 @@ fn inserts_of_a_start_need_numbers(rt: HostRuntime) {
         set: &[],
     };
     let mut tested = Tested::new(&rt, rt.alloc(), &begin);
+    let seen = Seen {
+        is_ready: true,
+        waiting: 2,
+        ..at_rest(0, 7, 12)
+    };
+    assert_eq!(rt; tested.seen(), seen);
     let post = tested.tell(&rt, cast(6));
     same_answer(&rt, &post, &not_posted(Refusal::Exhausted, 6));
+    assert_eq!(rt; tested.seen(), seen);
     for (now, refusal) in [
         (12, Refusal::Exhausted),
         (9_223_372_036_854_775_808, Refusal::Moment),
@@ -123,6 +130,7 @@ fn time_outs_of_a_start_need_numbers(rt: HostRuntime) {
         ..begin
     };
     let tested = Tested::new(&rt, rt.alloc(), &begin);
+    assert_eq!(rt; tested.seen(), at_rest(0, 7, 12));
     assert_eq!(rt;
         tested.timers(&rt).as_slice(),
         [

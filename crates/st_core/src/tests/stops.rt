@@ -1,14 +1,10 @@
 //! Machines that end.
-use super::answers::{
-    ended, finished, not_posted, not_stopped, not_turned, posted, put_off, stopped,
-};
+use super::answers::{ended, not_posted, not_stopped, not_turned, posted, put_off, stopped};
 use super::compared::answers_are;
-use super::lamp::{Bulb, Lamp, Light, Press};
 use super::table_machine::{BEGIN, at_end, cast};
 use super::tell_refusals;
-use super::tested::{Begin, Seen, Told};
-use crate::Entry;
-use st_events::{Kind, Refusal};
+use super::tested::{Begin, Told};
+use st_events::Refusal;
 use std::alloc::Global;
 use std::process::Abort;
 

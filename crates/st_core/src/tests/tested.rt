@@ -252,13 +252,14 @@ where
         let timers = self.timers(rt);
         match self.core.run(commands(rt, alloc, told)) {
             Ok(answers) => answers,
-            Err(back) => {
+            Err(refused) => {
                 self.is_as_before(rt, &before, &kept, timers.as_slice());
-                assert_eq!(rt; back.len(), told.len());
-                for (command, one) in back.iter().zip(told.iter()) {
+                assert_eq!(rt; refused.refusal, Refusal::NoMemory);
+                assert_eq!(rt; refused.value.len(), told.len());
+                for (command, one) in refused.value.iter().zip(told.iter()) {
                     assert!(rt; is_command(command, *one));
                 }
-                match self.core.run(back) {
+                match self.core.run(refused.value) {
                     Ok(answers) => answers,
                     Err(_) => panic!(rt; "one allocation alone is refused"),
                 }

@@ -1,6 +1,6 @@
 //! The door's callbacks, called as a machine calls them, row by row.
 
-use super::calls::digits;
+use super::digits::digits;
 use super::tell_refusals;
 use crate::{Door, DoorContent, DoorData, DoorState};
 use st_events::{

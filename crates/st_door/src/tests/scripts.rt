@@ -4,12 +4,6 @@ use super::streams::prints;
 use super::tell_refusals;
 
 #[test]
-fn an_empty_script_prints_nothing(rt: HostRuntime) {
-    prints(&rt, rt.alloc(), b"", "", 0);
-    tell_refusals(rt);
-}
-
-#[test]
 fn only_the_last_digit_opens_the_door(rt: HostRuntime) {
     prints(
         &rt,

@@ -13,6 +13,13 @@ pub struct Worked {
     pub status: u8,
 }
 
+/// No line at all.
+const EMPTY: Worked = Worked {
+    script: b"",
+    output: "",
+    status: 0,
+};
+
 /// A code opens a door.
 const OPENING: Worked = Worked {
     script: b"new front 12\nbutton front 1\nbutton front 2\n",
@@ -263,6 +270,7 @@ const REFUSALS: Worked = Worked {
 
 /// All of them.
 pub const ALL: &[Worked] = &[
+    EMPTY,
     OPENING,
     LAST_BUTTONS,
     FAULTS,
@@ -283,6 +291,12 @@ pub const ALL: &[Worked] = &[
 /// Sees that a script prints what it is to print.
 fn prints_its_output(rt: &impl Abort, alloc: Global, worked: Worked) {
     prints(rt, alloc, worked.script, worked.output, worked.status);
+}
+
+#[test]
+fn an_empty_script_prints_nothing(rt: HostRuntime) {
+    prints_its_output(&rt, rt.alloc(), EMPTY);
+    tell_refusals(rt);
 }
 
 #[test]

@@ -7,5 +7,5 @@ use Rattle.st_core.proofs.planning.plan_both.Goals as goal
 pub returns : goal.returns
 returns g c actions same =
     ok_same c.join_plans.result
-    (joined_is c.args.first c.in-Ok.second actions (as_actions c.args.later) same c.in-Ok.ensures.planned (joined_plans actions c.args.later))
+    (joined_is c.args.first c.in_ok-second.second actions (as_actions c.args.later) same c.in_ok-second.ensures.planned (joined_plans actions c.args.later))
     c.join_plans.ensures

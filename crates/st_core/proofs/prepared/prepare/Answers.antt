@@ -17,4 +17,4 @@ returns-clause-numbers g c =
 
 pub returns-clause-inserted : goal.returns-clause-inserted
 returns-clause-inserted g c =
-    rw (numbers-numbered c.args.agenda.now.schedule.next c.args.planned.now.inserts, ← c.len-inserts.ensures.length, ← c.next-2.ensures.next) c.in-Ok-numbers_from.ensures
+    rw (numbers-numbered c.args.agenda.now.schedule.next c.args.planned.now.inserts, ← c.len-inserts.ensures.length, ← c.next-2.ensures.next) c.in_ok-inserted.ensures

@@ -36,7 +36,7 @@ returns-in_default-enter g c = record {
   start = λ called called_is.
       let callbacks = callbacks_of g.M.Module g.M.State.PartialEq.eq c.args.module in
       let machine = first_state c.args.id called.state called.data c.args.now c.args.first in
-      inr (begun_takes_memory _ callbacks c.args.module machine called called.reason, rw c.refused-in_default-enter.ensures refl);
+      inr (begun_takes_memory _ callbacks c.args.module machine called called.reason, rw c.new-in_default-enter.ensures refl);
 }
 
 pub returns-in_default-plan_entered : goal.returns-in_default-plan_entered
@@ -44,7 +44,7 @@ returns-in_default-plan_entered g c = record {
   start = λ called called_is.
       let callbacks = callbacks_of g.M.Module g.M.State.PartialEq.eq c.args.module in
       let machine = first_state c.args.id called.state called.data c.args.now c.args.first in
-      inr (begun_takes_memory _ callbacks c.args.module machine called called.reason, rw c.refused-in_default-plan_entered.ensures refl);
+      inr (begun_takes_memory _ callbacks c.args.module machine called called.reason, rw c.new-in_default-plan_entered.ensures refl);
 }
 
 pub returns-in_default-one_call : goal.returns-in_default-one_call
@@ -52,7 +52,7 @@ returns-in_default-one_call g c = record {
   start = λ called called_is.
       let callbacks = callbacks_of g.M.Module g.M.State.PartialEq.eq c.args.module in
       let machine = first_state c.args.id called.state called.data c.args.now c.args.first in
-      inr (begun_takes_memory _ callbacks c.args.module machine called called.reason, rw c.refused-in_default-one_call.ensures refl);
+      inr (begun_takes_memory _ callbacks c.args.module machine called called.reason, rw c.new-in_default-one_call.ensures refl);
 }
 
 -- the machine runs

@@ -4,5 +4,5 @@ use Rattle.st_core.proofs.engine.Core.end_at.Goals as goal
 -- it can come about
 pub invariant_of-core : goal.invariant_of-core
 invariant_of-core g c =
-    rw (c.new.ensures, c.new-2.ensures)
+    rw (c.new-2.ensures, c.new-3.ensures)
     (ended_keeps c.args.id c.args.now c.args.first c.args.reason c.terminate-word.result c.requires.moment c.requires.greatest)

@@ -43,7 +43,7 @@ returns-in-Err-clause-step g c =
     let free : machine.schedule.next < 2 ^ 63 = rw (← c.self.view_is) early in
     inr (
       post_wants_memory machine c.args.entry c.args.content running free,
-      rw (c.refused-in-Err.ensures, c.in-Err.ensures.value_returned) refl,
+      rw (c.new-in-Err.ensures, c.in-Err.ensures.value_returned) refl,
       rw (c.in-Err.ensures.unchanged, back, ← c.self.view_is) refl,
     )
 

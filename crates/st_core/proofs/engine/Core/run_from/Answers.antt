@@ -23,8 +23,8 @@ returns g c =
           rw (next, planned) at c.in-Ok.ensures.inserted in
           let set : c.in-Ok.prepared.set ≡ times_of (requests_of called.actions) = rw planned at c.in-Ok.ensures.set in
           started_is _ c.args.module machine called enough
-          (rw (c.set_all.ensures, c.insert.ensures, c.prepare.ensures.same_schedule, c.new-agenda.ensures, c.new.ensures, planned) refl)
-          (rw (c.new-2.ensures, inserted, set, same_calls) refl);
+          (rw (c.set_all.ensures, c.insert.ensures, c.prepare.ensures.same_schedule, c.new-agenda.ensures, c.new-2.ensures, planned) refl)
+          (rw (c.new-3.ensures, inserted, set, same_calls) refl);
     }
 
 -- numbers or memory are wanting
@@ -35,7 +35,7 @@ returns-in-Err g c =
           let machine = first_state c.args.id c.args.state c.args.data c.args.now c.args.first in
           let next : c.new-agenda.result.schedule.next ≡ c.args.first = ap (λ (a : Agenda _). a.schedule.next) c.new-agenda.ensures in
           started_refused _ c.args.module machine called c.in-Err.refusal (rw (next, sym same_plan) at c.in-Err.ensures.refusals)
-          (rw c.refused.ensures refl);
+          (rw c.new.ensures refl);
     }
 
 pub insert-requires : goal.insert-requires
@@ -68,5 +68,5 @@ invariant_of-core g c =
     let planned = c.args.planned in
     let next : c.new-agenda.result.schedule.next ≡ c.args.first = ap (λ (a : Agenda _). a.schedule.next) c.new-agenda.ensures in
     let enough = enough_for_all c.args.first (length planned.inserts) (numbers_taken planned.requests) (rw next at c.in-Ok.ensures.numbers) in
-    rw (c.set_all.ensures, c.insert.ensures, c.prepare.ensures.same_schedule, c.new-agenda.ensures, c.new.ensures)
+    rw (c.set_all.ensures, c.insert.ensures, c.prepare.ensures.same_schedule, c.new-agenda.ensures, c.new-2.ensures)
     (begun_keeps c.args.id c.args.now c.args.first planned.inserts planned.requests c.requires.moment enough)

@@ -72,7 +72,7 @@ returns-then-is_entered-clause-step g c =
     let content : option_map (λ (e : Event _). e.content) next ≡ Some c.in-Some-next_content.content.now =
     rw (← c.self.view_is) (sym c.next_content.ensures ∙ rw c.in-Some-next_content.is refl) in
     let there = event_is next (c.in-Some-next_event.number, c.in-Some-next_event.kind) c.in-Some-next_content.content.now named content in
-    let answered : c.in-Ok.outcome ≡ outcome_of callbacks machine event = rw (c.in-Ok.ensures, ← c.self.view_is) refl in
+    let answered : c.in_ok-outcome.outcome ≡ outcome_of callbacks machine event = rw (c.in_ok-outcome.ensures, ← c.self.view_is) refl in
     let call : is_entered callbacks machine.state (outcome_of callbacks machine event) ≡ true =
     rw (← answered) (rw (← c.self.view_is) (sym c.is_entered.ensures ∙ c.if-is_entered.true)) in
     meets_same turn_takes_memory turn_without_memory _ _ _ (turn_enters callbacks machine c.args.now event ended early there call)
@@ -92,7 +92,7 @@ returns-else-is_entered-clause-step g c =
     let content : option_map (λ (e : Event _). e.content) next ≡ Some c.in-Some-next_content.content.now =
     rw (← c.self.view_is) (sym c.next_content.ensures ∙ rw c.in-Some-next_content.is refl) in
     let there = event_is next (c.in-Some-next_event.number, c.in-Some-next_event.kind) c.in-Some-next_content.content.now named content in
-    let answered : c.in-Ok.outcome ≡ outcome_of callbacks machine event = rw (c.in-Ok.ensures, ← c.self.view_is) refl in
+    let answered : c.in_ok-outcome.outcome ≡ outcome_of callbacks machine event = rw (c.in_ok-outcome.ensures, ← c.self.view_is) refl in
     let none : is_entered callbacks machine.state (outcome_of callbacks machine event) ≡ false =
     rw (← answered) (rw (← c.self.view_is) (sym c.is_entered.ensures ∙ c.if-is_entered.false)) in
     meets_same turn_takes_memory turn_without_memory _ _ _ (turn_concludes callbacks machine c.args.now event ended early there none)
