@@ -10,6 +10,7 @@ use st_events::{Inserts, Replies, Settings};
 pub struct Planned<C> {
     /// In the order in which they are sent.
     pub replies: Replies<C>,
+    /// Whether the event is postponed.
     pub postpone: bool,
     /// In the order in which they are handled.
     pub inserts: Inserts<C>,

@@ -4,7 +4,7 @@ ghost use Rattle.std.proofs.Common.{rules};
 ghost use Rattle.st_door.specs.Door.{init_of, handle_of, enters, enter_of, terminate_of, cast_of, timeout_of, call_of, pressed, with_button, without_buttons, buttons_run_out, locks_again};
 
 use crate::{Digits, DoorContent, DoorData, DoorState};
-use st_events::{
+use st_core::{
     Action, Actions, EnterAction, EnterActions, EnterOutcome, Init, Kind, Module, Outcome, Reason,
     Tag, Time, Timer,
 };

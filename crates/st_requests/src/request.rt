@@ -10,7 +10,9 @@ use st_events::{Reason, Tag};
 /// Manual: `from()`.
 #[derive(Debug, Drop)]
 pub struct Request<C> {
+    /// Its name.
     pub tag: Tag,
+    /// What stands for it.
     pub held: Held<C>,
 }
 
