@@ -8,15 +8,15 @@ use Rattle.st_actions.proofs.PlanLemmas.{goes_over}
 
 module _ {X : Type 0} where
   -- there is room for the second list behind the first
-  pub room_behind : (begun between : Building X) (moved : List X) (first second : ℕ) → begun ≡ record { items = []; room = max 4 (first + second) }
-      → length moved ≤ first → between ≡ with_elements begun moved → second ≤ between.room
+  pub room_behind : (begun between : Building X) (moved : List X) (first second : ℕ) → begun ≡ record { items = []; reserved = max 4 (first + second) }
+      → length moved ≤ first → between ≡ with_elements begun moved → second ≤ between.reserved
   room_behind begun between moved first second got few same =
-      omega (arith, few, ap (λ b. b.room) got, ap (λ b. b.room) same)
+      omega (arith, few, ap (λ b. b.reserved) got, ap (λ b. b.reserved) same)
 
   -- the first list stands before the second
-  pub both_moved : (begun between ended : Building X) (first second result : List X) (room : ℕ) → begun ≡ record { items = []; room = room }
+  pub both_moved : (begun between ended : Building X) (first second result : List X) (reserved : ℕ) → begun ≡ record { items = []; reserved = reserved }
       → between ≡ with_elements begun first → ended ≡ with_elements between second → result ≡ ended.items → result ≡ first ++ second
-  both_moved begun between ended first second result room got one two same =
+  both_moved begun between ended first second result reserved got one two same =
       same ∙ (ap (λ b. b.items) two ∙ ap (λ items. items ++ second) (ap (λ b. b.items) one ∙ ap (λ (b : Building X). b.items ++ first) got))
 
 module _ {C : Type 0} where

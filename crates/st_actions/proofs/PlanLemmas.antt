@@ -19,7 +19,7 @@ use Rattle.st_events.specs.declared.timer.Timer.{Timer}
 use Rattle.st_events.specs.Timers.{same_timer}
 use Rattle.st_events.proofs.ComparedLemmas.{timers_same}
 use Rattle.st_actions.specs.declared.planned.Planned.{Planned}
-use Rattle.st_actions.specs.Plan.{replies_of, inserts_of, postpone_or, postpone_of, is_set, sets, requests_of, plan_of}
+use Rattle.st_actions.specs.Plan.{replies_of, inserts_of, postpone_or, postpone_of, is_set, sets, settings_of, plan_of}
 use Rattle.st_actions.specs.Joined.{as_action, as_actions, enter_plan_of, requested, remaining_of, joined_of}
 
 -- what was last is the first in the other order
@@ -82,13 +82,13 @@ module _ {C : Type 0} (timer : Timer) (time : Time) (content : C) where
   -- a request goes over, since no later action sets its timer
   pub request_over : (old new : List (Setting C)) (actions : List (Action C)) (all : List (Setting C)) → sets timer actions ≡ false
       → new ≡ old ++ record { timer = timer; time = time; content = content } ∷ []
-      → old ++ requests_of (Set timer time content ∷ actions) ≡ all → new ++ requests_of actions ≡ all
+      → old ++ settings_of (Set timer time content ∷ actions) ≡ all → new ++ settings_of actions ≡ all
   request_over old new actions all none same whole =
-      goes_over old new (requests_of actions) all (record { timer = timer; time = time; content = content }) same (rw none at whole)
+      goes_over old new (settings_of actions) all (record { timer = timer; time = time; content = content }) same (rw none at whole)
 
   -- a later action sets its timer
   pub request_later : (old : List (Setting C)) (actions : List (Action C)) (all : List (Setting C)) → sets timer actions ≡ true
-      → old ++ requests_of (Set timer time content ∷ actions) ≡ all → old ++ requests_of actions ≡ all
+      → old ++ settings_of (Set timer time content ∷ actions) ≡ all → old ++ settings_of actions ≡ all
   request_later old actions all later whole = rw later at whole
 
 abbrev planned_as : {C : Type 0} → List (Tag × C) → Bool → List (Insert C) → List (Setting C) → Planned C
@@ -96,7 +96,7 @@ planned_as replies postpone inserts requests =
     record { replies = replies; postpone = postpone; inserts = inserts; requests = requests }
 
 pub planned_whole : {C : Type 0} (actions : List (Action C)) (replies : List (Tag × C)) (postpone : Bool) (inserts : List (Insert C)) (requests : List (Setting C))
-    → replies ≡ replies_of actions → postpone ≡ postpone_of actions → inserts ≡ inserts_of actions → requests ≡ requests_of actions
+    → replies ≡ replies_of actions → postpone ≡ postpone_of actions → inserts ≡ inserts_of actions → requests ≡ settings_of actions
     → planned_as replies postpone inserts requests ≡ plan_of actions
 planned_whole actions replies postpone inserts requests same_replies same_postpone same_inserts same_requests =
     rw (same_replies, same_postpone, same_inserts, same_requests) refl
@@ -118,7 +118,7 @@ module _ {C : Type 0} where
   enter_inserts_nothing (enter.Hibernate ∷ actions) = enter_inserts_nothing actions
 
   pub enter_planned_whole : (actions : List (EnterAction C)) (replies : List (Tag × C)) (inserts : List (Insert C)) (requests : List (Setting C))
-      → replies ≡ replies_of (as_actions actions) → inserts ≡ [] → requests ≡ requests_of (as_actions actions)
+      → replies ≡ replies_of (as_actions actions) → inserts ≡ [] → requests ≡ settings_of (as_actions actions)
       → planned_as replies false inserts requests ≡ enter_plan_of actions
   enter_planned_whole actions replies inserts requests same_replies none same_requests =
       planned_whole (as_actions actions) replies false inserts requests same_replies (sym (enter_postpones_nothing false actions))
@@ -166,22 +166,22 @@ module _ {C : Type 0} where
   -- a request of a timer stands where one of the actions sets it
   requested_once : (timer other : Timer) (time : Time) (content : C) (actions : List (Action C)) (later same : Bool)
       → sets other actions ≡ later → same_timer timer other ≡ same
-      → requested timer (requests_of actions) ≡ sets timer actions
-      → requested timer (if later then requests_of actions else record { timer = other; time = time; content = content } ∷ requests_of actions)
+      → requested timer (settings_of actions) ≡ sets timer actions
+      → requested timer (if later then settings_of actions else record { timer = other; time = time; content = content } ∷ settings_of actions)
       ≡ (same || sets timer actions)
   requested_once timer other time content actions true true later same known =
       known ∙ (ap (λ (t : Timer). sets t actions) (timers_same timer other same) ∙ later)
   requested_once timer other time content actions true false later same known = known
   requested_once timer other time content actions false same_bool later same known = rw (same, known) refl
 
-  requested-requests_of : (timer : Timer) (actions : List (Action C)) → requested timer (requests_of actions) ≡ sets timer actions
-  requested-requests_of timer [] = refl
-  requested-requests_of timer (Reply tag content ∷ actions) = requested-requests_of timer actions
-  requested-requests_of timer (Postpone last ∷ actions) = requested-requests_of timer actions
-  requested-requests_of timer (NextEvent kind content ∷ actions) = requested-requests_of timer actions
-  requested-requests_of timer (Set other time content ∷ actions) =
-      requested_once timer other time content actions (sets other actions) (same_timer timer other) refl refl (requested-requests_of timer actions)
-  requested-requests_of timer (Hibernate ∷ actions) = requested-requests_of timer actions
+  requested-settings_of : (timer : Timer) (actions : List (Action C)) → requested timer (settings_of actions) ≡ sets timer actions
+  requested-settings_of timer [] = refl
+  requested-settings_of timer (Reply tag content ∷ actions) = requested-settings_of timer actions
+  requested-settings_of timer (Postpone last ∷ actions) = requested-settings_of timer actions
+  requested-settings_of timer (NextEvent kind content ∷ actions) = requested-settings_of timer actions
+  requested-settings_of timer (Set other time content ∷ actions) =
+      requested_once timer other time content actions (sets other actions) (same_timer timer other) refl refl (requested-settings_of timer actions)
+  requested-settings_of timer (Hibernate ∷ actions) = requested-settings_of timer actions
 
   -- a request more in front of both
   request_first : (request : Setting C) (rest later whole : List (Setting C)) (in_rest in_later : Bool)
@@ -193,15 +193,15 @@ module _ {C : Type 0} where
   request_first request rest later whole false true asked same = rw asked same
   request_first request rest later whole false false asked same = rw asked (ap (λ (requests : List (Setting C)). request ∷ requests) same)
 
-  requests-append : (first second : List (Action C)) → requests_of (first ++ second) ≡ remaining_of (requests_of first) (requests_of second) ++ requests_of second
+  requests-append : (first second : List (Action C)) → settings_of (first ++ second) ≡ remaining_of (settings_of first) (settings_of second) ++ settings_of second
   requests-append [] second = refl
   requests-append (Reply tag content ∷ first) second = requests-append first second
   requests-append (Postpone last ∷ first) second = requests-append first second
   requests-append (NextEvent kind content ∷ first) second = requests-append first second
   requests-append (Set timer time content ∷ first) second =
       let either = list_any-append (λ (action : Action C). is_set timer action) first second in
-      rw either (request_first (record { timer = timer; time = time; content = content }) (requests_of first) (requests_of second) (requests_of (first ++ second))
-      (sets timer first) (sets timer second) (requested-requests_of timer second) (requests-append first second))
+      rw either (request_first (record { timer = timer; time = time; content = content }) (settings_of first) (settings_of second) (settings_of (first ++ second))
+      (sets timer first) (sets timer second) (requested-settings_of timer second) (requests-append first second))
   requests-append (Hibernate ∷ first) second = requests-append first second
 
   -- what an event's actions ask for, joined with what the enter call's ask for, is what both lists ask for
@@ -210,7 +210,7 @@ module _ {C : Type 0} where
   joined_plans actions enter_actions =
       let later = as_actions enter_actions in
       planned_whole (actions ++ later) (replies_of actions ++ replies_of later) (postpone_of actions) (inserts_of actions ++ inserts_of later)
-      (remaining_of (requests_of actions) (requests_of later) ++ requests_of later)
+      (remaining_of (settings_of actions) (settings_of later) ++ settings_of later)
       (sym (replies-append actions later))
       (sym (postpone-append false actions later ∙ enter_postpones_nothing (postpone_of actions) enter_actions))
       (sym (inserts-append actions later))

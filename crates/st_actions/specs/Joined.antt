@@ -61,4 +61,4 @@ AreShort first second =
 -- a list in the making with more elements at its end, and room for so many fewer
 abbrev pub with_elements : {T : Type 0} → Building T → List T → Building T
 with_elements old elements =
-    record { items = old.items ++ elements; room = old.room - length elements }
+    record { items = old.items ++ elements; reserved = old.reserved - length elements }

@@ -52,16 +52,16 @@ abbrev pub sets : {C : Type 0} → Timer → List (Action C) → Bool
 sets {C} timer actions = list_any (λ (action : Action C). is_set timer action) actions
 
 -- the timers to be set: of each its last request, in the order of these
-abbrev pub requests_of : {C : Type 0} → List (Action C) → List (Setting C)
-requests_of [] = []
-requests_of (Reply tag content ∷ actions) = requests_of actions
-requests_of (Postpone last ∷ actions) = requests_of actions
-requests_of (NextEvent kind content ∷ actions) = requests_of actions
-requests_of (Set timer time content ∷ actions) =
+abbrev pub settings_of : {C : Type 0} → List (Action C) → List (Setting C)
+settings_of [] = []
+settings_of (Reply tag content ∷ actions) = settings_of actions
+settings_of (Postpone last ∷ actions) = settings_of actions
+settings_of (NextEvent kind content ∷ actions) = settings_of actions
+settings_of (Set timer time content ∷ actions) =
     if sets timer actions
-    then requests_of actions
-    else record { timer = timer; time = time; content = content } ∷ requests_of actions
-requests_of (Hibernate ∷ actions) = requests_of actions
+    then settings_of actions
+    else record { timer = timer; time = time; content = content } ∷ settings_of actions
+settings_of (Hibernate ∷ actions) = settings_of actions
 
 -- all that the actions ask for
 abbrev pub plan_of : {C : Type 0} → List (Action C) → Planned C
@@ -69,5 +69,5 @@ plan_of actions = record {
   replies = replies_of actions;
   postpone = postpone_of actions;
   inserts = inserts_of actions;
-  requests = requests_of actions;
+  requests = settings_of actions;
 }

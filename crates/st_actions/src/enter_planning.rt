@@ -27,10 +27,10 @@ pub fn plan_enter<C: Drop>(
     ensures value_returned { IfErr result (λ failed. failed.value ≡ actions) }
 {
     let count = actions.len();
-    let Ok(mut replies) = SmallListBuilder::with_room(alloc, count) else {
+    let Ok(mut replies) = SmallListBuilder::with_reserved(alloc, count) else {
         return Err(AllocFailed { value: actions });
     };
-    let Ok(mut requests) = SmallListBuilder::with_room(alloc, count) else {
+    let Ok(mut requests) = SmallListBuilder::with_reserved(alloc, count) else {
         return Err(AllocFailed { value: actions });
     };
     actions.reverse();

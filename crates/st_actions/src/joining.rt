@@ -68,20 +68,20 @@ fn room_for<T: Drop>(
     first: &SmallList<T>,
     second: &SmallList<T>,
 ) -> Result<SmallListBuilder<T>, AllocError>
-    ensures room { IfOk result (λ builder. builder ≡ record { items = []; room = max 4 (length first.now + length second.now) }) }
+    ensures reserved { IfOk result (λ builder. builder ≡ record { items = []; reserved = max 4 (length first.now + length second.now) }) }
 
     ensures inline { length first.now + length second.now ≤ 4 → IsOk result }
 {
     let Some(count) = first.len().checked_add(second.len()) else {
         return Err(AllocError);
     };
-    SmallListBuilder::with_room(alloc, count)
+    SmallListBuilder::with_reserved(alloc, count)
 }
 
 /// Moves a list's elements to the end of a list in the making, in their order.
 fn move_all<T: Drop>(mut elements: SmallList<T>, onto: &mut SmallListBuilder<T>)
     requires fits { FitsInMemory (list_row T.row) }
-    requires room { length elements ≤ onto.old.room }
+    requires reserved { length elements ≤ onto.old.reserved }
     ensures moved { onto.new ≡ with_elements onto.old elements }
 {
     elements.reverse();
@@ -97,7 +97,7 @@ fn move_remaining<C: Drop>(
     onto: &mut SmallListBuilder<Setting<C>>,
 )
     requires settings_fit { SettingsFit C.row }
-    requires room { length requests ≤ onto.old.room }
+    requires reserved { length requests ≤ onto.old.reserved }
     ensures moved { onto.new ≡ with_elements onto.old (remaining_of requests later.now) }
 {
     requests.reverse();

@@ -314,35 +314,35 @@ module _ {C : Type 0} where
 -- ---- queue and time-outs agree
 module _ {C : Type 0} (old after : Waiting C) (listed : List (Listed C)) (expiries : ℕ) (a : Agrees old listed expiries) (o : IsOrdered after) where
   -- a posted event came
-  pub agrees_pushed : (event : Event C) → after.items ≡ old.items ++ Unseen (slot.Event event) ∷ [] → old.next ≤ after.next → event.number ≡ old.next
+  pub agrees_pushed : (event : Event C) → after.items ≡ old.items ++ Unseen (slot.Event event) ∷ [] → old.next_number ≤ after.next_number → event.number ≡ old.next_number
       → Agrees after listed expiries
   agrees_pushed event same more number_is = record {
     ordered = o;
     events = rw same (events_behind old.items (slot.Event event) a.events);
     one_each = a.one_each;
     distinct = a.distinct;
-    below = below_more old.next after.next (timeout_numbers listed) more a.below;
+    below = below_more old.next_number after.next_number (timeout_numbers listed) more a.below;
     marked = rw same (marked_after listed old.items _
-        (λ number h k. let less = below_member old.next number (timeout_numbers listed) a.below h in
+        (λ number h k. let less = below_member old.next_number number (timeout_numbers listed) a.below h in
         has_behind number old.items (slot.Event event) k (let other : (event.number == number) ≡ false = grind (arith, less, number_is) in other))
         (λ timer number h k. expiry_before timer number old.items _ k) a.marked);
     counted = rw same (a.counted ∙ (let zero : expiries_in old.items ≡ expiries_in old.items + 0 = omega arith in zero) ∙ sym (counted_behind old.items (slot.Event event)));
   }
 
   -- nothing came or left
-  pub agrees_kept : after.items ≡ old.items → old.next ≤ after.next → Agrees after listed expiries
+  pub agrees_kept : after.items ≡ old.items → old.next_number ≤ after.next_number → Agrees after listed expiries
   agrees_kept same more = record {
     ordered = o;
     events = rw same a.events;
     one_each = a.one_each;
     distinct = a.distinct;
-    below = below_more old.next after.next (timeout_numbers listed) more a.below;
+    below = below_more old.next_number after.next_number (timeout_numbers listed) more a.below;
     marked = rw same a.marked;
     counted = rw same a.counted;
   }
 
   -- an expiry left whose time-out runs no more
-  pub agrees_dropped : (timer : Timer) (number left : ℕ) → after.items ≡ without_slot number (with_unseen_seen old.items) → old.next ≤ after.next
+  pub agrees_dropped : (timer : Timer) (number left : ℕ) → after.items ≡ without_slot number (with_unseen_seen old.items) → old.next_number ≤ after.next_number
       → first_unseen old.items ≡ Some (slot.Expiry timer number) → is_some (live timer number listed) ≡ false → left + 1 ≡ expiries → Agrees after listed left
   agrees_dropped timer number left same more u l c =
       let free = dead_free listed timer number old.items a.one_each a.marked a.ordered.distinct u l in
@@ -351,7 +351,7 @@ module _ {C : Type 0} (old after : Waiting C) (listed : List (Listed C)) (expiri
         events = rw same (events_dropped timer number old.items a.ordered.distinct a.events u);
         one_each = a.one_each;
         distinct = a.distinct;
-        below = below_more old.next after.next (timeout_numbers listed) more a.below;
+        below = below_more old.next_number after.next_number (timeout_numbers listed) more a.below;
         marked = rw same (marked_after listed old.items _
             (λ other h k. has_without other number (with_unseen_seen old.items) (rw (numbers_seen old.items) k))
             (λ second other h k. expiry_kept second other number (with_unseen_seen old.items) (differ_from number other (timeout_numbers listed) h free)
@@ -360,14 +360,14 @@ module _ {C : Type 0} (old after : Waiting C) (listed : List (Listed C)) (expiri
       }
 
   -- a received event left
-  pub agrees_finished : (postponed : List ℕ) (event : Event C) → after.items ≡ without_slot event.number old.items → old.next ≤ after.next
+  pub agrees_finished : (postponed : List ℕ) (event : Event C) → after.items ≡ without_slot event.number old.items → old.next_number ≤ after.next_number
       → first_seen postponed old.items ≡ Some (slot.Event event) → Agrees after listed expiries
   agrees_finished postponed event same more f = record {
     ordered = o;
     events = rw same (events_without event.number old.items a.events);
     one_each = a.one_each;
     distinct = a.distinct;
-    below = below_more old.next after.next (timeout_numbers listed) more a.below;
+    below = below_more old.next_number after.next_number (timeout_numbers listed) more a.below;
     marked = rw same (marked_after listed old.items _
         (λ other h k. has_without other event.number old.items k)
         (λ second other h k. expiry_kept second other event.number old.items (expiry_differs second other postponed event old.items a.ordered.distinct f k) k) a.marked);
@@ -375,14 +375,14 @@ module _ {C : Type 0} (old after : Waiting C) (listed : List (Listed C)) (expiri
   }
 
   -- events came in whose numbers no time-out has
-  pub agrees_put : (postponed : List ℕ) (new : List (Event C)) → after.items ≡ put_in postponed (map Seen (map slot.Event new)) old.items → old.next ≤ after.next
+  pub agrees_put : (postponed : List ℕ) (new : List (Event C)) → after.items ≡ put_in postponed (map Seen (map slot.Event new)) old.items → old.next_number ≤ after.next_number
       → ((number : ℕ) → has (timeout_numbers listed) number ≡ true → has (slot_numbers (map slot.Event new)) number ≡ false) → Agrees after listed expiries
   agrees_put postponed new same more free = record {
     ordered = o;
     events = rw same (events_put_in postponed new old.items a.events);
     one_each = a.one_each;
     distinct = a.distinct;
-    below = below_more old.next after.next (timeout_numbers listed) more a.below;
+    below = below_more old.next_number after.next_number (timeout_numbers listed) more a.below;
     marked = rw same (marked_after listed old.items _
         (λ number h k. has_put_in number postponed (map slot.Event new) old.items (free number h) k)
         (λ timer number h k. expiry_put_in timer number postponed (map slot.Event new) old.items k) a.marked);
@@ -390,14 +390,14 @@ module _ {C : Type 0} (old after : Waiting C) (listed : List (Listed C)) (expiri
   }
 
   -- a posted event was received
-  pub agrees_arrived : (event : Event C) → after.items ≡ with_unseen_seen old.items → old.next ≤ after.next → first_unseen old.items ≡ Some (slot.Event event)
+  pub agrees_arrived : (event : Event C) → after.items ≡ with_unseen_seen old.items → old.next_number ≤ after.next_number → first_unseen old.items ≡ Some (slot.Event event)
       → Agrees after listed expiries
   agrees_arrived event same more u = record {
     ordered = o;
     events = rw same (events_arrived event old.items a.events u);
     one_each = a.one_each;
     distinct = a.distinct;
-    below = below_more old.next after.next (timeout_numbers listed) more a.below;
+    below = below_more old.next_number after.next_number (timeout_numbers listed) more a.below;
     marked = rw same (marked_after listed old.items _
         (λ number h k. rw (numbers_seen old.items) k)
         (λ timer number h k. expiry_arrived timer number event old.items u k) a.marked);
@@ -405,17 +405,17 @@ module _ {C : Type 0} (old after : Waiting C) (listed : List (Listed C)) (expiri
   }
 
   -- a time-out begins
-  pub agrees_begun : (one : Listed C) → after.items ≡ old.items → after.next ≡ old.next + 1 → one.running.number ≡ old.next → one.expired ≡ false
+  pub agrees_begun : (one : Listed C) → after.items ≡ old.items → after.next_number ≡ old.next_number + 1 → one.running.number ≡ old.next_number → one.expired ≡ false
       → running_of one.running.timer (all_of listed) ≡ None → Agrees after (listed ++ one ∷ []) expiries
   agrees_begun one same more number_is unmarked none =
-      let free = has_below old.next one.running.number (timeout_numbers listed) a.below (omega (arith, number_is)) in
-      let fresh = has_below old.next one.running.number (place_numbers old.items) a.ordered.below (omega (arith, number_is)) in
+      let free = has_below old.next_number one.running.number (timeout_numbers listed) a.below (omega (arith, number_is)) in
+      let fresh = has_below old.next_number one.running.number (place_numbers old.items) a.ordered.below (omega (arith, number_is)) in
       record {
         ordered = o;
         events = rw same a.events;
         one_each = one_each_begun listed one a.one_each none;
         distinct = distinct_begun listed one a.distinct free;
-        below = below_begun after.next listed one (omega (arith, number_is, more)) (below_more old.next after.next (timeout_numbers listed) (omega (arith, more)) a.below);
+        below = below_begun after.next_number listed one (omega (arith, number_is, more)) (below_more old.next_number after.next_number (timeout_numbers listed) (omega (arith, more)) a.below);
         marked = rw same (marked_begun listed one old.items unmarked fresh a.marked);
         counted = rw same a.counted;
       }
@@ -428,7 +428,7 @@ module _ {C : Type 0} (old : Waiting C) (listed : List (Listed C)) (expiries : �
     events = a.events;
     one_each = one_each_without timer listed a.one_each;
     distinct = distinct_cancelled timer listed a.distinct;
-    below = below_cancelled old.next timer listed a.below;
+    below = below_cancelled old.next_number timer listed a.below;
     marked = marked_cancelled timer listed old.items a.marked;
     counted = a.counted;
   }

@@ -31,20 +31,20 @@ due_by now (At moment) d = refl
 module _ {C : Type 0} where
   -- ---- a time-out begins
   module _ (waiting after : Waiting C) (listed : List (Listed C)) (expiries : ℕ) (k : IsKept waiting listed expiries) (o : IsOrdered after) (one : Listed C)
-      (same : after ≡ record waiting { next = waiting.next + 1 }) (number_is : one.running.number ≡ waiting.next) (unmarked : one.expired ≡ false)
+      (same : after ≡ record waiting { next_number = waiting.next_number + 1 }) (number_is : one.running.number ≡ waiting.next_number) (unmarked : one.expired ≡ false)
       (none : running_of one.running.timer (all_of listed) ≡ None) where
     items_same_as : after.items ≡ waiting.items
     items_same_as = ap (λ (w : Waiting C). w.items) same
 
     pub begun_kept : IsKept after (listed ++ one ∷ []) expiries
     begun_kept = record {
-      agrees = agrees_begun waiting after listed expiries k.agrees o one items_same_as (ap (λ (w : Waiting C). w.next) same) number_is unmarked none;
+      agrees = agrees_begun waiting after listed expiries k.agrees o one items_same_as (ap (λ (w : Waiting C). w.next_number) same) number_is unmarked none;
       alive = rw same (alive_begun listed one (next_of waiting.postponed waiting.items) k.alive);
     }
 
-    pub begun_is : schedule_of after (listed ++ one ∷ []) ≡ record (schedule_of waiting listed) { running = all_of listed ++ one.running ∷ []; next = waiting.next + 1 }
+    pub begun_is : schedule_of after (listed ++ one ∷ []) ≡ record (schedule_of waiting listed) { running = all_of listed ++ one.running ∷ []; next_number = waiting.next_number + 1 }
     begun_is =
-        let fresh = has_below waiting.next one.running.number (place_numbers waiting.items) k.agrees.ordered.below (omega (arith, number_is)) in
+        let fresh = has_below waiting.next_number one.running.number (place_numbers waiting.items) k.agrees.ordered.below (omega (arith, number_is)) in
         rw (same, all_of_more listed one, items_begun listed one waiting.items fresh none) refl
 
   -- ---- what holds of each time-out holds of each in order
@@ -69,7 +69,7 @@ module _ {C : Type 0} where
   record CanExpire (all : List (Listed C)) (waiting : Waiting C) (one : Running C) : Type 0 where
     found : running_of one.timer (all_of all) ≡ Some one
     free : has (place_numbers waiting.items) one.number ≡ false
-    below : one.number < waiting.next
+    below : one.number < waiting.next_number
     waits : is_zero one.due ≡ false
 
   due_later : (now : ℕ) (one : Running C) → is_due_by now one.due ≡ true → is_zero one.due ≡ false
@@ -80,7 +80,7 @@ module _ {C : Type 0} where
   unmarked_free one places false e m = m
 
   expire_by : (all : List (Listed C)) (waiting : Waiting C) (now : ℕ) (one : Listed C) (others : List (Listed C)) (due : Bool) → (is_due_by now one.running.due && not one.expired) ≡ due
-      → IsMarked one waiting.items one.expired → running_of one.running.timer (all_of all) ≡ Some one.running → one.running.number < waiting.next
+      → IsMarked one waiting.items one.expired → running_of one.running.timer (all_of all) ≡ Some one.running → one.running.number < waiting.next_number
       → AllAre (CanExpire all waiting) (all_of (filter (λ (one : Listed C). is_due_by now one.running.due && not one.expired) others))
       → AllAre (CanExpire all waiting) (all_of (if due then one ∷ filter (λ (one : Listed C). is_due_by now one.running.due && not one.expired) others
       else filter (λ (one : Listed C). is_due_by now one.running.due && not one.expired) others))
@@ -90,7 +90,7 @@ module _ {C : Type 0} where
       (record { found = f; free = unmarked_free one waiting.items one.expired mark m; below = b; waits = due_later now one.running both.0 }, a)
   expire_by all waiting now one others false e m f b a = a
 
-  all_expire : (all listed : List (Listed C)) (waiting : Waiting C) (now : ℕ) → AllFound (all_of all) listed → AreMarked listed waiting.items → AreBelow waiting.next (timeout_numbers listed)
+  all_expire : (all listed : List (Listed C)) (waiting : Waiting C) (now : ℕ) → AllFound (all_of all) listed → AreMarked listed waiting.items → AreBelow waiting.next_number (timeout_numbers listed)
       → AllAre (CanExpire all waiting) (all_of (filter (λ (one : Listed C). is_due_by now one.running.due && not one.expired) listed))
   all_expire all [] waiting now f m b = tt
   all_expire all (one ∷ listed) waiting now f m b =
@@ -161,7 +161,7 @@ module _ {C : Type 0} (waiting : Waiting C) (listed : List (Listed C)) (expiries
     pub expiry_free : has (place_numbers waiting.items) first.number ≡ false
     expiry_free = first_can.free
 
-    pub expiry_below : first.number < waiting.next
+    pub expiry_below : first.number < waiting.next_number
     expiry_below = first_can.below
 
     first_live : is_some (live first.timer first.number listed) ≡ true
@@ -174,14 +174,14 @@ module _ {C : Type 0} (waiting : Waiting C) (listed : List (Listed C)) (expiries
 
       pub expiring_kept : IsKept after (with_expired first.timer listed) (expiries + 1)
       expiring_kept =
-          let next : waiting.next ≤ after.next = rw (ap (λ (w : Waiting C). w.next) same) (let self : waiting.next ≤ waiting.next = omega arith in self) in
+          let next : waiting.next_number ≤ after.next_number = rw (ap (λ (w : Waiting C). w.next_number) same) (let self : waiting.next_number ≤ waiting.next_number = omega arith in self) in
           record {
             agrees = record {
               ordered = o;
               events = rw after_items (events_behind waiting.items (slot.Expiry first.timer first.number) k.agrees.events);
               one_each = rw (all_of_with_expired first.timer listed) k.agrees.one_each;
               distinct = rw (numbers_marked first.timer listed) k.agrees.distinct;
-              below = rw (numbers_marked first.timer listed) (below_more waiting.next after.next (timeout_numbers listed) next k.agrees.below);
+              below = rw (numbers_marked first.timer listed) (below_more waiting.next_number after.next_number (timeout_numbers listed) next k.agrees.below);
               marked = rw after_items (marked_all listed listed first.timer first waiting.items refl first_can.waits first_can.found (all_found listed k.agrees.one_each)
                   (number_no_more first.timer first listed k.agrees.distinct first_can.found) k.agrees.marked);
               counted = rw after_items (omega (arith, k.agrees.counted, counted_behind waiting.items (slot.Expiry first.timer first.number)));

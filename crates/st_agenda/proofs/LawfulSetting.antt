@@ -99,7 +99,7 @@ module _ {C : Type 0} where
 
   -- ---- a schedule in which nothing waits and nothing runs
   pub lawful_empty : (latest next : ℕ) → next ≤ 2 ^ 63
-      → IsLawfulSchedule {C = C} latest (record { pending = []; postponed = []; running = []; next = next })
+      → IsLawfulSchedule {C = C} latest (record { pending = []; postponed = []; running = []; next_number = next })
   lawful_empty latest next h = record {
     received_first = tt;
     postponed_first = tt;
@@ -185,7 +185,7 @@ module _ {C : Type 0} where
       ap (times n) (waiting_behind s.pending (Posted event ∷ [])) ∙ times-append n (waiting_numbers s.pending) (event.number ∷ [])
 
   abbrev with_posted : Schedule C → Event C → Schedule C
-  with_posted s event = record s { pending = s.pending ++ Posted event ∷ []; next = s.next + 1 }
+  with_posted s event = record s { pending = s.pending ++ Posted event ∷ []; next_number = s.next_number + 1 }
 
   posted_live : (s : Schedule C) (event : Event C) (n : ℕ)
       → times n (live_numbers (with_posted s event)) ≡ (if event.number == n then 1 else 0) + times n (live_numbers s)
@@ -194,9 +194,9 @@ module _ {C : Type 0} where
       times-append n (waiting_numbers (s.pending ++ Posted event ∷ [])) (running_numbers s.running) in
       omega (arith, split, live_times n s, posted_waiting s event n)
 
-  pub lawful_posted : (latest : ℕ) (s : Schedule C) (event : Event C) → event.number ≡ s.next → s.next < 2 ^ 63 → IsLawfulSchedule latest s
-      → IsLawfulSchedule latest (record s { pending = s.pending ++ Posted event ∷ []; next = s.next + 1 })
-  lawful_posted latest s event same room law = record {
+  pub lawful_posted : (latest : ℕ) (s : Schedule C) (event : Event C) → event.number ≡ s.next_number → s.next_number < 2 ^ 63 → IsLawfulSchedule latest s
+      → IsLawfulSchedule latest (record s { pending = s.pending ++ Posted event ∷ []; next_number = s.next_number + 1 })
+  lawful_posted latest s event same reserved law = record {
     received_first = received_behind s.pending (Posted event ∷ []) law.received_first tt;
     postponed_first = postponed_behind s.postponed s.pending (Posted event ∷ []) law.postponed_first;
     one_each = law.one_each;
@@ -205,7 +205,7 @@ module _ {C : Type 0} where
     below = λ n more.
         rw (posted_live s event n) (none_more n event.number (times n (live_numbers s)) (λ e. omega (arith, e, same, more)) (law.below n (omega (arith, more))));
     expiries = posted_expiries latest s.running event s.pending law.expiries;
-    bounded = omega (arith, room);
+    bounded = omega (arith, reserved);
   }
 
   -- ---- fewer time-outs
@@ -374,7 +374,7 @@ module _ {C : Type 0} where
   retried_live s true n = cancelled_live (with_none_postponed s) timer.State n
   retried_live s false n = omega arith
 
-  pub retried_next : (s : Schedule C) (changed : Bool) → (retried_in s changed).next ≡ s.next
+  pub retried_next : (s : Schedule C) (changed : Bool) → (retried_in s changed).next_number ≡ s.next_number
   retried_next s true = refl
   retried_next s false = refl
 
@@ -498,41 +498,41 @@ module _ {C : Type 0} where
 
   -- ---- events are inserted
   pub inserted_waiting : (s : Schedule C) (inserts : List (Insert C)) (n : ℕ)
-      → times n (waiting_numbers (inserted_in s inserts).pending) ≡ times n (waiting_numbers s.pending) + times n (numbers_of (numbered s.next inserts))
-  inserted_waiting s inserts n = waiting_placed n s.postponed (numbered s.next inserts) s.pending
+      → times n (waiting_numbers (inserted_in s inserts).pending) ≡ times n (waiting_numbers s.pending) + times n (numbers_of (numbered s.next_number inserts))
+  inserted_waiting s inserts n = waiting_placed n s.postponed (numbered s.next_number inserts) s.pending
 
   pub inserted_live : (s : Schedule C) (inserts : List (Insert C)) (n : ℕ)
-      → times n (live_numbers (inserted_in s inserts)) ≡ times n (live_numbers s) + times n (numbers_of (numbered s.next inserts))
+      → times n (live_numbers (inserted_in s inserts)) ≡ times n (live_numbers s) + times n (numbers_of (numbered s.next_number inserts))
   inserted_live s inserts n =
-      let new = as_received (numbered s.next inserts) in
+      let new = as_received (numbered s.next_number inserts) in
       let split : times n (live_numbers (inserted_in s inserts)) ≡ times n (waiting_numbers (placed s.postponed new s.pending)) + times n (running_numbers s.running) =
       times-append n (waiting_numbers (placed s.postponed new s.pending)) (running_numbers s.running) in
-      omega (arith, split, waiting_placed n s.postponed (numbered s.next inserts) s.pending, live_times n s)
+      omega (arith, split, waiting_placed n s.postponed (numbered s.next_number inserts) s.pending, live_times n s)
 
   waiting_once : (s : Schedule C) → ((n : ℕ) → times n (live_numbers s) ≤ 1) → (n : ℕ) → times n (waiting_numbers s.pending) ≤ 1
   waiting_once s once n = omega (arith, once n, live_times n s)
 
-  inserted_once : (latest : ℕ) (s : Schedule C) (inserts : List (Insert C)) (n : ℕ) → IsLawfulSchedule latest s → (n < s.next) ⊎ (s.next ≤ n)
+  inserted_once : (latest : ℕ) (s : Schedule C) (inserts : List (Insert C)) (n : ℕ) → IsLawfulSchedule latest s → (n < s.next_number) ⊎ (s.next_number ≤ n)
       → times n (live_numbers (inserted_in s inserts)) ≤ 1
-  inserted_once latest s inserts n law (inl less) = omega (arith, inserted_live s inserts n, law.distinct n, numbered_times n s.next inserts less)
-  inserted_once latest s inserts n law (inr more) = omega (arith, inserted_live s inserts n, law.below n more, numbered_times_once n s.next inserts)
+  inserted_once latest s inserts n law (inl less) = omega (arith, inserted_live s inserts n, law.distinct n, numbered_times n s.next_number inserts less)
+  inserted_once latest s inserts n law (inr more) = omega (arith, inserted_live s inserts n, law.below n more, numbered_times_once n s.next_number inserts)
 
-  pub lawful_inserted : (latest : ℕ) (s : Schedule C) (inserts : List (Insert C)) → s.next + length inserts ≤ 2 ^ 63 → IsLawfulSchedule latest s
+  pub lawful_inserted : (latest : ℕ) (s : Schedule C) (inserts : List (Insert C)) → s.next_number + length inserts ≤ 2 ^ 63 → IsLawfulSchedule latest s
       → IsLawfulSchedule latest (inserted_in s inserts)
-  lawful_inserted latest s inserts room law = record {
-    received_first = received_placed s.postponed (numbered s.next inserts) s.pending
+  lawful_inserted latest s inserts reserved law = record {
+    received_first = received_placed s.postponed (numbered s.next_number inserts) s.pending
         (posted_free s.postponed s.pending law.postponed_first (waiting_once s law.distinct)) law.received_first;
-    postponed_first = postponed_placed s.postponed s.postponed (numbered s.next inserts) s.pending (λ n h. h) law.postponed_first;
+    postponed_first = postponed_placed s.postponed s.postponed (numbered s.next_number inserts) s.pending (λ n h. h) law.postponed_first;
     one_each = law.one_each;
-    distinct = λ n. inserted_once latest s inserts n law (cases_lt n s.next);
-    below = λ n more. omega (arith, inserted_live s inserts n, law.below n (omega (arith, more)), numbered_times_above n s.next inserts more);
-    expiries = expiries_placed latest s.running s.postponed (numbered s.next inserts) s.pending law.expiries;
-    bounded = room;
+    distinct = λ n. inserted_once latest s inserts n law (cases_lt n s.next_number);
+    below = λ n more. omega (arith, inserted_live s inserts n, law.below n (omega (arith, more)), numbered_times_above n s.next_number inserts more);
+    expiries = expiries_placed latest s.running s.postponed (numbered s.next_number inserts) s.pending law.expiries;
+    bounded = reserved;
   }
 
   -- ---- a time-out begins
   abbrev with_running : Schedule C → Running C → Schedule C
-  with_running s one = record s { running = s.running ++ one ∷ []; next = s.next + 1 }
+  with_running s one = record s { running = s.running ++ one ∷ []; next_number = s.next_number + 1 }
 
   running_more : (running : List (Running C)) (one : Running C) → running_numbers (running ++ one ∷ []) ≡ running_numbers running ++ one.number ∷ []
   running_more [] one = refl
@@ -563,9 +563,9 @@ module _ {C : Type 0} where
   expiries_begun latest running one (Posted event ∷ items) e = expiries_begun latest running one items e
   expiries_begun latest running one (Expiry timer ∷ items) e = (due_begun latest timer running one e.0, e.1, expiries_begun latest running one items e.2)
 
-  lawful_running : (latest : ℕ) (s : Schedule C) (one : Running C) → one.number ≡ s.next → running_of one.timer s.running ≡ None → s.next + 1 ≤ 2 ^ 63
+  lawful_running : (latest : ℕ) (s : Schedule C) (one : Running C) → one.number ≡ s.next_number → running_of one.timer s.running ≡ None → s.next_number + 1 ≤ 2 ^ 63
       → IsLawfulSchedule latest s → IsLawfulSchedule latest (with_running s one)
-  lawful_running latest s one same none room law = record {
+  lawful_running latest s one same none reserved law = record {
     received_first = law.received_first;
     postponed_first = law.postponed_first;
     one_each = one_each_more s.running one law.one_each none;
@@ -574,46 +574,46 @@ module _ {C : Type 0} where
     below = λ n more.
         rw (begun_live s one n) (none_more n one.number (times n (live_numbers s)) (λ e. omega (arith, e, same, more)) (law.below n (omega (arith, more))));
     expiries = expiries_begun latest s.running one s.pending law.expiries;
-    bounded = room;
+    bounded = reserved;
   }
 
   lawful_begun : (latest now : ℕ) (s : Schedule C) (timer : Timer) (time : Time) (content : C) → running_of timer s.running ≡ None
-      → s.next + number_taken time ≤ 2 ^ 63 → IsLawfulSchedule latest s → IsLawfulSchedule latest (begun_in now s timer time content)
-  lawful_begun latest now s timer Infinity content none room law = law
-  lawful_begun latest now s timer (After time) content none room law =
-      lawful_running latest s (record { timer = timer; number = s.next; due = due_after time now; content = content }) refl none room law
+      → s.next_number + number_taken time ≤ 2 ^ 63 → IsLawfulSchedule latest s → IsLawfulSchedule latest (begun_in now s timer time content)
+  lawful_begun latest now s timer Infinity content none reserved law = law
+  lawful_begun latest now s timer (After time) content none reserved law =
+      lawful_running latest s (record { timer = timer; number = s.next_number; due = due_after time now; content = content }) refl none reserved law
 
   begun_waiting : (now : ℕ) (s : Schedule C) (timer : Timer) (time : Time) (content : C) → (begun_in now s timer time content).pending ≡ s.pending
   begun_waiting now s timer Infinity content = refl
   begun_waiting now s timer (After time) content = refl
 
-  begun_next : (now : ℕ) (s : Schedule C) (timer : Timer) (time : Time) (content : C) → (begun_in now s timer time content).next ≡ s.next + number_taken time
+  begun_next : (now : ℕ) (s : Schedule C) (timer : Timer) (time : Time) (content : C) → (begun_in now s timer time content).next_number ≡ s.next_number + number_taken time
   begun_next now s timer Infinity content = omega arith
   begun_next now s timer (After time) content = refl
 
   -- the number that the time-out gets was none before
-  begun_old : (now : ℕ) (s : Schedule C) (timer : Timer) (time : Time) (content : C) (n : ℕ) → n < s.next
+  begun_old : (now : ℕ) (s : Schedule C) (timer : Timer) (time : Time) (content : C) (n : ℕ) → n < s.next_number
       → times n (live_numbers (begun_in now s timer time content)) ≡ times n (live_numbers s)
   begun_old now s timer Infinity content n less = refl
   begun_old now s timer (After time) content n less =
-      let one : Running C = record { timer = timer; number = s.next; due = due_after time now; content = content } in
-      begun_live s one n ∙ same_more n s.next (times n (live_numbers s)) (λ e. omega (arith, e, less))
+      let one : Running C = record { timer = timer; number = s.next_number; due = due_after time now; content = content } in
+      begun_live s one n ∙ same_more n s.next_number (times n (live_numbers s)) (λ e. omega (arith, e, less))
 
   -- ---- a request is done
-  lawful_set : (latest now : ℕ) (s : Schedule C) (setting : Setting C) → s.next + number_taken setting.time ≤ 2 ^ 63 → IsLawfulSchedule latest s
+  lawful_set : (latest now : ℕ) (s : Schedule C) (setting : Setting C) → s.next_number + number_taken setting.time ≤ 2 ^ 63 → IsLawfulSchedule latest s
       → IsLawfulSchedule latest (set_in now s setting)
-  lawful_set latest now s setting room law =
-      lawful_begun latest now (cancelled_in s setting.timer) setting.timer setting.time setting.content (stopped s setting.timer) room
+  lawful_set latest now s setting reserved law =
+      lawful_begun latest now (cancelled_in s setting.timer) setting.timer setting.time setting.content (stopped s setting.timer) reserved
       (lawful_cancelled latest s setting.timer law)
 
   set_waiting : (now : ℕ) (s : Schedule C) (setting : Setting C) → waiting_numbers (set_in now s setting).pending ≡ waiting_numbers s.pending
   set_waiting now s setting =
       ap waiting_numbers (begun_waiting now (cancelled_in s setting.timer) setting.timer setting.time setting.content) ∙ waiting_without setting.timer s.pending
 
-  set_next : (now : ℕ) (s : Schedule C) (setting : Setting C) → (set_in now s setting).next ≡ s.next + number_taken setting.time
+  set_next : (now : ℕ) (s : Schedule C) (setting : Setting C) → (set_in now s setting).next_number ≡ s.next_number + number_taken setting.time
   set_next now s setting = begun_next now (cancelled_in s setting.timer) setting.timer setting.time setting.content
 
-  set_live : (now : ℕ) (s : Schedule C) (setting : Setting C) (n : ℕ) → n < s.next → times n (live_numbers (set_in now s setting)) ≤ times n (live_numbers s)
+  set_live : (now : ℕ) (s : Schedule C) (setting : Setting C) (n : ℕ) → n < s.next_number → times n (live_numbers (set_in now s setting)) ≤ times n (live_numbers s)
   set_live now s setting n less =
       rw (begun_old now (cancelled_in s setting.timer) setting.timer setting.time setting.content n less) (cancelled_live s setting.timer n)
 
@@ -622,26 +622,26 @@ module _ {C : Type 0} where
   set_all_waiting now s [] = refl
   set_all_waiting now s (setting ∷ settings) = set_all_waiting now (set_in now s setting) settings ∙ set_waiting now s setting
 
-  pub set_all_next : (now : ℕ) (s : Schedule C) (settings : List (Setting C)) → s.next ≤ (all_set_in now s settings).next
+  pub set_all_next : (now : ℕ) (s : Schedule C) (settings : List (Setting C)) → s.next_number ≤ (all_set_in now s settings).next_number
   set_all_next now s [] = omega arith
   set_all_next now s (setting ∷ settings) =
       let first = set_next now s setting in let rest = set_all_next now (set_in now s setting) settings in omega (arith, first, rest)
 
-  pub set_all_live : (now : ℕ) (s : Schedule C) (settings : List (Setting C)) (n : ℕ) → n < s.next
+  pub set_all_live : (now : ℕ) (s : Schedule C) (settings : List (Setting C)) (n : ℕ) → n < s.next_number
       → times n (live_numbers (all_set_in now s settings)) ≤ times n (live_numbers s)
   set_all_live now s [] n less = omega arith
   set_all_live now s (setting ∷ settings) n less =
-      let below_next : n < (set_in now s setting).next = omega (arith, set_next now s setting, less) in
+      let below_next : n < (set_in now s setting).next_number = omega (arith, set_next now s setting, less) in
       let first = set_live now s setting n less in
       let rest = set_all_live now (set_in now s setting) settings n below_next in
       omega (arith, first, rest)
 
-  pub lawful_set_all : (now : ℕ) (s : Schedule C) (settings : List (Setting C)) → s.next + numbers_taken settings ≤ 2 ^ 63 → IsLawfulSchedule now s
+  pub lawful_set_all : (now : ℕ) (s : Schedule C) (settings : List (Setting C)) → s.next_number + numbers_taken settings ≤ 2 ^ 63 → IsLawfulSchedule now s
       → IsLawfulSchedule now (all_set_in now s settings)
-  lawful_set_all now s [] room law = law
-  lawful_set_all now s (setting ∷ settings) room law =
-      lawful_set_all now (set_in now s setting) settings (omega (arith, set_next now s setting, room))
-      (lawful_set now now s setting (omega (arith, room)) law)
+  lawful_set_all now s [] reserved law = law
+  lawful_set_all now s (setting ∷ settings) reserved law =
+      lawful_set_all now (set_in now s setting) settings (omega (arith, set_next now s setting, reserved))
+      (lawful_set now now s setting (omega (arith, reserved)) law)
 
   -- ---- in the order in which they are due the time-outs are the same
   one_each_put_by : (one other : Running C) (others rest : List (Running C)) (before : Bool) → running_of one.timer (other ∷ others) ≡ None

@@ -55,24 +55,24 @@ finished_once false number e = rw (same_number number) refl
 module _ {C : Type 0} where
   -- ---- the next event
   below_by : (now : ℕ) (s : Schedule C) (number : ℕ) → IsLawfulSchedule now s → times number (live_numbers s) ≡ 1
-      → (number < s.next) ⊎ (s.next ≤ number) → number < s.next
+      → (number < s.next_number) ⊎ (s.next_number ≤ number) → number < s.next_number
   below_by now s number law live (inl less) = less
   below_by now s number law live (inr more) = absurd (omega (arith, live, law.below number more))
 
   -- it has a number that was taken
   pub next_below : (now : ℕ) (s : Schedule C) (number : ℕ) → IsLawfulSchedule now s
-      → option_map (λ (event : Event C). event.number) (next_in s) ≡ Some number → number < s.next
-  next_below now s number law next = below_by now s number law (next_is_live now s number law next) (cases_lt number s.next)
+      → option_map (λ (event : Event C). event.number) (next_in s) ≡ Some number → number < s.next_number
+  next_below now s number law next = below_by now s number law (next_is_live now s number law next) (cases_lt number s.next_number)
 
   -- what waits may still be handled
   waiting_live : (n : ℕ) (s : Schedule C) → times n (waiting_numbers s.pending) ≤ times n (live_numbers s)
   waiting_live n s = omega (arith, times-append n (waiting_numbers s.pending) (running_numbers s.running))
 
   -- numbers that wait and numbers that are new stand once at most
-  once_by : (now : ℕ) (s : Schedule C) (inserts : List (Insert C)) (n : ℕ) → IsLawfulSchedule now s → (n < s.next) ⊎ (s.next ≤ n)
-      → times n (live_numbers s) + times n (numbers_of (numbered s.next inserts)) ≤ 1
-  once_by now s inserts n law (inl less) = omega (arith, law.distinct n, numbered_times n s.next inserts less)
-  once_by now s inserts n law (inr more) = omega (arith, law.below n more, numbered_times_once n s.next inserts)
+  once_by : (now : ℕ) (s : Schedule C) (inserts : List (Insert C)) (n : ℕ) → IsLawfulSchedule now s → (n < s.next_number) ⊎ (s.next_number ≤ n)
+      → times n (live_numbers s) + times n (numbers_of (numbered s.next_number inserts)) ≤ 1
+  once_by now s inserts n law (inl less) = omega (arith, law.distinct n, numbered_times n s.next_number inserts less)
+  once_by now s inserts n law (inr more) = omega (arith, law.below n more, numbered_times_once n s.next_number inserts)
 
   -- ---- the steps of a turn, one after another
   module _ (now : ℕ) (s : Schedule C) (number : ℕ) (postpone changed : Bool) (inserts : List (Insert C)) (settings : List (Setting C)) where
@@ -97,16 +97,16 @@ module _ {C : Type 0} where
 
     -- the numbers that the inserted events get
     abbrev new : List ℕ
-    new = numbers_of (numbered s.next inserts)
+    new = numbers_of (numbered s.next_number inserts)
 
-    same_next : retried.next ≡ s.next
+    same_next : retried.next_number ≡ s.next_number
     same_next = retried_next disposed changed
 
-    new_times : (n : ℕ) → times n (numbers_of (numbered retried.next inserts)) ≡ times n new
+    new_times : (n : ℕ) → times n (numbers_of (numbered retried.next_number inserts)) ≡ times n new
     new_times n = ap (λ first. times n (numbers_of (numbered first inserts))) same_next
 
     module _ (law : IsLawfulSchedule now s) (next : option_map (λ (event : Event C). event.number) (next_in s) ≡ Some number)
-        (room : s.next + (length inserts + numbers_taken settings) ≤ 2 ^ 63) where
+        (reserved : s.next_number + (length inserts + numbers_taken settings) ≤ 2 ^ 63) where
       cancelled_lawful : IsLawfulSchedule now cancelled
       cancelled_lawful = lawful_cancelled now received timer.Event (received_lawful now s number law next)
 
@@ -120,8 +120,8 @@ module _ {C : Type 0} where
       -- the schedule can still come about
       pub settled_lawful : IsLawfulSchedule now (settled_in now s number postpone changed inserts settings)
       settled_lawful =
-          lawful_set_all now inserted settings (omega (arith, room, same_next))
-          (lawful_inserted now retried inserts (omega (arith, room, same_next)) retried_lawful)
+          lawful_set_all now inserted settings (omega (arith, reserved, same_next))
+          (lawful_inserted now retried inserts (omega (arith, reserved, same_next)) retried_lawful)
 
       settled_waiting_sum : (n : ℕ)
           → times n (waiting_numbers (settled_in now s number postpone changed inserts settings).pending) + times n gone
@@ -138,31 +138,31 @@ module _ {C : Type 0} where
       new_none : (n : ℕ) → (number == n) ≡ true → times n new ≡ 0
       new_none n e =
           let same : number ≡ n = grind (arith, e) in
-          numbered_times n s.next inserts (omega (arith, same, next_below now s number law next))
+          numbered_times n s.next_number inserts (omega (arith, same, next_below now s number law next))
 
       -- the numbers that waited, the event's and the new ones wait, and the event's where it is finished does not
       pub settled_waiting : (n : ℕ)
           → times n (waiting_numbers (settled_in now s number postpone changed inserts settings).pending) + times n (if postpone then [] else number ∷ [])
-          ≡ (if has (waiting_numbers s.pending ++ number ∷ numbers_of (numbered s.next inserts)) n then 1 else 0)
+          ≡ (if has (waiting_numbers s.pending ++ number ∷ numbers_of (numbered s.next_number inserts)) n then 1 else 0)
       settled_waiting n =
           let split = times-append n (waiting_numbers s.pending) (number ∷ new) in
           let live = waiting_live n s in
           settled_waiting_sum n
           ∙ accounted_by (number == n) (has (waiting_numbers s.pending ++ number ∷ new) n) (times n (waiting_numbers s.pending)) (times n new)
           (times n (waiting_numbers s.pending ++ number ∷ new)) (has_times (waiting_numbers s.pending ++ number ∷ new) n) split (new_none n)
-          (omega (arith, live, once_by now s inserts n law (cases_lt n s.next)))
+          (omega (arith, live, once_by now s inserts n law (cases_lt n s.next_number)))
 
       -- no number is given back
-      pub settled_next : s.next ≤ (settled_in now s number postpone changed inserts settings).next
+      pub settled_next : s.next_number ≤ (settled_in now s number postpone changed inserts settings).next_number
       settled_next = omega (arith, set_all_next now inserted settings, same_next)
 
       -- of the numbers that were taken none may be handled that could not be before, nor the event's where it is finished
-      settled_live : (n : ℕ) → n < s.next
+      settled_live : (n : ℕ) → n < s.next_number
           → times n (live_numbers (settled_in now s number postpone changed inserts settings)) + times n gone ≤ times n (live_numbers s)
       settled_live n less =
           let set = set_all_live now inserted settings n (omega (arith, less, same_next)) in
           let more = inserted_live retried inserts n in
-          let none = numbered_times n s.next inserts less in
+          let none = numbered_times n s.next_number inserts less in
           let tried = retried_live disposed changed n in
           let left = disposed_live now cancelled number postpone cancelled_lawful cancelled_is_first n in
           let fewer = cancelled_live received timer.Event n in
@@ -170,7 +170,7 @@ module _ {C : Type 0} where
           omega (arith, set, more, none, tried, left, fewer, came, new_times n)
 
       -- what could not be handled before cannot be after
-      pub settled_gone : (n : ℕ) → n < s.next → times n (live_numbers s) ≡ 0
+      pub settled_gone : (n : ℕ) → n < s.next_number → times n (live_numbers s) ≡ 0
           → times n (live_numbers (settled_in now s number postpone changed inserts settings)) ≡ 0
       settled_gone n less none = omega (arith, settled_live n less, none)
 

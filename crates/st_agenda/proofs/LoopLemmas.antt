@@ -1,5 +1,8 @@
--- One expiry after another, and one request after another.
-use Rattle.std.proofs.Common.{◌≡◌, ℕ, ◌+◌, ◌≤◌, ◌^◌, List, [], ◌∷◌, arith, length, reverse}
+-- One expiry after another, and one setting after another.
+use Rattle.std.proofs.Common.{◌≡◌, ℕ, suc, ◌+◌, ◌<◌, ◌≤◌, ◌^◌, ◌⊎◌, inl, inr, Option, Some, None, List, [], ◌∷◌, ◌++◌, arith, ap, sym, ◌∙◌, length, reverse, take, get_or}
+use Rattle.std.specs.Prelude.{slice_get}
+use Rattle.std.proofs.Math.Seq.{take-suc}
+use Rattle.std.proofs.lemmas.Option.{slice_get_cases}
 use Rattle.st_events.specs.declared.setting.Setting.{Setting}
 use Rattle.st_events.specs.declared.time.Time.{Time}
 use Rattle.st_events.specs.declared.time.Time.TheVariants.{After, Infinity}
@@ -15,14 +18,14 @@ module _ {C : Type 0} where
   -- so many have expired; those that are left are to come
   pub record ExpiredSoFar (now : ℕ) (old : Schedule C) (agenda : Agenda C) (place end : ℕ) : Type 0 where
     pub left : length (due_of now agenda.schedule) + place ≡ end
-    pub room : length (due_of now agenda.schedule) ≤ agenda.staged
+    pub reserved : length (due_of now agenda.schedule) ≤ agenda.staged
     pub all : with_all_expired (due_of now agenda.schedule) agenda.schedule ≡ with_all_expired (due_of now old) old
 
   -- some requests are done; those that are left are to be done
-  pub record SetSoFar (now : ℕ) (old : Schedule C) (requests : List (Setting C)) (agenda : Agenda C) (left : List (Setting C)) : Type 0 where
-    pub all : all_set_in now agenda.schedule (reverse left) ≡ all_set_in now old requests
-    pub room : length left ≤ agenda.room
-    pub numbers : agenda.schedule.next + numbers_taken (reverse left) ≤ 2 ^ 63
+  pub record SetSoFar (now : ℕ) (old : Schedule C) (settings : List (Setting C)) (agenda : Agenda C) (left : List (Setting C)) : Type 0 where
+    pub all : all_set_in now agenda.schedule (reverse left) ≡ all_set_in now old settings
+    pub reserved : length left ≤ agenda.reserved
+    pub numbers : agenda.schedule.next_number + numbers_taken (reverse left) ≤ 2 ^ 63
 
 -- requests take no more numbers than there are
 pub one_at_most : (time : Time) → number_taken time ≤ 1
@@ -33,3 +36,40 @@ module _ {C : Type 0} where
   pub taken_within : (settings : List (Setting C)) → numbers_taken settings ≤ length settings
   taken_within [] = omega arith
   taken_within (setting ∷ settings) = omega (arith, one_at_most setting.time, taken_within settings)
+
+none_not_some : {A : Type 0} (found : Option A) (a : A) → found ≡ None → found ≡ Some a → ⊥
+none_not_some found a none some = cc
+
+some_injective : {A : Type 0} {a b : A} → Some a ≡ Some b → a ≡ b
+some_injective h = cc
+
+module _ {C : Type 0} where
+  pub numbers_taken-append : (settings : List (Setting C)) (setting : Setting C)
+      → numbers_taken (settings ++ setting ∷ []) ≡ numbers_taken settings + number_taken setting.time
+  numbers_taken-append [] setting = omega arith
+  numbers_taken-append (first ∷ settings) setting =
+      let more = numbers_taken-append settings setting in
+      rw more (omega arith)
+
+module _ {C : Type 0} (settings : List (Setting C)) (index : ℕ) where
+  -- one more setting
+  pub more_settings : (setting : Setting C) → slice_get settings index ≡ Some setting
+      → take (index + 1) settings ≡ take index settings ++ setting ∷ []
+  more_settings setting found = more (slice_get_cases settings index).1 where
+    more : ((x : Setting C) × (index < length settings) × (slice_get settings index ≡ Some x) × (get_or settings index x ≡ x))
+        ⊎ ((length settings ≤ index) × (slice_get settings index ≡ None))
+        → take (index + 1) settings ≡ take index settings ++ setting ∷ []
+    more (inl (x, within, there, read)) =
+        let same : x ≡ setting = some_injective (sym there ∙ found) in
+        let one_more : index + 1 ≡ suc index = omega arith in
+        rw one_more (take-suc settings index x within ∙ ap (λ (one : Setting C). take index settings ++ one ∷ []) (read ∙ same))
+    more (inr (past, nothing)) = absurd (none_not_some (slice_get settings index) setting nothing found)
+
+  -- there are so many
+  pub one_more_there : index < length settings → slice_get settings index ≡ None → ⊥
+  one_more_there within nothing = there (slice_get_cases settings index).1 where
+    there : ((x : Setting C) × (index < length settings) × (slice_get settings index ≡ Some x) × (get_or settings index x ≡ x))
+        ⊎ ((length settings ≤ index) × (slice_get settings index ≡ None))
+        → ⊥
+    there (inl (x, inside, found, read)) = none_not_some (slice_get settings index) x nothing found
+    there (inr (past, none)) = omega (arith, within, past)

@@ -183,8 +183,8 @@ module _ {C : Type 0} (waiting : Waiting C) (listed : List (Listed C)) (expiries
       lapsed_found : running_of timer (all_of listed) ≡ Some lapsed_running.0
       lapsed_found = (live_is number (running_of timer (all_of listed)) lapsed_running.0 lapsed_live).0
 
-      pub lapsed_below : number < waiting.next
-      lapsed_below = rw lapsed_running.3 (below_member waiting.next lapsed_running.0.number (timeout_numbers listed) k.agrees.below (among timer lapsed_running.0 listed lapsed_found))
+      pub lapsed_below : number < waiting.next_number
+      lapsed_below = rw lapsed_running.3 (below_member waiting.next_number lapsed_running.0.number (timeout_numbers listed) k.agrees.below (among timer lapsed_running.0 listed lapsed_found))
 
       module _ (after : Waiting C) (event : Event C) (o : IsOrdered after) (e : event ≡ timeout_event lapsed_running.0)
           (same : after ≡ record waiting { items = put_in waiting.postponed (Seen (slot.Event event) ∷ []) waiting.items; staged = waiting.staged - 1 }) where
@@ -197,7 +197,7 @@ module _ {C : Type 0} (waiting : Waiting C) (listed : List (Listed C)) (expiries
         pub lapsed_kept : IsKept after (without_listed timer listed) expiries
         lapsed_kept =
             let items : after.items ≡ put_in waiting.postponed (map Seen (map slot.Event (event ∷ []))) waiting.items = ap (λ (w : Waiting C). w.items) same in
-            let next : waiting.next ≤ after.next = rw (ap (λ (w : Waiting C). w.next) same) (let self : waiting.next ≤ waiting.next = omega arith in self) in
+            let next : waiting.next_number ≤ after.next_number = rw (ap (λ (w : Waiting C). w.next_number) same) (let self : waiting.next_number ≤ waiting.next_number = omega arith in self) in
             let no_more : has (timeout_numbers (without_listed timer listed)) number ≡ false =
             rw lapsed_running.3 (number_no_more timer lapsed_running.0 listed k.agrees.distinct lapsed_found) in
             record {
@@ -239,7 +239,7 @@ module _ {C : Type 0} (waiting : Waiting C) (listed : List (Listed C)) (expiries
         pub arrived_kept : IsKept after listed expiries
         arrived_kept =
             let items : after.items ≡ with_unseen_seen waiting.items = ap (λ (w : Waiting C). w.items) same ∙ now_seen in
-            let next : waiting.next ≤ after.next = rw (ap (λ (w : Waiting C). w.next) same) (let self : waiting.next ≤ waiting.next = omega arith in self) in
+            let next : waiting.next_number ≤ after.next_number = rw (ap (λ (w : Waiting C). w.next_number) same) (let self : waiting.next_number ≤ waiting.next_number = omega arith in self) in
             let postponed : after.postponed ≡ waiting.postponed = ap (λ (w : Waiting C). w.postponed) same in
             record {
               agrees = agrees_arrived waiting after listed expiries k.agrees o event items next u;
@@ -283,8 +283,8 @@ module _ {C : Type 0} (waiting : Waiting C) (listed : List (Listed C)) (expiries
         pub expired_gone : has (place_numbers (without_slot number (with_next_seen waiting.postponed waiting.items))) number ≡ false
         expired_gone = slot_gone number (with_next_seen waiting.postponed waiting.items)
 
-        pub expired_below : number < waiting.next
-        expired_below = below_member waiting.next number (place_numbers waiting.items) k.agrees.ordered.below (unseen_number (slot.Expiry timer number) waiting.items u)
+        pub expired_below : number < waiting.next_number
+        expired_below = below_member waiting.next_number number (place_numbers waiting.items) k.agrees.ordered.below (unseen_number (slot.Expiry timer number) waiting.items u)
 
         module _ (middle after : Waiting C) (event : Event C) (p : IsOrdered middle) (o : IsOrdered after) (e : event ≡ timeout_event expired_running.0)
             (left : middle ≡ record waiting { items = without_slot number (with_next_seen waiting.postponed waiting.items) })
@@ -300,14 +300,14 @@ module _ {C : Type 0} (waiting : Waiting C) (listed : List (Listed C)) (expiries
 
           middle_agrees : Agrees middle (without_listed timer listed) (expiries - 1)
           middle_agrees =
-              let next : waiting.next ≤ middle.next = rw (ap (λ (w : Waiting C). w.next) left) (let self : waiting.next ≤ waiting.next = omega arith in self) in
+              let next : waiting.next_number ≤ middle.next_number = rw (ap (λ (w : Waiting C). w.next_number) left) (let self : waiting.next_number ≤ waiting.next_number = omega arith in self) in
               agrees_dropped waiting middle (without_listed timer listed) expiries (agrees_cancelled waiting listed expiries k.agrees timer) p timer number (expiries - 1) middle_items next u
               (dead_cancelled timer number listed) (omega (arith, expired_counted))
 
           pub expired_kept : IsKept after (without_listed timer listed) (expiries - 1)
           expired_kept =
               let items : after.items ≡ put_in middle.postponed (map Seen (map slot.Event (event ∷ []))) middle.items = ap (λ (w : Waiting C). w.items) same in
-              let next : middle.next ≤ after.next = rw (ap (λ (w : Waiting C). w.next) same) (let self : middle.next ≤ middle.next = omega arith in self) in
+              let next : middle.next_number ≤ after.next_number = rw (ap (λ (w : Waiting C). w.next_number) same) (let self : middle.next_number ≤ middle.next_number = omega arith in self) in
               let no_more : has (timeout_numbers (without_listed timer listed)) number ≡ false =
               rw (← expired_found.1) (number_no_more timer expired_running.0 listed k.agrees.distinct expired_found.0) in
               let free : has middle.postponed event.number ≡ false = rw expired_number (p.postponed_there number expired_free) in
@@ -333,7 +333,7 @@ module _ {C : Type 0} (waiting : Waiting C) (listed : List (Listed C)) (expiries
               let timers : expired_running.0.timer ≡ timer = found_timer timer expired_running.0 (all_of listed) expired_found.0 in
               let running : all_of (without_listed timer listed) ≡ without_running expired_running.0.timer (all_of listed) = all_of_without_listed timer listed ∙ ap (λ (one : Timer). without_running one (all_of listed)) (sym timers) in
               let postponed : after.postponed ≡ waiting.postponed = ap (λ (w : Waiting C). w.postponed) same ∙ ap (λ (w : Waiting C). w.postponed) left in
-              let next : after.next ≡ waiting.next = ap (λ (w : Waiting C). w.next) same ∙ ap (λ (w : Waiting C). w.next) left in
+              let next : after.next_number ≡ waiting.next_number = ap (λ (w : Waiting C). w.next_number) same ∙ ap (λ (w : Waiting C). w.next_number) left in
               rw (choice_is, expired_items, running, postponed, next) refl
 
           pub expired_first : option_map (λ (one : Event C). one.number) (first_received after.postponed (items_in (without_listed timer listed) after.items))

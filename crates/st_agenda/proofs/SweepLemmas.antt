@@ -65,7 +65,7 @@ module _ {C : Type 0} where
     swept_more after o e =
         let dead = unseen_dead in
         let items_are : after.items ≡ without_slot number (with_unseen_seen now.items) = ap (λ w. w.items) e ∙ (rw dead.1 refl) in
-        let more : now.next ≤ after.next = rw e (omega arith) in
+        let more : now.next_number ≤ after.next_number = rw e (omega arith) in
         record {
           agrees = agrees_dropped now after listed left s.agrees o dead.0 number (left - 1) items_are more dead.2 dead.3 (omega (arith, swept_left));
           same_items = rw items_are (items_without_dead listed dead.0 number now.items s.agrees.ordered.distinct dead.2 dead.3 ∙ s.same_items);
@@ -74,13 +74,13 @@ module _ {C : Type 0} where
 
   -- ---- an agenda, read part by part
   abbrev pub agenda_of : Waiting C → Timeouts C → Agenda C
-  agenda_of waiting timeouts = record { schedule = schedule_of waiting timeouts.listed; staged = waiting.staged; room = timeouts.room }
+  agenda_of waiting timeouts = record { schedule = schedule_of waiting timeouts.listed; staged = waiting.staged; reserved = timeouts.reserved }
 
-  pub agenda_is : (after : Waiting C) (timeouts : Timeouts C) (schedule : Schedule C) (staged room : ℕ)
+  pub agenda_is : (after : Waiting C) (timeouts : Timeouts C) (schedule : Schedule C) (staged reserved : ℕ)
       → items_in timeouts.listed after.items ≡ schedule.pending → after.postponed ≡ schedule.postponed
-      → all_of timeouts.listed ≡ schedule.running → after.next ≡ schedule.next → after.staged ≡ staged → timeouts.room ≡ room
-      → agenda_of after timeouts ≡ record { schedule = schedule; staged = staged; room = room }
-  agenda_is after timeouts schedule staged room i p r n s m = rw (i, p, r, n, s, m) refl
+      → all_of timeouts.listed ≡ schedule.running → after.next_number ≡ schedule.next_number → after.staged ≡ staged → timeouts.reserved ≡ reserved
+      → agenda_of after timeouts ≡ record { schedule = schedule; staged = staged; reserved = reserved }
+  agenda_is after timeouts schedule staged reserved i p r n s m = rw (i, p, r, n, s, m) refl
 
   -- a time-out is cancelled, and slots left that do not count
   pub cancelled_is : (old after : Waiting C) (timeouts now : Timeouts C) (timer : Timer) → now ≡ with_cancelled timeouts timer
@@ -88,13 +88,13 @@ module _ {C : Type 0} where
       → agenda_of after now ≡ record (agenda_of old timeouts) { schedule = cancelled_in (schedule_of old timeouts.listed) timer }
   cancelled_is old after timeouts now timer e same rest =
       let listed_are : now.listed ≡ without_listed timer timeouts.listed = ap (λ t. t.listed) e in
-      agenda_is after now (cancelled_in (schedule_of old timeouts.listed) timer) old.staged timeouts.room
+      agenda_is after now (cancelled_in (schedule_of old timeouts.listed) timer) old.staged timeouts.reserved
       (same ∙ ap (λ listed. items_in listed old.items) listed_are ∙ items_cancelled timeouts.listed timer old.items)
       (ap (λ w. w.postponed) rest)
       (ap all_of listed_are ∙ all_of_without_listed timer timeouts.listed)
-      (ap (λ w. w.next) rest)
+      (ap (λ w. w.next_number) rest)
       (ap (λ w. w.staged) rest)
-      (ap (λ t. t.room) e)
+      (ap (λ t. t.reserved) e)
 
   -- ---- the next event, which was received, is postponed or leaves
   number_by : (received : Option (Event C)) (seen : Option (Slot C)) (number : ℕ) → option_map slot.Event received ≡ seen
@@ -120,9 +120,9 @@ module _ {C : Type 0} where
     next_seen_already : with_next_seen old.postponed old.items ≡ old.items
     next_seen_already = let first = first_with_number in rw first.1 refl
 
-    pub put_off_disposes : (after : Waiting C) → after ≡ record old { items = with_next_seen old.postponed old.items; postponed = old.postponed ++ number ∷ [] }
+    pub postpone_disposes : (after : Waiting C) → after ≡ record old { items = with_next_seen old.postponed old.items; postponed = old.postponed ++ number ∷ [] }
         → after ≡ disposed old number true
-    put_off_disposes after e = rw next_seen_already at e
+    postpone_disposes after e = rw next_seen_already at e
 
     pub finish_disposes : (after : Waiting C) → after ≡ record old { items = without_slot number (with_next_seen old.postponed old.items) }
         → after ≡ disposed old number false
@@ -140,15 +140,15 @@ module _ {C : Type 0} where
         let first = first_with_number in
         rw (← first.2) (items_finished listed old.postponed first.0 old.items a.ordered.distinct a.events first.1)
 
-    pub disposed_is : (middle after : Waiting C) (room : ℕ) (postpone : Bool) → middle ≡ disposed old number postpone
+    pub disposed_is : (middle after : Waiting C) (reserved : ℕ) (postpone : Bool) → middle ≡ disposed old number postpone
         → items_in listed after.items ≡ items_in listed middle.items → after ≡ record middle { items = after.items }
-        → agenda_of after (record { listed = listed; room = room })
-        ≡ record (agenda_of old (record { listed = listed; room = room })) { schedule = disposed_in (schedule_of old listed) number postpone }
-    disposed_is middle after room postpone e same rest =
-        agenda_is after (record { listed = listed; room = room }) (disposed_in (schedule_of old listed) number postpone) old.staged room
+        → agenda_of after (record { listed = listed; reserved = reserved })
+        ≡ record (agenda_of old (record { listed = listed; reserved = reserved })) { schedule = disposed_in (schedule_of old listed) number postpone }
+    disposed_is middle after reserved postpone e same rest =
+        agenda_is after (record { listed = listed; reserved = reserved }) (disposed_in (schedule_of old listed) number postpone) old.staged reserved
         (same ∙ ap (λ (w : Waiting C). items_in listed w.items) e ∙ items_disposed postpone)
         (ap (λ w. w.postponed) rest ∙ ap (λ w. w.postponed) e) refl
-        (ap (λ w. w.next) rest ∙ ap (λ w. w.next) e) (ap (λ w. w.staged) rest ∙ ap (λ w. w.staged) e) refl
+        (ap (λ w. w.next_number) rest ∙ ap (λ w. w.next_number) e) (ap (λ w. w.staged) rest ∙ ap (λ w. w.staged) e) refl
 
   -- ---- none is postponed any more
   pub kept_retried : (old after : Waiting C) (listed : List (Listed C)) (expiries : ℕ) → IsKept old listed expiries → IsOrdered after
@@ -177,37 +177,37 @@ module _ {C : Type 0} where
 
   module _ (old after : Waiting C) (listed : List (Listed C)) (expiries : ℕ) (k : IsKept old listed expiries) where
     module _ (inserts : List (Insert C)) (e : after ≡ record old {
-      items = put_in old.postponed (map Seen (inserted_slots old.next inserts)) old.items;
-      next = old.next + length inserts;
+      items = put_in old.postponed (map Seen (inserted_slots old.next_number inserts)) old.items;
+      next_number = old.next_number + length inserts;
       staged = old.staged - length inserts;
     }) where
-      put_numbered : after.items ≡ put_in old.postponed (map Seen (map slot.Event (numbered old.next inserts))) old.items
-      put_numbered = ap (λ w. w.items) e ∙ ap (λ slots. put_in old.postponed (map Seen slots) old.items) (slots_numbered old.next inserts)
+      put_numbered : after.items ≡ put_in old.postponed (map Seen (map slot.Event (numbered old.next_number inserts))) old.items
+      put_numbered = ap (λ w. w.items) e ∙ ap (λ slots. put_in old.postponed (map Seen slots) old.items) (slots_numbered old.next_number inserts)
 
-      next_free : has old.postponed old.next ≡ false
-      next_free = k.agrees.ordered.postponed_there old.next (has_below old.next old.next (place_numbers old.items) k.agrees.ordered.below (omega arith))
+      next_free : has old.postponed old.next_number ≡ false
+      next_free = k.agrees.ordered.postponed_there old.next_number (has_below old.next_number old.next_number (place_numbers old.items) k.agrees.ordered.below (omega arith))
 
       pub kept_inserted : IsOrdered after → IsKept after listed expiries
       kept_inserted o = record {
-        agrees = agrees_put old after listed expiries k.agrees o old.postponed (numbered old.next inserts) put_numbered (rw e (omega arith))
-            (λ number h. numbered_free number old.next inserts (below_member old.next number (timeout_numbers listed) k.agrees.below h));
+        agrees = agrees_put old after listed expiries k.agrees o old.postponed (numbered old.next_number inserts) put_numbered (rw e (omega arith))
+            (λ number h. numbered_free number old.next_number inserts (below_member old.next_number number (timeout_numbers listed) k.agrees.below h));
         alive = rw (put_numbered, ap (λ w. w.postponed) e)
-            (alive_put_in listed old.postponed (numbered old.next inserts) old.items
-            (λ event rest same. rw (first_numbered old.next inserts event rest same) next_free) k.alive);
+            (alive_put_in listed old.postponed (numbered old.next_number inserts) old.items
+            (λ event rest same. rw (first_numbered old.next_number inserts event rest same) next_free) k.alive);
       }
 
-      pub inserted_is : (room : ℕ) → agenda_of after (record { listed = listed; room = room })
-          ≡ record { schedule = inserted_in (schedule_of old listed) inserts; staged = old.staged - length inserts; room = room }
-      inserted_is room =
-          agenda_is after (record { listed = listed; room = room }) (inserted_in (schedule_of old listed) inserts) (old.staged - length inserts) room
+      pub inserted_is : (reserved : ℕ) → agenda_of after (record { listed = listed; reserved = reserved })
+          ≡ record { schedule = inserted_in (schedule_of old listed) inserts; staged = old.staged - length inserts; reserved = reserved }
+      inserted_is reserved =
+          agenda_is after (record { listed = listed; reserved = reserved }) (inserted_in (schedule_of old listed) inserts) (old.staged - length inserts) reserved
           (ap (λ places. items_in listed places) put_numbered
-          ∙ items_put_in listed old.postponed (numbered old.next inserts) old.items k.agrees.events k.agrees.ordered.seen_first)
-          (ap (λ w. w.postponed) e) refl (ap (λ w. w.next) e) (ap (λ w. w.staged) e) refl
+          ∙ items_put_in listed old.postponed (numbered old.next_number inserts) old.items k.agrees.events k.agrees.ordered.seen_first)
+          (ap (λ w. w.postponed) e) refl (ap (λ w. w.next_number) e) (ap (λ w. w.staged) e) refl
 
     -- ---- a posted event comes
-    module _ (event : Event C) (number_is : event.number ≡ old.next) where
+    module _ (event : Event C) (number_is : event.number ≡ old.next_number) where
       abbrev pub pushed : Waiting C
-      pushed = record old { items = old.items ++ Unseen (slot.Event event) ∷ []; next = old.next + 1 }
+      pushed = record old { items = old.items ++ Unseen (slot.Event event) ∷ []; next_number = old.next_number + 1 }
 
       kept_posted : IsOrdered after → after ≡ pushed → IsKept after listed expiries
       kept_posted o e = record {
@@ -221,7 +221,7 @@ module _ {C : Type 0} where
       kept_pushed (Err error) e u o = rw u k
 
       pub pushed_is : after ≡ pushed
-          → schedule_of after listed ≡ record (schedule_of old listed) { pending = items_in listed old.items ++ Posted event ∷ []; next = old.next + 1 }
+          → schedule_of after listed ≡ record (schedule_of old listed) { pending = items_in listed old.items ++ Posted event ∷ []; next_number = old.next_number + 1 }
       pushed_is e = rw (e, items_posted listed event old.items) refl
 
 -- the event that was taken up is still the first received one, where an expiry is cancelled
@@ -231,6 +231,6 @@ pub next_received : {C : Type 0} (postponed : List ℕ) (items : List (Item C)) 
 next_received postponed items next number first is = rw (first_cancelled postponed timer.Event items) (first ∙ is)
 
 -- a state change takes no number
-pub retried_next : {C : Type 0} (schedule : Schedule C) (changed : Bool) → (retried_in schedule changed).next ≡ schedule.next
+pub retried_next : {C : Type 0} (schedule : Schedule C) (changed : Bool) → (retried_in schedule changed).next_number ≡ schedule.next_number
 retried_next schedule true = refl
 retried_next schedule false = refl

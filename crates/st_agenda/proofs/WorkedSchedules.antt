@@ -35,7 +35,7 @@ abbrev one_insert : Insert ℕ
 one_insert = record { kind = Internal; content = 20 }
 
 abbrev schedule : List (Item ℕ) → List ℕ → List (Running ℕ) → ℕ → Schedule ℕ
-schedule pending postponed running next = record { pending = pending; postponed = postponed; running = running; next = next }
+schedule pending postponed running next = record { pending = pending; postponed = postponed; running = running; next_number = next }
 
 -- ---- two time-outs of no length: the first that was requested comes, and it cancels the event time-out
 zero_set : settled_in 0 (schedule (Posted (cast 1) ∷ []) [] [] 2) 1 false false [] (set timer.State (After 0) ∷ set timer.Event (After 0) ∷ [])

@@ -26,13 +26,13 @@ pub record Schedule (C : Type 0) : Type 0 where
   pub pending : List (Item C)
   pub postponed : List ℕ
   pub running : List (Running C)
-  pub next : ℕ
+  pub next_number : ℕ
 
 -- a schedule, and how many events and time-outs more can come in without memory
 pub record Agenda (C : Type 0) : Type 0 where
   pub schedule : Schedule C
   pub staged : ℕ
-  pub room : ℕ
+  pub reserved : ℕ
 
 -- all of them but the first
 abbrev pub all_but_first : {X : Type 0} → List X → List X
@@ -59,7 +59,7 @@ module _ {C : Type 0} where
     pending = items_in listed waiting.items;
     postponed = waiting.postponed;
     running = all_of listed;
-    next = waiting.next;
+    next_number = waiting.next_number;
   }
 
   -- the numbers of the events of time-outs
@@ -109,7 +109,7 @@ module _ {C : Type 0} where
     pub events : SeenEvents waiting.items
     pub one_each : OneEach (all_of listed)
     pub distinct : Distinct (timeout_numbers listed)
-    pub below : AreBelow waiting.next (timeout_numbers listed)
+    pub below : AreBelow waiting.next_number (timeout_numbers listed)
     pub marked : AreMarked listed waiting.items
     pub counted : expiries ≡ expiries_in waiting.items
 
@@ -185,16 +185,16 @@ module _ {C : Type 0} where
   -- events come in before the first that is not postponed, with the next numbers
   abbrev pub inserted_in : Schedule C → List (Insert C) → Schedule C
   inserted_in schedule inserts = record schedule {
-    pending = placed schedule.postponed (map Received (numbered schedule.next inserts)) schedule.pending;
-    next = schedule.next + length inserts;
+    pending = placed schedule.postponed (map Received (numbered schedule.next_number inserts)) schedule.pending;
+    next_number = schedule.next_number + length inserts;
   }
 
   -- a time-out begins to run at a moment
   abbrev pub begun_in : ℕ → Schedule C → Timer → Time → C → Schedule C
   begun_in now schedule timer Infinity content = schedule
   begun_in now schedule timer (After time) content = record schedule {
-    running = schedule.running ++ record { timer = timer; number = schedule.next; due = due_after time now; content = content } ∷ [];
-    next = schedule.next + 1;
+    running = schedule.running ++ record { timer = timer; number = schedule.next_number; due = due_after time now; content = content } ∷ [];
+    next_number = schedule.next_number + 1;
   }
 
   -- a request is done at a moment
@@ -206,9 +206,14 @@ module _ {C : Type 0} where
   all_set_in now schedule [] = schedule
   all_set_in now schedule (setting ∷ settings) = all_set_in now (set_in now schedule setting) settings
 
-  -- the steps of a transition, at a moment, on what waits and what runs
+  -- the steps of a transition, at a moment, on what waits and what runs, in the manual's order: the event is
+  -- received; the event time-out is cancelled; the event is postponed or finished; at a state change the
+  -- postponed events are retried; events are inserted; timers are set
   abbrev pub settled_in : ℕ → Schedule C → ℕ → Bool → Bool → List (Insert C) → List (Setting C) → Schedule C
   settled_in now schedule number postpone changed inserts settings =
-      all_set_in now
-      (inserted_in (retried_in (disposed_in (cancelled_in (received_in schedule) timer.Event) number postpone) changed) inserts)
-      settings
+      let received = received_in schedule in
+      let cancelled = cancelled_in received timer.Event in
+      let disposed = disposed_in cancelled number postpone in
+      let retried = retried_in disposed changed in
+      let inserted = inserted_in retried inserts in
+      all_set_in now inserted settings

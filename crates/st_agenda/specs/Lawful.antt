@@ -69,6 +69,6 @@ module _ {C : Type 0} where
     pub postponed_first : PostponedFirst schedule.postponed schedule.pending
     pub one_each : OneEach schedule.running
     pub distinct : (number : ℕ) → times number (live_numbers schedule) ≤ 1
-    pub below : (number : ℕ) → schedule.next ≤ number → times number (live_numbers schedule) ≡ 0
+    pub below : (number : ℕ) → schedule.next_number ≤ number → times number (live_numbers schedule) ≡ 0
     pub expiries : ExpiriesDue latest schedule.running schedule.pending
-    pub bounded : schedule.next ≤ 2 ^ 63
+    pub bounded : schedule.next_number ≤ 2 ^ 63

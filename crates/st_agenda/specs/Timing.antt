@@ -1,5 +1,6 @@
--- Requests to set timers, and time-outs that expire.
-use Rattle.std.specs.Prelude.{ℕ, ◌+◌, Bool, false, not, ◌||◌, ◌&&◌, List, [], ◌∷◌, filter}
+-- Timers that are to be set, the numbers that a transition takes, and time-outs that expire.
+use Rattle.std.specs.Prelude.{ℕ, ◌+◌, ◌^◌, Bool, false, not, ◌||◌, ◌&&◌, List, [], ◌∷◌, filter, length, nat_le}
+use Rattle.st_events.specs.declared.insert.Insert.{Insert}
 use Rattle.st_events.specs.declared.setting.Setting.{Setting}
 use Rattle.st_events.specs.declared.time.Time.{Time}
 use Rattle.st_events.specs.declared.time.Time.TheVariants.{After, Infinity}
@@ -8,7 +9,7 @@ use Rattle.st_events.specs.Timers.{same_timer}
 use Rattle.st_timeouts.specs.Running.{Running, is_due_by, in_order}
 use Rattle.st_agenda.specs.Item.{Item, Received, Posted, Expiry}
 
--- how many numbers a request takes: one where a time-out begins
+-- how many numbers a setting takes: one where a time-out begins
 abbrev pub number_taken : Time → ℕ
 number_taken Infinity = 0
 number_taken (After time) = 1
@@ -29,10 +30,15 @@ module _ {C : Type 0} where
   expiry_waits timer [] = false
   expiry_waits timer (item ∷ items) = is_expiry timer item || expiry_waits timer items
 
-  -- how many numbers requests take
+  -- how many numbers settings take
   abbrev pub numbers_taken : List (Setting C) → ℕ
   numbers_taken [] = 0
   numbers_taken (setting ∷ settings) = number_taken setting.time + numbers_taken settings
+
+  -- whether there are numbers enough, from the next one on, for events that are inserted and for the
+  -- time-outs that begin
+  abbrev pub has_numbers : ℕ → List (Insert C) → List (Setting C) → Bool
+  has_numbers next inserts settings = nat_le (next + (length inserts + numbers_taken settings)) (2 ^ 63)
 
   -- the time-outs that expire by a moment: they are due, and their expiry does not wait yet; by the
   -- moment at which they are due, and then by number

@@ -9,13 +9,14 @@ ghost use Rattle.st_agenda.specs.Items.{events_in, first_received};
 ghost use Rattle.st_agenda.specs.Item.{Posted};
 ghost use Rattle.st_events.specs.declared.kind.Kind.TheVariants.{Timeout};
 ghost use Rattle.st_events.specs.declared.time.Time.TheVariants.{After};
-ghost use Rattle.st_agenda.specs.Timing.{expiring_by, number_taken, numbers_taken};
+ghost use Rattle.st_agenda.specs.Timing.{expiring_by, has_numbers, number_taken, numbers_taken};
 ghost use Rattle.st_agenda.specs.Waiting.{next_of};
 ghost use Rattle.st_agenda.specs.Agenda.{Agrees, IsAlive, items_in, next_in, zero_in, received_in, cancelled_in, disposed_in, retried_in, inserted_in, begun_in, set_in, all_set_in, settled_in, name_of_event, shown_timers, dead_at, with_first_expiry, all_but_first, with_all_expired};
 
+use crate::numbers::numbers_taken;
 use crate::pending::Pending;
 use crate::slot::Slot;
-use st_events::{Event, Inserts, Kind, PlainList, Setting, Settings, Time, Timer};
+use st_events::{Event, Inserts, Kind, NUMBER_LIMIT, PlainList, Setting, Settings, Time, Timer};
 use st_timeouts::{Due, Timeouts};
 use std::alloc::{AllocError, AllocFailed, Global};
 use std::marker::Model;
@@ -40,7 +41,7 @@ impl<C> Model for Agenda<C> {
     ghost view = { λ agenda. record {
       schedule = schedule_of agenda.pending agenda.timeouts.listed;
       staged = agenda.pending.staged;
-      room = agenda.timeouts.room;
+      reserved = agenda.timeouts.reserved;
     } };
 
     ghost invariant = { λ agenda. IsKept agenda.pending agenda.timeouts.listed agenda.expiries };
@@ -53,9 +54,9 @@ impl<C> Agenda<C> {
     pub fn new(alloc: Global, first: u64) -> Agenda<C>
         requires { first ≤ 2 ^ 63 }
         ensures { result ≡ record {
-          schedule = record { pending = []; postponed = []; running = []; next = first };
+          schedule = record { pending = []; postponed = []; running = []; next_number = first };
           staged = 0;
-          room = 0;
+          reserved = 0;
         } }
     {
         Agenda {
@@ -121,11 +122,23 @@ impl<C> Agenda<C> {
     /// The number that the next event gets.
     ///
     /// Ours: docs/DECISIONS.md, Numbers of events.
-    pub fn next(&self) -> u64
-        ensures next { result ≡ self.now.schedule.next }
+    pub fn next_number(&self) -> u64
+        ensures next_number { result ≡ self.now.schedule.next_number }
         ensures bounded { result ≤ 2 ^ 63 }
     {
-        self.pending.next()
+        self.pending.next_number()
+    }
+
+    /// Says whether there are numbers enough for events that are inserted and for the time-outs that begin.
+    /// It takes no memory.
+    ///
+    /// Ours: docs/DECISIONS.md, Numbers of events.
+    pub fn has_numbers(&self, inserts: &Inserts<C>, settings: &Settings<C>) -> bool
+        ensures { result ≡ has_numbers self.now.schedule.next_number inserts.now settings.now }
+    {
+        let left = NUMBER_LIMIT - self.next_number();
+        let inserts = inserts.len() as u64;
+        inserts <= left && numbers_taken(settings) as u64 <= left - inserts
     }
 
     /// The running time-outs in the order of their requests: timer, number of the event, when it is due.
@@ -153,11 +166,11 @@ impl<C: Drop> Agenda<C> {
     /// Where memory is wanted and there is none, nothing changes and the content comes back.
     /// Manual: `event_type()`, `cast/2`.
     pub fn push(&mut self, kind: Kind, content: C) -> Result<u64, AllocFailed<C>>
-        requires { self.old.schedule.next < 2 ^ 63 }
-        ensures number { IfOk result (λ number. number ≡ self.old.schedule.next) }
+        requires { self.old.schedule.next_number < 2 ^ 63 }
+        ensures number { IfOk result (λ number. number ≡ self.old.schedule.next_number) }
         ensures pushed { OnOk result (self.new.schedule ≡ record self.old.schedule {
-          pending = self.old.schedule.pending ++ Posted (record { number = self.old.schedule.next; kind = kind; content = content }) ∷ [];
-          next = self.old.schedule.next + 1;
+          pending = self.old.schedule.pending ++ Posted (record { number = self.old.schedule.next_number; kind = kind; content = content }) ∷ [];
+          next_number = self.old.schedule.next_number + 1;
         }) }
 
         ensures unchanged { OnErr result (self.new ≡ self.old) }
@@ -183,7 +196,7 @@ impl<C: Drop> Agenda<C> {
     ///
     /// Where memory is wanted and there is none, nothing changes. Ours: docs/DECISIONS.md, Choices in the code.
     pub fn reserve(&mut self, count: usize) -> Result<(), AllocError>
-        ensures reserved { OnOk result (self.new ≡ record self.old { room = max self.old.room count }) }
+        ensures reserved { OnOk result (self.new ≡ record self.old { reserved = max self.old.reserved count }) }
 
         ensures unchanged { OnErr result (self.new ≡ self.old) }
     {
@@ -195,10 +208,10 @@ impl<C: Drop> Agenda<C> {
     ///
     /// Where memory is wanted and there is none, nothing that waits or runs changes. Ours:
     /// docs/DECISIONS.md, Choices in the code.
-    pub fn make_room(&mut self, inserts: usize, timers: usize) -> Result<(), AllocError>
+    pub fn reserve_for(&mut self, inserts: usize, timers: usize) -> Result<(), AllocError>
         requires { inserts ≤ 2 ^ 63 }
         ensures staged { OnOk result (inserts + 1 ≤ self.new.staged) }
-        ensures room { OnOk result (timers ≤ self.new.room) }
+        ensures reserved { OnOk result (timers ≤ self.new.reserved) }
         ensures unchanged { self.new.schedule ≡ self.old.schedule }
     {
         self.stage(inserts + 1)?;
@@ -231,29 +244,29 @@ impl<C: Drop> Agenda<C> {
         postpone: bool,
         changed: bool,
         inserts: Inserts<C>,
-        requests: Settings<C>,
+        settings: Settings<C>,
     )
         requires inserts_fit { InsertsFit C.row }
         requires settings_fit { SettingsFit C.row }
         requires moment { now < 2 ^ 63 }
         requires number_is { option_map (λ event. event.number) (next_in self.old.schedule) ≡ Some number }
         requires staged { length inserts + 1 ≤ self.old.staged }
-        requires room { length requests ≤ self.old.room }
-        requires numbers { self.old.schedule.next + (length inserts + numbers_taken requests) ≤ 2 ^ 63 }
-        ensures { self.new.schedule ≡ settled_in now self.old.schedule number postpone changed inserts requests }
+        requires reserved { length settings ≤ self.old.reserved }
+        requires numbers { self.old.schedule.next_number + (length inserts + numbers_taken settings) ≤ 2 ^ 63 }
+        ensures { self.new.schedule ≡ settled_in now self.old.schedule number postpone changed inserts settings }
     {
         self.receive();
         self.cancel(Timer::Event);
         self.dispose(number, postpone);
         self.retry(changed);
         self.insert(inserts);
-        self.set_all(now, requests);
+        self.set_all(now, settings);
     }
 
     /// The next time-out that is due by a moment, in milliseconds, expires.
     fn expire_next(&mut self, now: u64)
         requires due { 0 < length (expiring_by now self.old.schedule.pending self.old.schedule.running) }
-        requires room { 0 < self.old.staged }
+        requires reserved { 0 < self.old.staged }
         ensures schedule { self.new.schedule ≡ with_first_expiry (expiring_by now self.old.schedule.pending self.old.schedule.running) self.old.schedule }
         ensures rest { expiring_by now self.new.schedule.pending self.new.schedule.running ≡ all_but_first (expiring_by now self.old.schedule.pending self.old.schedule.running) }
         ensures staged { self.new.staged + 1 ≡ self.old.staged }
@@ -273,7 +286,7 @@ impl<C: Drop> Agenda<C> {
         ensures schedule { self.new.schedule ≡ received_in self.old.schedule }
         ensures first { option_map (λ event. event.number) (first_received self.new.schedule.postponed self.new.schedule.pending) ≡ option_map (λ event. event.number) (next_in self.old.schedule) }
         ensures staged { self.old.staged ≤ self.new.staged + 1 }
-        ensures room { self.new.room ≡ self.old.room }
+        ensures reserved { self.new.reserved ≡ self.old.reserved }
     {
         if self.pending.was_received() {
             return;
@@ -322,7 +335,7 @@ impl<C: Drop> Agenda<C> {
         ensures { self.new ≡ record self.old { schedule = disposed_in self.old.schedule number postpone } }
     {
         if postpone {
-            self.pending.put_off(number);
+            self.pending.postpone(number);
         } else {
             self.pending.finish(number);
         }
@@ -353,8 +366,8 @@ impl<C: Drop> Agenda<C> {
     ///
     /// Manual: `action()`, the bullet on `next_event`.
     pub fn insert(&mut self, inserts: Inserts<C>)
-        requires room { length inserts ≤ self.old.staged }
-        requires numbers { self.old.schedule.next + length inserts ≤ 2 ^ 63 }
+        requires reserved { length inserts ≤ self.old.staged }
+        requires numbers { self.old.schedule.next_number + length inserts ≤ 2 ^ 63 }
         ensures { self.new ≡ record self.old {
           schedule = inserted_in self.old.schedule inserts;
           staged = self.old.staged - length inserts;
@@ -367,14 +380,14 @@ impl<C: Drop> Agenda<C> {
     /// Sets or stops timers at a moment, in milliseconds, in their order. It takes no memory.
     ///
     /// Manual: `timeout_action()`.
-    pub fn set_all(&mut self, now: u64, requests: Settings<C>)
+    pub fn set_all(&mut self, now: u64, settings: Settings<C>)
         requires settings_fit { SettingsFit C.row }
         requires moment { now < 2 ^ 63 }
-        requires room { length requests ≤ self.old.room }
-        requires numbers { self.old.schedule.next + numbers_taken requests ≤ 2 ^ 63 }
-        ensures { self.new.schedule ≡ all_set_in now self.old.schedule requests }
+        requires reserved { length settings ≤ self.old.reserved }
+        requires numbers { self.old.schedule.next_number + numbers_taken settings ≤ 2 ^ 63 }
+        ensures { self.new.schedule ≡ all_set_in now self.old.schedule settings }
     {
-        let mut left = requests;
+        let mut left = settings;
         left.reverse();
         while let Some(setting) = left.pop() {
             self.set(now, setting);
@@ -384,10 +397,10 @@ impl<C: Drop> Agenda<C> {
     /// Sets or stops a timer at a moment, in milliseconds: what ran of it is cancelled first.
     fn set(&mut self, now: u64, setting: Setting<C>)
         requires moment { now < 2 ^ 63 }
-        requires room { 0 < self.old.room }
-        requires numbers { self.old.schedule.next + number_taken setting.time ≤ 2 ^ 63 }
+        requires reserved { 0 < self.old.reserved }
+        requires numbers { self.old.schedule.next_number + number_taken setting.time ≤ 2 ^ 63 }
         ensures schedule { self.new.schedule ≡ set_in now self.old.schedule setting }
-        ensures room { self.old.room ≤ self.new.room + 1 }
+        ensures reserved { self.old.reserved ≤ self.new.reserved + 1 }
     {
         let Setting {
             timer,
@@ -405,10 +418,10 @@ impl<C: Drop> Agenda<C> {
     fn begin(&mut self, now: u64, timer: Timer, time: u32, content: C)
         requires moment { now < 2 ^ 63 }
         requires stopped { running_of timer self.old.schedule.running ≡ None }
-        requires room { 0 < self.old.room }
-        requires numbers { self.old.schedule.next < 2 ^ 63 }
+        requires reserved { 0 < self.old.reserved }
+        requires numbers { self.old.schedule.next_number < 2 ^ 63 }
         ensures schedule { self.new.schedule ≡ begun_in now self.old.schedule timer (After time) content }
-        ensures room { self.old.room ≤ self.new.room + 1 }
+        ensures reserved { self.old.reserved ≤ self.new.reserved + 1 }
     {
         let number = self.pending.take_number();
         self.pending.in_order();

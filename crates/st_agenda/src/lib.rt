@@ -3,6 +3,7 @@
 #![tactic(auto)]
 
 mod agenda;
+mod numbers;
 mod pending;
 mod slot;
 #[cfg(test)]

@@ -19,7 +19,7 @@ pub(crate) struct Pending<C> {
     // How many slots were received. The cursor stands among them or behind the last one.
     received: usize,
     // The number that the next event gets.
-    next: u64,
+    next_number: u64,
 }
 
 impl<C> Model for Pending<C> {
@@ -30,23 +30,23 @@ impl<C> Model for Pending<C> {
     ghost view = { λ pending. record {
       items = places_of pending.received pending.queue.items;
       postponed = postponed_of pending.queue.cursor pending.queue.items;
-      next = pending.next;
+      next_number = pending.next_number;
       staged = pending.queue.staged;
     } };
 
-    ghost invariant = { λ pending. IsSound pending.queue pending.received pending.next };
+    ghost invariant = { λ pending. IsSound pending.queue pending.received pending.next_number };
 }
 
 impl<C> Pending<C> {
     /// No event, and the number that the first one gets. It takes no memory.
     pub(crate) fn new(alloc: Global, first: u64) -> Pending<C>
         requires { first ≤ 2 ^ 63 }
-        ensures { result ≡ record { items = []; postponed = []; next = first; staged = 0 } }
+        ensures { result ≡ record { items = []; postponed = []; next_number = first; staged = 0 } }
     {
         Pending {
             queue: EventQueue::new(alloc),
             received: 0,
-            next: first,
+            next_number: first,
         }
     }
 
@@ -72,11 +72,11 @@ impl<C> Pending<C> {
     }
 
     /// The number that the next event gets.
-    pub(crate) fn next(&self) -> u64
-        ensures next { result ≡ self.now.next }
+    pub(crate) fn next_number(&self) -> u64
+        ensures next_number { result ≡ self.now.next_number }
         ensures bounded { result ≤ 2 ^ 63 }
     {
-        self.next
+        self.next_number
     }
 
     /// A law, which does nothing: what waits is in order.
@@ -105,12 +105,12 @@ impl<C> Pending<C> {
 
     /// A number is taken by the event of a time-out.
     pub(crate) fn take_number(&mut self) -> u64
-        requires { self.old.next < 2 ^ 63 }
-        ensures number { result ≡ self.old.next }
-        ensures taken { self.new ≡ record self.old { next = self.old.next + 1 } }
+        requires { self.old.next_number < 2 ^ 63 }
+        ensures number { result ≡ self.old.next_number }
+        ensures taken { self.new ≡ record self.old { next_number = self.old.next_number + 1 } }
     {
-        let number = self.next;
-        self.next += 1;
+        let number = self.next_number;
+        self.next_number += 1;
         number
     }
 }
@@ -118,17 +118,17 @@ impl<C> Pending<C> {
 impl<C: Drop> Pending<C> {
     /// Puts a posted event behind all others, and answers its number.
     pub(crate) fn push(&mut self, kind: Kind, content: C) -> Result<u64, AllocFailed<C>>
-        requires { self.old.next < 2 ^ 63 }
-        ensures number { IfOk result (λ number. number ≡ self.old.next) }
+        requires { self.old.next_number < 2 ^ 63 }
+        ensures number { IfOk result (λ number. number ≡ self.old.next_number) }
         ensures pushed { OnOk result (self.new ≡ record self.old {
-          items = self.old.items ++ Unseen (slot.Event (record { number = self.old.next; kind = kind; content = content })) ∷ [];
-          next = self.old.next + 1;
+          items = self.old.items ++ Unseen (slot.Event (record { number = self.old.next_number; kind = kind; content = content })) ∷ [];
+          next_number = self.old.next_number + 1;
         }) }
 
         ensures unchanged { OnErr result (self.new ≡ self.old) }
         ensures value_returned { IfErr result (λ failed. failed.value ≡ content) }
     {
-        let number = self.next;
+        let number = self.next_number;
         let event = Event {
             number,
             kind,
@@ -136,7 +136,7 @@ impl<C: Drop> Pending<C> {
         };
         match self.queue.push_back(Slot::Event(event)) {
             Ok(()) => {
-                self.next += 1;
+                self.next_number += 1;
                 Ok(number)
             }
             Err(failed) => Err(AllocFailed {
@@ -157,28 +157,28 @@ impl<C: Drop> Pending<C> {
     /// Puts events in before the first one that is not postponed, in order, with the next numbers.
     /// They are received. It takes no memory.
     pub(crate) fn insert(&mut self, inserts: Inserts<C>)
-        requires room { length inserts ≤ self.old.staged }
-        requires numbers { self.old.next + length inserts ≤ 2 ^ 63 }
+        requires reserved { length inserts ≤ self.old.staged }
+        requires numbers { self.old.next_number + length inserts ≤ 2 ^ 63 }
         ensures { self.new ≡ record self.old {
-          items = put_in self.old.postponed (map Seen (inserted_slots self.old.next inserts)) self.old.items;
-          next = self.old.next + length inserts;
+          items = put_in self.old.postponed (map Seen (inserted_slots self.old.next_number inserts)) self.old.items;
+          next_number = self.old.next_number + length inserts;
           staged = self.old.staged - length inserts;
         } }
     {
         let count = inserts.len();
         prove!(self.queue.before() <= self.queue.len());
-        insert_at_cursor(&mut self.queue, inserts, self.next);
+        insert_at_cursor(&mut self.queue, inserts, self.next_number);
         prove!(count <= self.queue.len() - self.received);
         self.received += count;
-        self.next += count as u64;
+        self.next_number += count as u64;
     }
 
     /// Puts the event of a time-out in before the first one that is not postponed. It is received, and
     /// has its number already. It takes no memory.
     pub(crate) fn put_in(&mut self, event: Event<C>)
-        requires room { 0 < self.old.staged }
+        requires reserved { 0 < self.old.staged }
         requires free { has (place_numbers self.old.items) event.number ≡ false }
-        requires below { event.number < self.old.next }
+        requires below { event.number < self.old.next_number }
         ensures { self.new ≡ record self.old {
           items = put_in self.old.postponed (Seen (slot.Event event) ∷ []) self.old.items;
           staged = self.old.staged - 1;
@@ -191,9 +191,9 @@ impl<C: Drop> Pending<C> {
 
     /// Puts an expiry behind all others. It takes no memory.
     pub(crate) fn push_expiry(&mut self, timer: Timer, number: u64)
-        requires room { 0 < self.old.staged }
+        requires reserved { 0 < self.old.staged }
         requires free { has (place_numbers self.old.items) number ≡ false }
-        requires below { number < self.old.next }
+        requires below { number < self.old.next_number }
         ensures { self.new ≡ record self.old {
           items = self.old.items ++ Unseen (slot.Expiry timer number) ∷ [];
           staged = self.old.staged - 1;
@@ -203,7 +203,7 @@ impl<C: Drop> Pending<C> {
     }
 
     /// The next slot is received, and its event postponed.
-    pub(crate) fn put_off(&mut self, number: u64)
+    pub(crate) fn postpone(&mut self, number: u64)
         requires { next_number_of self.old.postponed self.old.items ≡ Some number }
         ensures { self.new ≡ record self.old {
           items = with_next_seen self.old.postponed self.old.items;
@@ -229,7 +229,7 @@ impl<C: Drop> Pending<C> {
 /// Puts events in at the cursor, in order, with numbers from this one on.
 fn insert_at_cursor<C: Drop>(queue: &mut EventQueue<Slot<C>>, inserts: Inserts<C>, first: u64)
     requires within { queue.old.cursor ≤ length queue.old.items }
-    requires room { length inserts ≤ queue.old.staged }
+    requires reserved { length inserts ≤ queue.old.staged }
     requires numbers { first + length inserts ≤ 2 ^ 63 }
     ensures { queue.new ≡ record queue.old {
       items = inserted_at queue.old.items queue.old.cursor (inserted_slots first inserts);

@@ -24,7 +24,7 @@ fn readable(agenda: &Agenda<u64>) -> (Option<(u64, Kind)>, Option<u64>, usize, u
         agenda.next_event(),
         agenda.next_content().copied(),
         agenda.waiting(),
-        agenda.next(),
+        agenda.next_number(),
         agenda.count_due(u64::MAX),
     )
 }
@@ -68,7 +68,7 @@ fn nothing_comes(rt: &impl Abort, agenda: &Agenda<u64>, waiting: usize) {
 /// Posts a cast. Where memory was refused, nothing has changed, the content comes back, and it is
 /// posted again.
 fn push(rt: &impl Abort, agenda: &mut Agenda<u64>, content: u64, number: u64) {
-    assert!(rt; agenda.next() < 1_000);
+    assert!(rt; agenda.next_number() < 1_000);
     let (before, running) = (readable(agenda), listed(rt, agenda));
     match agenda.push(Kind::Cast, content) {
         Ok(given) => assert_eq!(rt; given, number),
@@ -86,19 +86,19 @@ fn push(rt: &impl Abort, agenda: &mut Agenda<u64>, content: u64, number: u64) {
 
 /// Makes room for inserted events and timers. Where memory was refused, nothing has changed, and it is
 /// made again.
-fn make_room(rt: &impl Abort, agenda: &mut Agenda<u64>, inserts: usize, timers: usize)
+fn reserve_for(rt: &impl Abort, agenda: &mut Agenda<u64>, inserts: usize, timers: usize)
     requires { inserts ≤ 100 }
     ensures staged { inserts + 1 ≤ agenda.new.staged }
-    ensures room { timers ≤ agenda.new.room }
+    ensures reserved { timers ≤ agenda.new.reserved }
     ensures unchanged { agenda.new.schedule ≡ agenda.old.schedule }
 {
     let (before, running) = (readable(agenda), listed(rt, agenda));
-    if agenda.make_room(inserts, timers).is_ok() {
+    if agenda.reserve_for(inserts, timers).is_ok() {
         return;
     }
-    assert!(rt; readable(agenda) == before, "refused room");
+    assert!(rt; readable(agenda) == before, "refused reserved");
     run(rt, agenda, running.as_slice());
-    if agenda.make_room(inserts, timers).is_err() {
+    if agenda.reserve_for(inserts, timers).is_err() {
         panic!(rt; "one allocation alone is refused");
     }
 }
@@ -113,14 +113,14 @@ fn settle(
     postpone: bool,
     changed: bool,
     inserts: Inserts<u64>,
-    requests: Settings<u64>,
+    settings: Settings<u64>,
 ) {
     let Some((next, _)) = agenda.next_event() else {
         panic!(rt; "an event comes next")
     };
     assert_eq!(rt; next, number);
-    let (events, timers) = (inserts.len(), requests.len());
-    let first = agenda.next();
+    let (events, timers) = (inserts.len(), settings.len());
+    let first = agenda.next_number();
     if events > 100 {
         panic!(rt; "there are few events");
     }
@@ -130,8 +130,8 @@ fn settle(
     if first > 1_000 {
         panic!(rt; "the numbers are low");
     }
-    make_room(rt, agenda, events, timers);
-    agenda.settle(now as u64, next, postpone, changed, inserts, requests);
+    reserve_for(rt, agenda, events, timers);
+    agenda.settle(now as u64, next, postpone, changed, inserts, settings);
 }
 
 /// Time passes to a moment, and so many time-outs expire.
@@ -139,7 +139,7 @@ fn tick(rt: &impl Abort, agenda: &mut Agenda<u64>, now: u32, expired: usize) {
     let count = agenda.count_due(now as u64);
     assert_eq!(rt; count, expired);
     assert!(rt; count <= 100);
-    make_room(rt, agenda, count, 0);
+    reserve_for(rt, agenda, count, 0);
     agenda.expire(now as u64);
 }
 
@@ -158,16 +158,16 @@ fn insert(rt: &impl Abort, alloc: Global, content: u64) -> Inserts<u64> {
 
 /// One timer that is set.
 fn one(rt: &impl Abort, alloc: Global, timer: Timer, time: Time, content: u64) -> Settings<u64> {
-    let mut requests = Settings::new(alloc);
+    let mut settings = Settings::new(alloc);
     let setting = Setting {
         timer,
         time,
         content,
     };
-    if requests.push(setting).is_err() {
+    if settings.push(setting).is_err() {
         panic!(rt; "one element takes no memory");
     }
-    requests
+    settings
 }
 
 /// Two timers that are set.
@@ -177,16 +177,16 @@ fn two(
     first: (Timer, Time, u64),
     second: (Timer, Time, u64),
 ) -> Settings<u64> {
-    let mut requests = one(rt, alloc, first.0, first.1, first.2);
+    let mut settings = one(rt, alloc, first.0, first.1, first.2);
     let setting = Setting {
         timer: second.0,
         time: second.1,
         content: second.2,
     };
-    if requests.push(setting).is_err() {
+    if settings.push(setting).is_err() {
         panic!(rt; "two elements take no memory");
     }
-    requests
+    settings
 }
 
 /// A postponed event keeps its place, an inserted one comes before those posted, a time-out expires
@@ -195,13 +195,13 @@ fn two(
 fn events_come_in_their_order(rt: HostRuntime) {
     let mut agenda = Agenda::new(rt.alloc(), 1);
     nothing_comes(&rt, &agenda, 0);
-    assert_eq!(rt; agenda.next(), 1);
+    assert_eq!(rt; agenda.next_number(), 1);
     push(&rt, &mut agenda, 10, 1);
     push(&rt, &mut agenda, 20, 2);
     comes(&rt, &agenda, (1, Kind::Cast, 10), 2);
     let inserts = insert(&rt, rt.alloc(), 30);
-    let requests = one(&rt, rt.alloc(), Timer::Named(1), Time::After(5), 40);
-    settle(&rt, &mut agenda, 0, 1, true, false, inserts, requests);
+    let settings = one(&rt, rt.alloc(), Timer::Named(1), Time::After(5), 40);
+    settle(&rt, &mut agenda, 0, 1, true, false, inserts, settings);
     run(&rt, &agenda, &[(Timer::Named(1), 4, Due::At(5))]);
     comes(&rt, &agenda, (3, Kind::Internal, 30), 3);
     settle(
@@ -253,7 +253,7 @@ fn events_come_in_their_order(rt: HostRuntime) {
     );
     nothing_comes(&rt, &agenda, 0);
     run(&rt, &agenda, &[]);
-    assert_eq!(rt; agenda.next(), 5);
+    assert_eq!(rt; agenda.next_number(), 5);
     tell_refusals(rt);
 }
 
@@ -264,7 +264,7 @@ fn a_zero_timeout_comes_before_what_was_not_received(rt: HostRuntime) {
     let mut agenda = Agenda::new(rt.alloc(), 1);
     push(&rt, &mut agenda, 10, 1);
     push(&rt, &mut agenda, 20, 2);
-    let requests = two(
+    let settings = two(
         &rt,
         rt.alloc(),
         (Timer::State, Time::After(0), 30),
@@ -278,7 +278,7 @@ fn a_zero_timeout_comes_before_what_was_not_received(rt: HostRuntime) {
         false,
         false,
         Inserts::new(rt.alloc()),
-        requests,
+        settings,
     );
     run(
         &rt,
@@ -307,7 +307,7 @@ fn a_zero_timeout_comes_before_what_was_not_received(rt: HostRuntime) {
 fn an_expiry_of_a_stopped_timer_is_passed_over(rt: HostRuntime) {
     let mut agenda = Agenda::new(rt.alloc(), 1);
     push(&rt, &mut agenda, 10, 1);
-    let requests = one(&rt, rt.alloc(), Timer::Named(5), Time::After(5), 30);
+    let settings = one(&rt, rt.alloc(), Timer::Named(5), Time::After(5), 30);
     settle(
         &rt,
         &mut agenda,
@@ -316,11 +316,11 @@ fn an_expiry_of_a_stopped_timer_is_passed_over(rt: HostRuntime) {
         false,
         false,
         Inserts::new(rt.alloc()),
-        requests,
+        settings,
     );
     push(&rt, &mut agenda, 20, 3);
     tick(&rt, &mut agenda, 5, 1);
-    let requests = one(&rt, rt.alloc(), Timer::Named(5), Time::Infinity, 0);
+    let settings = one(&rt, rt.alloc(), Timer::Named(5), Time::Infinity, 0);
     settle(
         &rt,
         &mut agenda,
@@ -329,7 +329,7 @@ fn an_expiry_of_a_stopped_timer_is_passed_over(rt: HostRuntime) {
         false,
         false,
         Inserts::new(rt.alloc()),
-        requests,
+        settings,
     );
     nothing_comes(&rt, &agenda, 0);
     run(&rt, &agenda, &[]);
@@ -355,9 +355,9 @@ fn a_start_inserts_and_sets(rt: HostRuntime) {
 /// Inserts one event, and sets the state timer at the moment 3 for 10 milliseconds.
 fn begin(rt: &impl Abort, agenda: &mut Agenda<u64>, alloc: Global) {
     let inserts = insert(rt, alloc, 30);
-    let requests = one(rt, alloc, Timer::State, Time::After(10), 40);
-    let (events, timers) = (inserts.len(), requests.len());
-    let first = agenda.next();
+    let settings = one(rt, alloc, Timer::State, Time::After(10), 40);
+    let (events, timers) = (inserts.len(), settings.len());
+    let first = agenda.next_number();
     if events > 100 {
         panic!(rt; "there are few events");
     }
@@ -367,7 +367,7 @@ fn begin(rt: &impl Abort, agenda: &mut Agenda<u64>, alloc: Global) {
     if first > 1_000 {
         panic!(rt; "the numbers are low");
     }
-    make_room(rt, agenda, events, timers);
+    reserve_for(rt, agenda, events, timers);
     agenda.insert(inserts);
-    agenda.set_all(3, requests);
+    agenda.set_all(3, settings);
 }

@@ -8,7 +8,7 @@ use Rattle.st_events.specs.declared.refusal.Refusal.{Refusal}
 use Rattle.st_events.specs.declared.refusal.Refusal.TheVariants.{Exhausted, Moment}
 use Rattle.st_events.specs.declared.setting.Setting.{Setting}
 use Rattle.st_timeouts.specs.Running.{Running}
-use Rattle.st_actions.specs.Plan.{inserts_of, postpone_of, requests_of}
+use Rattle.st_actions.specs.Plan.{inserts_of, postpone_of, settings_of}
 use Rattle.st_agenda.specs.Item.{Posted}
 use Rattle.st_agenda.specs.Items.{has, numbered, numbers_of}
 use Rattle.st_agenda.specs.Timing.{numbers_taken}
@@ -23,18 +23,18 @@ use Rattle.st_core.specs.declared.command.Command.{Command}
 use Rattle.st_core.specs.declared.command.Command.TheVariants as command
 use Rattle.st_core.specs.declared.entry.Entry.{Entry}
 use Rattle.st_core.specs.declared.turned.Turned.TheVariants.{Reported}
-use Rattle.st_core.specs.MachineState.{MachineState}
+use Rattle.st_core.specs.MachineState.{MachineState, Machine}
 use Rattle.st_core.specs.Callbacks.{Callbacks, Called, called_of}
 use Rattle.st_core.specs.Choice.{next_event_of}
 use Rattle.st_core.specs.Stop.{unless_ended, stop_running}
-use Rattle.st_core.specs.Transition.{with_moment, with_called, with_settled, has_numbers, done_by, report_of, settled, transition_of, turn_running}
+use Rattle.st_core.specs.Transition.{with_moment, with_called, with_settled, has_numbers, done_by, report_of, unless_refused, concluded, transition_of, turn_running}
 use Rattle.st_core.specs.Post.{posted_event, with_posted, post_refused, post_running}
 use Rattle.st_core.specs.Tick.{with_expiries, expiring_of, tick_running}
-use Rattle.st_core.specs.Run.{Meets, takes_memory, without_memory, step_of, Runs}
+use Rattle.st_core.specs.Run.{Meets, Does, takes_memory, without_memory, step_of, Runs}
 use Rattle.st_core.specs.Lawful.{IsLawful}
 use Rattle.st_core.specs.Accounting.{waiting_in, finished_as, accepted_by, finished_by, accepted_in, finished_in, IsAccounted}
 use Rattle.st_core.proofs.TransitionLemmas.{enough_for_all}
-use Rattle.st_core.proofs.LawfulLemmas.{lawful_moment, step_lawful, met_lawful}
+use Rattle.st_core.proofs.LawfulLemmas.{lawful_moment, does_meets, does_lawful}
 
 -- ---- how often a number stands in a list
 marked_by : (count : ℕ) → (if nat_lt 0 count then 1 else 0) ≡ min 1 count
@@ -73,7 +73,7 @@ counted_on waits_after waits_next waits accepted accepted_later (suc finished) f
 module _ {C : Type 0} where
   -- a number that was given out, and may not be handled any more
   abbrev IsGone : ℕ → Schedule C → Type 0
-  IsGone n s = (n < s.next) × (times n (live_numbers s) ≡ 0)
+  IsGone n s = (n < s.next_number) × (times n (live_numbers s) ≡ 0)
 
   -- each number that waited, or is accepted, waits on or is finished, and once; none that was gone is
   -- accepted or comes again, and what is finished is gone
@@ -91,7 +91,7 @@ module _ {C : Type 0} where
   waiting_once latest s n law = omega (arith, law.distinct n, times-append n (waiting_numbers s.pending) (running_numbers s.running))
 
   -- neither is there where the same events wait and the same time-outs run
-  accounts_same : (latest : ℕ) (old new : Schedule C) → IsLawfulSchedule latest old → new.next ≡ old.next
+  accounts_same : (latest : ℕ) (old new : Schedule C) → IsLawfulSchedule latest old → new.next_number ≡ old.next_number
       → waiting_numbers new.pending ≡ waiting_numbers old.pending → live_numbers new ≡ live_numbers old → Accounts old new [] []
   accounts_same latest old new law next waits live = record {
     moved = λ n. omega (arith, ap (times n) waits, waiting_once latest old n law);
@@ -106,13 +106,13 @@ module _ {C : Type 0} where
       let waits = expired_waiting s expiring in
       accounts_same latest s (with_all_expired expiring s) law refl waits (ap (λ numbers. numbers ++ running_numbers s.running) waits)
 
-  accounts_posted : (latest : ℕ) (s : Schedule C) (event : Event C) → event.number ≡ s.next → s.next < 2 ^ 63 → IsLawfulSchedule latest s
-      → Accounts s (record s { pending = s.pending ++ Posted event ∷ []; next = s.next + 1 }) (event.number ∷ []) []
-  accounts_posted latest s event same room law =
-      let new : Schedule C = record s { pending = s.pending ++ Posted event ∷ []; next = s.next + 1 } in
-      let not_among : (n : ℕ) → n < s.next → times n (event.number ∷ []) ≡ 0 = λ n less. not_alone n event.number (λ e. omega (arith, e, same, less)) in
+  accounts_posted : (latest : ℕ) (s : Schedule C) (event : Event C) → event.number ≡ s.next_number → s.next_number < 2 ^ 63 → IsLawfulSchedule latest s
+      → Accounts s (record s { pending = s.pending ++ Posted event ∷ []; next_number = s.next_number + 1 }) (event.number ∷ []) []
+  accounts_posted latest s event same reserved law =
+      let new : Schedule C = record s { pending = s.pending ++ Posted event ∷ []; next_number = s.next_number + 1 } in
+      let not_among : (n : ℕ) → n < s.next_number → times n (event.number ∷ []) ≡ 0 = λ n less. not_alone n event.number (λ e. omega (arith, e, same, less)) in
       record {
-        moved = λ n. omega (arith, posted_waiting s event n, waiting_once latest new n (lawful_posted latest s event same room law));
+        moved = λ n. omega (arith, posted_waiting s event n, waiting_once latest new n (lawful_posted latest s event same reserved law));
         stays_gone = λ n is_gone. (
           omega (arith, is_gone.0),
           omega (
@@ -128,7 +128,7 @@ module _ {C : Type 0} where
         leaves = λ n one. absurd (omega (arith, one));
       }
 
-  leaves_by : (postpone : Bool) (number n : ℕ) (new : Schedule C) → number < new.next → (postpone ≡ false → times number (live_numbers new) ≡ 0)
+  leaves_by : (postpone : Bool) (number n : ℕ) (new : Schedule C) → number < new.next_number → (postpone ≡ false → times number (live_numbers new) ≡ 0)
       → times n (if postpone then [] else number ∷ []) ≡ 1 → IsGone n new
   leaves_by true number n new less none one = absurd (omega (arith, one))
   leaves_by false number n new less none one =
@@ -136,23 +136,23 @@ module _ {C : Type 0} where
 
   module _ (now : ℕ) (s : Schedule C) (number : ℕ) (postpone changed : Bool) (inserts : List (Insert C)) (settings : List (Setting C)) where
     accounts_settled : IsLawfulSchedule now s → option_map (λ (e : Event C). e.number) (next_in s) ≡ Some number
-        → s.next + (length inserts + numbers_taken settings) ≤ 2 ^ 63
-        → Accounts s (settled_in now s number postpone changed inserts settings) (number ∷ numbers_of (numbered s.next inserts)) (if postpone then [] else number ∷ [])
-    accounts_settled law next room =
+        → s.next_number + (length inserts + numbers_taken settings) ≤ 2 ^ 63
+        → Accounts s (settled_in now s number postpone changed inserts settings) (number ∷ numbers_of (numbered s.next_number inserts)) (if postpone then [] else number ∷ [])
+    accounts_settled law next reserved =
         let below = next_below now s number law next in
-        let more = settled_next now s number postpone changed inserts settings law next room in
+        let more = settled_next now s number postpone changed inserts settings law next reserved in
         record {
-          moved = λ n. settled_waiting now s number postpone changed inserts settings law next room n
-              ∙ marked_behind n (waiting_numbers s.pending) (number ∷ numbers_of (numbered s.next inserts));
+          moved = λ n. settled_waiting now s number postpone changed inserts settings law next reserved n
+              ∙ marked_behind n (waiting_numbers s.pending) (number ∷ numbers_of (numbered s.next_number inserts));
           stays_gone = λ n is_gone. (
             omega (arith, is_gone.0, more),
-            settled_gone now s number postpone changed inserts settings law next room n is_gone.0 is_gone.1,
+            settled_gone now s number postpone changed inserts settings law next reserved n is_gone.0 is_gone.1,
           );
           not_again = λ n is_gone.
               let other : times n (number ∷ []) ≡ 0 = not_alone n number (λ e. omega (arith, ap (λ m. times m (live_numbers s)) e, next_is_live now s number law next, is_gone.1)) in
-              omega (arith, other, numbered_times n s.next inserts is_gone.0);
+              omega (arith, other, numbered_times n s.next_number inserts is_gone.0);
           leaves = λ n one. leaves_by postpone number n (settled_in now s number postpone changed inserts settings) (omega (arith, below, more))
-              (finished_gone now s number postpone changed inserts settings law next room) one;
+              (finished_gone now s number postpone changed inserts settings law next reserved) one;
         }
 
 -- ---- what a step accepts and finishes
@@ -177,9 +177,9 @@ module _ {S D C : Type 0} where
     accounts_unchanged = accounts_same machine.latest machine.schedule machine.schedule law.scheduled refl refl refl
 
     -- a post
-    post_accounts : (entry : Entry) (content : C) (room : Bool) → nat_lt machine.schedule.next (2 ^ 63) ≡ room
+    post_accounts : (entry : Entry) (content : C) (reserved : Bool) → nat_lt machine.schedule.next_number (2 ^ 63) ≡ reserved
         → AccountsFor answer.Post machine
-        (if room then (Ok machine.schedule.next, with_posted machine entry content) else (post_refused content Exhausted, machine))
+        (if reserved then (Ok machine.schedule.next_number, with_posted machine entry content) else (post_refused content Exhausted, machine))
     post_accounts entry content true e =
         accounts_posted machine.latest machine.schedule (posted_event machine entry content) refl (grind (arith, e)) law.scheduled
     post_accounts entry content false e = accounts_unchanged
@@ -195,35 +195,35 @@ module _ {S D C : Type 0} where
     module _ (callbacks : Callbacks S D C) (now : ℕ) (law_at : IsLawful (with_moment machine now)) where
       went_on_accounts : (number : ℕ) (called : Called S D C) → option_map (λ (e : Event C). e.number) (next_in machine.schedule) ≡ Some number
           → (enough : Bool) → has_numbers (with_moment machine now) called.actions ≡ enough
-          → AccountsFor answer.Turn machine
+          → AccountsFor answer.Turn machine (unless_refused machine
           (if enough
           then (Ok (Reported (report_of (with_moment machine now) number called)), with_settled (with_called (with_moment machine now) called) number called)
-          else (Err Exhausted, machine))
+          else (Err Exhausted, with_moment machine now)))
       went_on_accounts number called next true e =
           finished_same (finished_by_done (postpone_of called.actions) number)
           (accounts_settled (with_moment machine now).latest machine.schedule number (postpone_of called.actions) called.changed
-          (inserts_of called.actions) (requests_of called.actions) law_at.scheduled next
-          (enough_for_all machine.schedule.next (length (inserts_of called.actions)) (numbers_taken (requests_of called.actions)) e))
+          (inserts_of called.actions) (settings_of called.actions) law_at.scheduled next
+          (enough_for_all machine.schedule.next_number (length (inserts_of called.actions)) (numbers_taken (settings_of called.actions)) e))
       went_on_accounts number called next false e = accounts_unchanged
 
-      settled_accounts : (number : ℕ) (called : Called S D C) → option_map (λ (e : Event C). e.number) (next_in machine.schedule) ≡ Some number
-          → (reason : Option ℕ) → (settled callbacks machine (with_moment machine now) number called reason).1.ended ≡ None
-          → AccountsFor answer.Turn machine (settled callbacks machine (with_moment machine now) number called reason)
-      settled_accounts number called next None still = went_on_accounts number called next (has_numbers (with_moment machine now) called.actions) refl
-      settled_accounts number called next (Some reason) still = cc
+      concluded_accounts : (number : ℕ) (called : Called S D C) → option_map (λ (e : Event C). e.number) (next_in machine.schedule) ≡ Some number
+          → (reason : Option ℕ) → (unless_refused machine (concluded callbacks (with_moment machine now) number called reason)).1.ended ≡ None
+          → AccountsFor answer.Turn machine (unless_refused machine (concluded callbacks (with_moment machine now) number called reason))
+      concluded_accounts number called next None still = went_on_accounts number called next (has_numbers (with_moment machine now) called.actions) refl
+      concluded_accounts number called next (Some reason) still = cc
 
       transition_accounts : (event : Option (Event C)) → next_in machine.schedule ≡ event
-          → (transition_of callbacks machine (with_moment machine now) event).1.ended ≡ None
-          → AccountsFor answer.Turn machine (transition_of callbacks machine (with_moment machine now) event)
+          → (unless_refused machine (transition_of callbacks (with_moment machine now) event)).1.ended ≡ None
+          → AccountsFor answer.Turn machine (unless_refused machine (transition_of callbacks (with_moment machine now) event))
       transition_accounts None next still = accounts_unchanged
       transition_accounts (Some event) next still =
           let called = called_of callbacks (with_moment machine now) event in
-          settled_accounts event.number called (ap (option_map (λ (e : Event C). e.number)) next) called.reason still
+          concluded_accounts event.number called (ap (option_map (λ (e : Event C). e.number)) next) called.reason still
 
     turn_accounts : (callbacks : Callbacks S D C) (now : ℕ) (early : Bool) → nat_lt now (2 ^ 63) ≡ early
-        → (if early then transition_of callbacks machine (with_moment machine now) (next_event_of (with_moment machine now)) else (Err Moment, machine)).1.ended ≡ None
+        → (if early then unless_refused machine (transition_of callbacks (with_moment machine now) (next_event_of (with_moment machine now))) else (Err Moment, machine)).1.ended ≡ None
         → AccountsFor answer.Turn machine
-        (if early then transition_of callbacks machine (with_moment machine now) (next_event_of (with_moment machine now)) else (Err Moment, machine))
+        (if early then unless_refused machine (transition_of callbacks (with_moment machine now) (next_event_of (with_moment machine now))) else (Err Moment, machine))
     turn_accounts callbacks now true e still =
         transition_accounts callbacks now (lawful_moment machine now (grind (arith, e)) law) (next_in machine.schedule) refl still
     turn_accounts callbacks now false e still = accounts_unchanged
@@ -242,7 +242,7 @@ module _ {S D C : Type 0} where
         → AccountsFor (λ (a : Answer S C). a) machine (step_of callbacks machine command)
     step_accounts callbacks (command.Post entry content) runs still =
         accounts_running answer.Post machine.ended (post_refused content) machine (post_running machine entry content) runs
-        (λ more. post_accounts entry content (nat_lt machine.schedule.next (2 ^ 63)) refl) still
+        (λ more. post_accounts entry content (nat_lt machine.schedule.next_number (2 ^ 63)) refl) still
     step_accounts callbacks (command.Tick now) runs still =
         accounts_running answer.Tick machine.ended (λ refusal. Err refusal) machine (tick_running machine now) runs
         (λ more. tick_accounts now (nat_lt now (2 ^ 63)) refl) still
@@ -283,59 +283,63 @@ module _ {S D C : Type 0} where
     met_runs without answer old new definition (inl (same_answer, same_new)) runs still = runs (rw (← same_new) still)
     met_runs without answer old new definition (inr (takes, same_answer, same_new)) runs still = rw (← same_new) still
 
-    -- so where the machine runs in the end, it ran all the time
-    ran_before : (machine : MachineState S D C) (commands : List (Command C)) (answers : List (Answer S C)) (after : MachineState S D C)
-        → Runs callbacks machine commands answers after → after.ended ≡ None → machine.ended ≡ None
-    ran_before machine [] [] after ran still = rw (← ran) still
-    ran_before machine [] (a ∷ answers) after ran still = absurd ran
-    ran_before machine (c ∷ commands) [] after ran still = absurd ran
-    ran_before machine (c ∷ commands) (a ∷ answers) after ran still =
-        met_runs (without_memory c) a machine ran.0 (step_of callbacks machine c) ran.1 (step_runs machine c) (ran_before ran.0 commands answers after ran.2 still)
+module _ {M S D C : Type 0} (callbacks : M → Callbacks S D C) where
+  -- a command leaves a machine running that ran
+  does_runs : (old new : Machine M S D C) (command : Command C) (answer : Answer S C) → Does callbacks old command answer new
+      → new.machine.ended ≡ None → old.machine.ended ≡ None
+  does_runs old new command answer does still =
+      met_runs (callbacks old.module_) (without_memory command) answer old.machine new.machine (step_of (callbacks old.module_) old.machine command)
+      (does_meets callbacks old new command answer does) (step_runs (callbacks old.module_) old.machine command) still
 
-    -- ---- what a run accepts and finishes
-    next_lawful : (machine : MachineState S D C) (command : Command C) (answer : Answer S C) (new : MachineState S D C) → IsLawful machine
-        → Meets takes_memory (without_memory command) answer machine new (step_of callbacks machine command) → IsLawful new
-    next_lawful machine command answer new law meets =
-        met_lawful takes_memory (without_memory command) answer machine new (step_of callbacks machine command) meets law (step_lawful callbacks machine command law)
+  -- so where the machine runs in the end, it ran all the time
+  ran_before : (old : Machine M S D C) (commands : List (Command C)) (answers : List (Answer S C)) (new : Machine M S D C)
+      → Runs callbacks old commands answers new → new.machine.ended ≡ None → old.machine.ended ≡ None
+  ran_before old [] [] new ran still = rw (← ran) still
+  ran_before old [] (a ∷ answers) new ran still = absurd ran
+  ran_before old (c ∷ commands) [] new ran still = absurd ran
+  ran_before old (c ∷ commands) (a ∷ answers) new ran still =
+      does_runs old ran.0 c a ran.1 (ran_before ran.0 commands answers new ran.2 still)
 
-    next_accounts : (machine : MachineState S D C) (command : Command C) (answer : Answer S C) (new : MachineState S D C) → IsLawful machine
-        → Meets takes_memory (without_memory command) answer machine new (step_of callbacks machine command) → new.ended ≡ None
-        → Accounts machine.schedule new.schedule (accepted_by answer) (finished_by answer)
-    next_accounts machine command answer new law meets still =
-        let runs = met_runs (without_memory command) answer machine new (step_of callbacks machine command) meets (step_runs machine command) still in
-        met_accounts machine law command answer new (step_of callbacks machine command) meets (step_accounts machine law callbacks command runs) still
+  -- ---- what a run accepts and finishes
+  does_accounts : (old new : Machine M S D C) (command : Command C) (answer : Answer S C) → IsLawful old.machine
+      → Does callbacks old command answer new → new.machine.ended ≡ None
+      → Accounts old.machine.schedule new.machine.schedule (accepted_by answer) (finished_by answer)
+  does_accounts old new command answer law does still =
+      met_accounts old.machine law command answer new.machine (step_of (callbacks old.module_) old.machine command)
+      (does_meets callbacks old new command answer does)
+      (step_accounts old.machine law (callbacks old.module_) command (does_runs old new command answer does still)) still
 
-    -- what is gone is not accepted again
-    never_again : (machine : MachineState S D C) (commands : List (Command C)) (answers : List (Answer S C)) (after : MachineState S D C)
-        → IsLawful machine → Runs callbacks machine commands answers after → after.ended ≡ None → (n : ℕ) → IsGone n machine.schedule
-        → times n (accepted_in answers) ≡ 0
-    never_again machine [] [] after law ran still n is_gone = refl
-    never_again machine [] (a ∷ answers) after law ran still n is_gone = absurd ran
-    never_again machine (c ∷ commands) [] after law ran still n is_gone = absurd ran
-    never_again machine (c ∷ commands) (a ∷ answers) after law ran still n is_gone =
-        let one = next_accounts machine c a ran.0 law ran.1 (ran_before ran.0 commands answers after ran.2 still) in
-        let others = never_again ran.0 commands answers after (next_lawful machine c a ran.0 law ran.1) ran.2 still n (one.stays_gone n is_gone) in
-        omega (arith, times-append n (accepted_by a) (accepted_in answers), one.not_again n is_gone, others)
+  -- what is gone is not accepted again
+  never_again : (old : Machine M S D C) (commands : List (Command C)) (answers : List (Answer S C)) (new : Machine M S D C)
+      → IsLawful old.machine → Runs callbacks old commands answers new → new.machine.ended ≡ None → (n : ℕ) → IsGone n old.machine.schedule
+      → times n (accepted_in answers) ≡ 0
+  never_again old [] [] new law ran still n is_gone = refl
+  never_again old [] (a ∷ answers) new law ran still n is_gone = absurd ran
+  never_again old (c ∷ commands) [] new law ran still n is_gone = absurd ran
+  never_again old (c ∷ commands) (a ∷ answers) new law ran still n is_gone =
+      let one = does_accounts old ran.0 c a law ran.1 (ran_before ran.0 commands answers new ran.2 still) in
+      let others = never_again ran.0 commands answers new (does_lawful callbacks old ran.0 c a ran.1 law) ran.2 still n (one.stays_gone n is_gone) in
+      omega (arith, times-append n (accepted_by a) (accepted_in answers), one.not_again n is_gone, others)
 
-    accounted_times : (machine : MachineState S D C) (commands : List (Command C)) (answers : List (Answer S C)) (after : MachineState S D C)
-        → IsLawful machine → Runs callbacks machine commands answers after → after.ended ≡ None → (n : ℕ)
-        → times n (waiting_in after) + times n (finished_in answers) ≡ min 1 (times n (waiting_in machine) + times n (accepted_in answers))
-    accounted_times machine [] [] after law ran still n =
-        rw ran (omega (arith, waiting_once machine.latest machine.schedule n law.scheduled))
-    accounted_times machine [] (a ∷ answers) after law ran still n = absurd ran
-    accounted_times machine (c ∷ commands) [] after law ran still n = absurd ran
-    accounted_times machine (c ∷ commands) (a ∷ answers) after law ran still n =
-        let one = next_accounts machine c a ran.0 law ran.1 (ran_before ran.0 commands answers after ran.2 still) in
-        let law_next = next_lawful machine c a ran.0 law ran.1 in
-        rw (times-append n (finished_by a) (finished_in answers), times-append n (accepted_by a) (accepted_in answers))
-        (counted_on (times n (waiting_in after)) (times n (waiting_in ran.0)) (times n (waiting_in machine)) (times n (accepted_by a)) (times n (accepted_in answers))
-        (times n (finished_by a)) (times n (finished_in answers)) (one.moved n)
-        (accounted_times ran.0 commands answers after law_next ran.2 still n)
-        (λ finished. never_again ran.0 commands answers after law_next ran.2 still n (one.leaves n finished)))
+  accounted_times : (old : Machine M S D C) (commands : List (Command C)) (answers : List (Answer S C)) (new : Machine M S D C)
+      → IsLawful old.machine → Runs callbacks old commands answers new → new.machine.ended ≡ None → (n : ℕ)
+      → times n (waiting_in new.machine) + times n (finished_in answers) ≡ min 1 (times n (waiting_in old.machine) + times n (accepted_in answers))
+  accounted_times old [] [] new law ran still n =
+      rw ran (omega (arith, waiting_once old.machine.latest old.machine.schedule n law.scheduled))
+  accounted_times old [] (a ∷ answers) new law ran still n = absurd ran
+  accounted_times old (c ∷ commands) [] new law ran still n = absurd ran
+  accounted_times old (c ∷ commands) (a ∷ answers) new law ran still n =
+      let one = does_accounts old ran.0 c a law ran.1 (ran_before ran.0 commands answers new ran.2 still) in
+      let law_next = does_lawful callbacks old ran.0 c a ran.1 law in
+      rw (times-append n (finished_by a) (finished_in answers), times-append n (accepted_by a) (accepted_in answers))
+      (counted_on (times n (waiting_in new.machine)) (times n (waiting_in ran.0.machine)) (times n (waiting_in old.machine)) (times n (accepted_by a)) (times n (accepted_in answers))
+      (times n (finished_by a)) (times n (finished_in answers)) (one.moved n)
+      (accounted_times ran.0 commands answers new law_next ran.2 still n)
+      (λ finished. never_again ran.0 commands answers new law_next ran.2 still n (one.leaves n finished)))
 
 -- nothing that is accepted is lost, and nothing is finished twice
-pub accounted : {S D C : Type 0} (callbacks : Callbacks S D C) (before : MachineState S D C) (commands : List (Command C)) (answers : List (Answer S C)) (after : MachineState S D C)
-    → IsLawful before → Runs callbacks before commands answers after → after.ended ≡ None → IsAccounted before answers after
-accounted callbacks before commands answers after law ran still number =
-    accounted_times callbacks before commands answers after law ran still number
-    ∙ sym (marked_behind number (waiting_in before) (accepted_in answers))
+pub accounted : {M S D C : Type 0} (callbacks : M → Callbacks S D C) (old : Machine M S D C) (commands : List (Command C)) (answers : List (Answer S C)) (new : Machine M S D C)
+    → IsLawful old.machine → Runs callbacks old commands answers new → new.machine.ended ≡ None → IsAccounted old.machine answers new.machine
+accounted callbacks old commands answers new law ran still number =
+    accounted_times callbacks old commands answers new law ran still number
+    ∙ sym (marked_behind number (waiting_in old.machine) (accepted_in answers))

@@ -12,7 +12,7 @@ use Rattle.st_events.specs.declared.machine_id.MachineId.{MachineId}
 use Rattle.st_events.specs.declared.refusal.Refusal.{Refusal}
 use Rattle.st_events.specs.declared.refused.Refused.{Refused}
 use Rattle.st_events.specs.declared.tag.Tag.{Tag}
-use Rattle.st_actions.specs.Plan.{replies_of, inserts_of, postpone_of, requests_of}
+use Rattle.st_actions.specs.Plan.{replies_of, inserts_of, postpone_of, settings_of}
 use Rattle.st_requests.specs.declared.request.Request.{Request}
 use Rattle.st_requests.specs.Requests.{OneEach, AreOf, with_answer, with_answers, without_kept}
 use Rattle.st_requests.proofs.RequestLemmas.{one_each_opened, one_each_answer, one_each_kept, one_each_closed}
@@ -33,11 +33,11 @@ use Rattle.st_core.specs.MachineState.{MachineState, Machine}
 use Rattle.st_core.specs.Callbacks.{Callbacks, Called, called_of, begun_by}
 use Rattle.st_core.specs.Choice.{next_event_of}
 use Rattle.st_core.specs.Stop.{with_ended, unless_ended, stop_running, stop_of}
-use Rattle.st_core.specs.Transition.{with_moment, with_called, with_settled, has_numbers, went_on, stopped, settled, transition_of, turn_running, turn_of}
+use Rattle.st_core.specs.Transition.{with_moment, with_called, with_settled, has_numbers, unless_refused, went_on, stopped, concluded, transition_of, turn_running, turn_of}
 use Rattle.st_core.specs.Post.{opened_by, posted_event, with_posted, post_running, post_of}
 use Rattle.st_core.specs.Tick.{with_expiries, tick_running, tick_of}
 use Rattle.st_core.specs.Replies.{reply_to, collect_of}
-use Rattle.st_core.specs.Run.{takes_memory, without_memory, Meets, step_of, Runs}
+use Rattle.st_core.specs.Run.{takes_memory, without_memory, Meets, Does, step_of, step_on, Runs}
 use Rattle.st_core.specs.Start.{first_state, with_begun, started_with, begun_on, started_by, start_of}
 use Rattle.st_core.specs.Lawful.{IsOver, IsLawful}
 
@@ -108,7 +108,7 @@ module _ {S D C : Type 0} where
       let replies = replies_of called.actions in record {
         scheduled = law.scheduled;
         one_each = one_each_answers machine.requests replies law.one_each;
-        own = are_of_answers machine.id machine.schedule.next machine.requests replies law.own;
+        own = are_of_answers machine.id machine.schedule.next_number machine.requests replies law.own;
         moment = law.moment;
         over = over_answers machine.schedule machine.requests machine.ended replies law.over;
       }
@@ -120,13 +120,13 @@ module _ {S D C : Type 0} where
   lawful_settled machine number called runs next numbers law =
       let postpone = postpone_of called.actions in
       let inserts = inserts_of called.actions in
-      let settings = requests_of called.actions in
-      let room = leb-true (machine.schedule.next + (length inserts + numbers_taken settings)) (2 ^ 63) numbers in
+      let settings = settings_of called.actions in
+      let reserved = leb-true (machine.schedule.next_number + (length inserts + numbers_taken settings)) (2 ^ 63) numbers in
       let after = with_settled machine number called in record {
-        scheduled = settled_lawful machine.latest machine.schedule number postpone called.changed inserts settings law.scheduled next room;
+        scheduled = settled_lawful machine.latest machine.schedule number postpone called.changed inserts settings law.scheduled next reserved;
         one_each = law.one_each;
-        own = are_of_later machine.id machine.schedule.next after.schedule.next machine.requests
-            (settled_next machine.latest machine.schedule number postpone called.changed inserts settings law.scheduled next room) law.own;
+        own = are_of_later machine.id machine.schedule.next_number after.schedule.next_number machine.requests
+            (settled_next machine.latest machine.schedule number postpone called.changed inserts settings law.scheduled next reserved) law.own;
         moment = law.moment;
         over = not_over after.schedule machine.requests machine.ended runs;
       }
@@ -134,21 +134,21 @@ module _ {S D C : Type 0} where
   -- the machine ends
   pub lawful_ended : (machine : MachineState S D C) (reason word : ℕ) → IsLawful machine → IsLawful (with_ended machine reason word)
   lawful_ended machine reason word law = record {
-    scheduled = schedule.lawful_empty machine.latest machine.schedule.next law.scheduled.bounded;
+    scheduled = schedule.lawful_empty machine.latest machine.schedule.next_number law.scheduled.bounded;
     one_each = one_each_closed reason machine.requests law.one_each;
-    own = are_of_closed machine.id machine.schedule.next reason machine.requests law.own;
+    own = are_of_closed machine.id machine.schedule.next_number reason machine.requests law.own;
     moment = law.moment;
     over = (refl, refl, refl, none_open_closed reason machine.requests);
   }
 
   -- an event is posted
-  pub lawful_posted : (machine : MachineState S D C) (entry : Entry) (content : C) → machine.ended ≡ None → machine.schedule.next < 2 ^ 63
+  pub lawful_posted : (machine : MachineState S D C) (entry : Entry) (content : C) → machine.ended ≡ None → machine.schedule.next_number < 2 ^ 63
       → IsLawful machine → IsLawful (with_posted machine entry content)
-  lawful_posted machine entry content runs room law =
+  lawful_posted machine entry content runs reserved law =
       let after = with_posted machine entry content in record {
-        scheduled = schedule.lawful_posted machine.latest machine.schedule (posted_event machine entry content) refl room law.scheduled;
-        one_each = opened_one_each machine.id machine.schedule.next entry machine.requests law.own law.one_each;
-        own = opened_own machine.id machine.schedule.next entry machine.requests law.own;
+        scheduled = schedule.lawful_posted machine.latest machine.schedule (posted_event machine entry content) refl reserved law.scheduled;
+        one_each = opened_one_each machine.id machine.schedule.next_number entry machine.requests law.own law.one_each;
+        own = opened_own machine.id machine.schedule.next_number entry machine.requests law.own;
         moment = law.moment;
         over = not_over after.schedule after.requests machine.ended runs;
       }
@@ -169,6 +169,12 @@ module _ {S D C : Type 0} where
   either_lawful true chosen other first second = first refl
   either_lawful false chosen other first second = second
 
+  either_kept : {A : Type 0} (old : MachineState S D C) (test : Bool) (chosen other : Result A Refusal × MachineState S D C)
+      → (test ≡ true → IsLawful (unless_refused old chosen).1) → IsLawful (unless_refused old other).1
+      → IsLawful (unless_refused old (if test then chosen else other)).1
+  either_kept old true chosen other first second = first refl
+  either_kept old false chosen other first second = second
+
   unless_lawful : {A : Type 0} (ended : Option (ℕ × ℕ)) (refused : Refusal → A) (machine : MachineState S D C) (done : A × MachineState S D C)
       → IsLawful machine → (ended ≡ None → IsLawful done.1) → IsLawful (unless_ended ended refused machine done).1
   unless_lawful None refused machine done law runs = runs refl
@@ -178,8 +184,8 @@ module _ {S D C : Type 0} where
   post_running_lawful : (machine : MachineState S D C) (entry : Entry) (content : C) → machine.ended ≡ None → IsLawful machine
       → IsLawful (post_running machine entry content).1
   post_running_lawful machine entry content runs law =
-      either_lawful (nat_lt machine.schedule.next (2 ^ 63)) _ _
-      (λ early. lawful_posted machine entry content runs (ltb-true machine.schedule.next (2 ^ 63) early) law) law
+      either_lawful (nat_lt machine.schedule.next_number (2 ^ 63)) _ _
+      (λ early. lawful_posted machine entry content runs (ltb-true machine.schedule.next_number (2 ^ 63) early) law) law
 
   pub post_lawful : (machine : MachineState S D C) (entry : Entry) (content : C) → IsLawful machine → IsLawful (post_of machine entry content).1
   post_lawful machine entry content law =
@@ -198,7 +204,7 @@ module _ {S D C : Type 0} where
   reply_lawful machine tag content law = record {
     scheduled = law.scheduled;
     one_each = one_each_answer tag content machine.requests law.one_each;
-    own = are_of_answer machine.id machine.schedule.next machine.requests tag content law.own;
+    own = are_of_answer machine.id machine.schedule.next_number machine.requests tag content law.own;
     moment = law.moment;
     over = over_answer machine.schedule machine.requests machine.ended tag content law.over;
   }
@@ -207,7 +213,7 @@ module _ {S D C : Type 0} where
   collect_lawful machine tag law = record {
     scheduled = law.scheduled;
     one_each = one_each_kept tag machine.requests law.one_each;
-    own = are_of_kept machine.id machine.schedule.next machine.requests tag law.own;
+    own = are_of_kept machine.id machine.schedule.next_number machine.requests tag law.own;
     moment = law.moment;
     over = over_kept machine.schedule machine.requests machine.ended tag law.over;
   }
@@ -222,9 +228,9 @@ module _ {S D C : Type 0} where
   -- the machine goes on
   pub went_on_lawful : (machine : MachineState S D C) (now number : ℕ) (called : Called S D C) → machine.ended ≡ None → now < 2 ^ 63
       → option_map (λ (event : Event C). event.number) (next_event_of machine) ≡ Some number → IsLawful machine
-      → IsLawful (went_on machine (with_moment machine now) number called).1
+      → IsLawful (unless_refused machine (went_on (with_moment machine now) number called)).1
   went_on_lawful machine now number called runs early next law =
-      either_lawful (has_numbers (with_moment machine now) called.actions) _ _
+      either_kept machine (has_numbers (with_moment machine now) called.actions) _ _
       (λ numbers. lawful_settled (with_called (with_moment machine now) called) number called runs next numbers
       (lawful_called (with_moment machine now) called (lawful_moment machine now early law))) law
 
@@ -235,19 +241,19 @@ module _ {S D C : Type 0} where
       lawful_ended (with_called (with_moment machine now) called) reason (callbacks.terminate_is reason called.state called.data)
       (lawful_called (with_moment machine now) called (lawful_moment machine now early law))
 
-  settled_turn_lawful : (callbacks : Callbacks S D C) (machine : MachineState S D C) (now number : ℕ) (called : Called S D C) (reason : Option ℕ)
+  concluded_lawful : (callbacks : Callbacks S D C) (machine : MachineState S D C) (now number : ℕ) (called : Called S D C) (reason : Option ℕ)
       → machine.ended ≡ None → now < 2 ^ 63 → option_map (λ (event : Event C). event.number) (next_event_of machine) ≡ Some number → IsLawful machine
-      → IsLawful (settled callbacks machine (with_moment machine now) number called reason).1
-  settled_turn_lawful callbacks machine now number called None runs early next law = went_on_lawful machine now number called runs early next law
-  settled_turn_lawful callbacks machine now number called (Some reason) runs early next law =
+      → IsLawful (unless_refused machine (concluded callbacks (with_moment machine now) number called reason)).1
+  concluded_lawful callbacks machine now number called None runs early next law = went_on_lawful machine now number called runs early next law
+  concluded_lawful callbacks machine now number called (Some reason) runs early next law =
       stopped_lawful callbacks machine now number called reason early law
 
   transition_lawful : (callbacks : Callbacks S D C) (machine : MachineState S D C) (now : ℕ) (next : Option (Event C)) → next_event_of machine ≡ next
-      → machine.ended ≡ None → now < 2 ^ 63 → IsLawful machine → IsLawful (transition_of callbacks machine (with_moment machine now) next).1
+      → machine.ended ≡ None → now < 2 ^ 63 → IsLawful machine → IsLawful (unless_refused machine (transition_of callbacks (with_moment machine now) next)).1
   transition_lawful callbacks machine now None same runs early law = lawful_moment machine now early law
   transition_lawful callbacks machine now (Some event) same runs early law =
       let called = called_of callbacks (with_moment machine now) event in
-      settled_turn_lawful callbacks machine now event.number called called.reason runs early
+      concluded_lawful callbacks machine now event.number called called.reason runs early
       (ap (option_map (λ (event : Event C). event.number)) same) law
 
   turn_running_lawful : (callbacks : Callbacks S D C) (machine : MachineState S D C) (now : ℕ) → machine.ended ≡ None → IsLawful machine
@@ -276,21 +282,12 @@ module _ {S D C : Type 0} where
   step_lawful callbacks machine (command.Collect tag) law = collect_lawful machine tag law
   step_lawful callbacks machine (command.Stop reason) law = stop_lawful callbacks machine reason law
 
-  pub runs_lawful : (callbacks : Callbacks S D C) (machine : MachineState S D C) (commands : List (Command C)) (answers : List (Answer S C))
-      (after : MachineState S D C) → Runs callbacks machine commands answers after → IsLawful machine → IsLawful after
-  runs_lawful callbacks machine [] [] after ran law = rw ran law
-  runs_lawful callbacks machine [] (answer ∷ answers) after ran law = absurd ran
-  runs_lawful callbacks machine (command ∷ commands) [] after ran law = absurd ran
-  runs_lawful callbacks machine (command ∷ commands) (answer ∷ answers) after ran law =
-      runs_lawful callbacks ran.0 commands answers after ran.2
-      (met_lawful takes_memory (without_memory command) answer machine ran.0 (step_of callbacks machine command) ran.1 law (step_lawful callbacks machine command law))
-
   -- ---- starts
   -- a machine to which nothing was posted
   pub begun_lawful : (id : MachineId) (state : S) (held : D) (now first : ℕ) → now < 2 ^ 63 → first < 2 ^ 63
       → IsLawful {C = C} (first_state id state held now first)
-  begun_lawful id state held now first early room = record {
-    scheduled = schedule.lawful_empty now first (omega (arith, room));
+  begun_lawful id state held now first early reserved = record {
+    scheduled = schedule.lawful_empty now first (omega (arith, reserved));
     one_each = tt;
     own = tt;
     moment = early;
@@ -302,16 +299,37 @@ module _ {S D C : Type 0} where
       → has_numbers machine actions ≡ true → IsLawful machine → IsLawful (with_begun machine actions)
   with_begun_lawful machine actions runs none numbers law =
       let inserts = inserts_of actions in
-      let settings = requests_of actions in
-      let room = leb-true (machine.schedule.next + (length inserts + numbers_taken settings)) (2 ^ 63) numbers in
+      let settings = settings_of actions in
+      let reserved = leb-true (machine.schedule.next_number + (length inserts + numbers_taken settings)) (2 ^ 63) numbers in
       let after = with_begun machine actions in record {
-        scheduled = schedule.lawful_set_all machine.latest (inserted_in machine.schedule inserts) settings (omega (arith, room))
-            (schedule.lawful_inserted machine.latest machine.schedule inserts (omega (arith, room)) law.scheduled);
+        scheduled = schedule.lawful_set_all machine.latest (inserted_in machine.schedule inserts) settings (omega (arith, reserved))
+            (schedule.lawful_inserted machine.latest machine.schedule inserts (omega (arith, reserved)) law.scheduled);
         one_each = law.one_each;
-        own = none_own machine.id after.schedule.next machine.requests none;
+        own = none_own machine.id after.schedule.next_number machine.requests none;
         moment = law.moment;
         over = not_over after.schedule machine.requests machine.ended runs;
       }
+
+module _ {M S D C : Type 0} (callbacks : M → Callbacks S D C) where
+  -- a command that was done meets its definition on the machine state
+  pub does_meets : (old new : Machine M S D C) (command : Command C) (answer : Answer S C) → Does callbacks old command answer new
+      → Meets takes_memory (without_memory command) answer old.machine new.machine (step_of (callbacks old.module_) old.machine command)
+  does_meets old new command answer (inl done) = inl (done.0, ap (λ (one : Machine M S D C). one.machine) done.1)
+  does_meets old new command answer (inr none) = inr (none.0, none.1, ap (λ (one : Machine M S D C). one.machine) none.2)
+
+  pub does_lawful : (old new : Machine M S D C) (command : Command C) (answer : Answer S C) → Does callbacks old command answer new
+      → IsLawful old.machine → IsLawful new.machine
+  does_lawful old new command answer does law =
+      met_lawful takes_memory (without_memory command) answer old.machine new.machine (step_of (callbacks old.module_) old.machine command)
+      (does_meets old new command answer does) law (step_lawful (callbacks old.module_) old.machine command law)
+
+  pub runs_lawful : (old : Machine M S D C) (commands : List (Command C)) (answers : List (Answer S C)) (new : Machine M S D C)
+      → Runs callbacks old commands answers new → IsLawful old.machine → IsLawful new.machine
+  runs_lawful old [] [] new ran law = rw ran law
+  runs_lawful old [] (answer ∷ answers) new ran law = absurd ran
+  runs_lawful old (command ∷ commands) [] new ran law = absurd ran
+  runs_lawful old (command ∷ commands) (answer ∷ answers) new ran law =
+      runs_lawful ran.0 commands answers new ran.2 (does_lawful old ran.0 command answer ran.1 law)
 
 module _ (A : Type 0) {M S D C : Type 0} where
   -- where a machine started, it can come about
@@ -328,33 +346,33 @@ module _ (A : Type 0) {M S D C : Type 0} where
 
   started_starts : (module_ : M) (id : MachineId) (called : Called S D C) (now first : ℕ) → now < 2 ^ 63 → first < 2 ^ 63
       → StartsLawful (started_with {A = A} module_ (first_state id called.state called.data now first) called)
-  started_starts module_ id called now first early room =
+  started_starts module_ id called now first early reserved =
       let machine : MachineState S D C = first_state id called.state called.data now first in
       either_starts (has_numbers machine called.actions) _ _
-      (λ numbers. with_begun_lawful machine called.actions refl refl numbers (begun_lawful id called.state called.data now first early room)) tt
+      (λ numbers. with_begun_lawful machine called.actions refl refl numbers (begun_lawful id called.state called.data now first early reserved)) tt
 
   begun_starts : (callbacks : Callbacks S D C) (module_ : M) (id : MachineId) (called : Called S D C) (now first : ℕ) (reason : Option ℕ)
       → now < 2 ^ 63 → first < 2 ^ 63
       → StartsLawful (begun_on {A = A} callbacks module_ (first_state id called.state called.data now first) called reason)
-  begun_starts callbacks module_ id called now first None early room = started_starts module_ id called now first early room
-  begun_starts callbacks module_ id called now first (Some reason) early room =
+  begun_starts callbacks module_ id called now first None early reserved = started_starts module_ id called now first early reserved
+  begun_starts callbacks module_ id called now first (Some reason) early reserved =
       let machine : MachineState S D C = first_state id called.state called.data now first in
       lawful_ended machine reason (callbacks.terminate_is reason machine.state machine.data)
-      (begun_lawful id called.state called.data now first early room)
+      (begun_lawful id called.state called.data now first early reserved)
 
   answer_starts : (callbacks : Callbacks S D C) (module_ : M) (id : MachineId) (answer : Init S D C) (now first : ℕ) → now < 2 ^ 63 → first < 2 ^ 63
       → StartsLawful (started_by {A = A} callbacks module_ id answer now first)
-  answer_starts callbacks module_ id (init.Ok state held actions) now first early room =
+  answer_starts callbacks module_ id (init.Ok state held actions) now first early reserved =
       let called = begun_by callbacks state held actions in
-      begun_starts callbacks module_ id called now first called.reason early room
-  answer_starts callbacks module_ id (init.Stop reason) now first early room = tt
-  answer_starts callbacks module_ id init.Ignore now first early room = tt
+      begun_starts callbacks module_ id called now first called.reason early reserved
+  answer_starts callbacks module_ id (init.Stop reason) now first early reserved = tt
+  answer_starts callbacks module_ id init.Ignore now first early reserved = tt
 
   start_starts : (callbacks : Callbacks S D C) (module_ : M) (id : MachineId) (answer : Init S D C) (now first : ℕ) → first < 2 ^ 63
       → StartsLawful (start_of {A = A} callbacks module_ id answer now first)
-  start_starts callbacks module_ id answer now first room =
+  start_starts callbacks module_ id answer now first reserved =
       either_starts (nat_lt now (2 ^ 63)) _ _
-      (λ early. answer_starts callbacks module_ id answer now first (ltb-true now (2 ^ 63) early) room) tt
+      (λ early. answer_starts callbacks module_ id answer now first (ltb-true now (2 ^ 63) early) reserved) tt
 
   started_is : (result : Result (Start M S D C A) (Refused M)) (core : Machine M S D C) (report : Report S) → result ≡ Ok (Running core report)
       → StartsLawful result → IsLawful core.machine
@@ -365,5 +383,5 @@ module _ {M S D C A : Type 0} where
   pub start_lawful : (callbacks : Callbacks S D C) (module_ : M) (id : MachineId) (answer : Init S D C) (now first : ℕ) → first < 2 ^ 63
       → (core : Machine M S D C) (report : Report S) → start_of {A = A} callbacks module_ id answer now first ≡ Ok (Running core report)
       → IsLawful core.machine
-  start_lawful callbacks module_ id answer now first room core report same =
-      started_is A (start_of callbacks module_ id answer now first) core report same (start_starts A callbacks module_ id answer now first room)
+  start_lawful callbacks module_ id answer now first reserved core report same =
+      started_is A (start_of callbacks module_ id answer now first) core report same (start_starts A callbacks module_ id answer now first reserved)

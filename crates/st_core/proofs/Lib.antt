@@ -1,4 +1,4 @@
--- Lemmas on the events that wait, on turns, starts and runs, and the definitions computed on examples.
+-- Lemmas on the events that wait, on turns, starts and runs.
 pub mod RunLemmas
 pub mod StartLemmas
 pub mod TransitionLemmas
@@ -6,4 +6,4 @@ pub mod PlanningLemmas
 pub mod LawfulLemmas
 pub mod StateLemmas
 pub mod AccountingLemmas
-pub mod WorkedExamples
+pub mod ChangeLemmas

@@ -6,7 +6,7 @@ use Rattle.st_events.specs.declared.action.Action.{Action}
 use Rattle.st_events.specs.declared.action.Action.TheVariants.{Reply}
 use Rattle.st_events.specs.declared.tag.Tag.{Tag}
 use Rattle.st_actions.specs.declared.planned.Planned.{Planned}
-use Rattle.st_actions.specs.Plan.{replies_of, postpone_of, inserts_of, requests_of, plan_of}
+use Rattle.st_actions.specs.Plan.{replies_of, postpone_of, inserts_of, settings_of, plan_of}
 use Rattle.st_actions.specs.Joined.{as_actions, joined_of}
 use Rattle.st_core.specs.Callbacks.{reply_actions, enter_reply_actions}
 
@@ -28,7 +28,7 @@ module _ {C : Type 0} where
   inserts-alone [] = refl
   inserts-alone (reply ∷ replies) = inserts-alone replies
 
-  pub requests-alone : (replies : List (Tag × C)) → requests_of (reply_actions replies) ≡ []
+  pub requests-alone : (replies : List (Tag × C)) → settings_of (reply_actions replies) ≡ []
   requests-alone [] = refl
   requests-alone (reply ∷ replies) = requests-alone replies
 

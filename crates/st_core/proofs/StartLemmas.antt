@@ -5,7 +5,7 @@ use Rattle.st_events.specs.declared.machine_id.MachineId.{MachineId}
 use Rattle.st_events.specs.declared.refused.Refused.{Refused}
 use Rattle.st_events.specs.declared.refusal.Refusal.{Refusal}
 use Rattle.st_events.specs.declared.refusal.Refusal.TheVariants.{Exhausted, NoMemory}
-use Rattle.st_actions.specs.Plan.{requests_of}
+use Rattle.st_actions.specs.Plan.{settings_of}
 use Rattle.st_core.specs.declared.done.Done.TheVariants.{Started}
 use Rattle.st_core.specs.declared.report.Report.{Report}
 use Rattle.st_core.specs.declared.start.Start.{Start}
@@ -63,7 +63,7 @@ module _ (A : Type 0) {M S D C : Type 0} where
     -- the machine runs
     pub started_is : has_numbers machine called.actions ≡ true
         → {after : MachineState S D C} {report : Report S} → after ≡ with_begun machine called.actions
-        → report ≡ start_report_of Started called.calls machine.state (inserted_by machine called.actions) (times_of (requests_of called.actions))
+        → report ≡ start_report_of Started called.calls machine.state (inserted_by machine called.actions) (times_of (settings_of called.actions))
         → Starts {A = A} module_ (Ok (Running (record { module_ = module_; machine = after }) report)) (started_with module_ machine called)
     started_is h same_after same_report =
         rw (h, same_after, same_report) (inl refl)

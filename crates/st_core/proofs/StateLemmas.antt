@@ -22,7 +22,7 @@ use Rattle.st_core.proofs.TransitionLemmas.{none_not_some}
 module _ {C : Type 0} where
   -- where nothing waits and nothing runs, there is no next event
   nothing_next : (pending : List (Item C)) (postponed : List ℕ) (running : List (Running C)) (next : ℕ) → pending ≡ [] → running ≡ []
-      → option_map (λ (event : Event C). event.number) (next_in (record { pending = pending; postponed = postponed; running = running; next = next })) ≡ None
+      → option_map (λ (event : Event C). event.number) (next_in (record { pending = pending; postponed = postponed; running = running; next_number = next })) ≡ None
   nothing_next pending postponed running next no_items no_timeouts = rw (no_items, no_timeouts) refl
 
   -- a machine with a next event has not ended
@@ -31,7 +31,7 @@ module _ {C : Type 0} where
   has_not_ended schedule requests None number over next = refl
   has_not_ended schedule requests (Some end) number over next =
       let none : option_map (λ (event : Event C). event.number) (next_in schedule) ≡ None =
-      nothing_next schedule.pending schedule.postponed schedule.running schedule.next over.0 over.2 in
+      nothing_next schedule.pending schedule.postponed schedule.running schedule.next_number over.0 over.2 in
       absurd (none_not_some (option_map (λ (event : Event C). event.number) (next_in schedule)) number none next)
 
   module _ (id : MachineId) (schedule : Schedule C) (requests : List (Request C)) (latest now : ℕ) (ended : Option (ℕ × ℕ)) where
@@ -44,7 +44,7 @@ module _ {C : Type 0} where
     answered_keeps replies below lawful = record {
       scheduled = lawful_later latest (max latest now) schedule lawful.scheduled (omega arith);
       one_each = one_each_answers requests replies lawful.one_each;
-      own = are_of_answers id schedule.next requests replies lawful.own;
+      own = are_of_answers id schedule.next_number requests replies lawful.own;
       moment = early below lawful.moment;
       over = over_answers schedule requests ended replies lawful.over;
     }
@@ -52,7 +52,7 @@ module _ {C : Type 0} where
     -- the next event was handled at a moment, and replies were sent
     pub settled_keeps : (number : ℕ) (postpone changed : Bool) (inserts : List (Insert C)) (settings : List (Setting C)) (replies : List (Tag × C))
         → now < 2 ^ 63 → option_map (λ (event : Event C). event.number) (next_in schedule) ≡ Some number
-        → schedule.next + (length inserts + numbers_taken settings) ≤ 2 ^ 63 → IsLawfulOf id schedule requests latest ended
+        → schedule.next_number + (length inserts + numbers_taken settings) ≤ 2 ^ 63 → IsLawfulOf id schedule requests latest ended
         → IsLawfulOf id (settled_in (max latest now) schedule number postpone changed inserts settings) (with_answers requests replies) (max latest now) ended
     settled_keeps number postpone changed inserts settings replies below next enough lawful =
         let scheduled = lawful_later latest (max latest now) schedule lawful.scheduled (omega arith) in
@@ -60,16 +60,16 @@ module _ {C : Type 0} where
         record {
           scheduled = settled_lawful (max latest now) schedule number postpone changed inserts settings scheduled next enough;
           one_each = one_each_answers requests replies lawful.one_each;
-          own = are_of_later id schedule.next (settled_in (max latest now) schedule number postpone changed inserts settings).next (with_answers requests replies)
+          own = are_of_later id schedule.next_number (settled_in (max latest now) schedule number postpone changed inserts settings).next_number (with_answers requests replies)
               (settled_next (max latest now) schedule number postpone changed inserts settings scheduled next enough)
-              (are_of_answers id schedule.next requests replies lawful.own);
+              (are_of_answers id schedule.next_number requests replies lawful.own);
           moment = early below lawful.moment;
           over = not_over (settled_in (max latest now) schedule number postpone changed inserts settings) (with_answers requests replies) ended running;
         }
 
   module _ (id : MachineId) (now first : ℕ) where
     abbrev nothing_yet : Schedule C
-    nothing_yet = record { pending = []; postponed = []; running = []; next = first }
+    nothing_yet = record { pending = []; postponed = []; running = []; next_number = first }
 
     -- a machine has begun
     pub begun_keeps : (inserts : List (Insert C)) (settings : List (Setting C)) → now < 2 ^ 63

@@ -20,14 +20,16 @@ use Rattle.st_agenda.specs.Timing.{number_taken, numbers_taken}
 use Rattle.st_core.specs.declared.report.Report.{Report}
 use Rattle.st_core.specs.declared.turned.Turned.{Turned}
 use Rattle.st_core.specs.declared.turned.Turned.TheVariants.{Reported}
-use Rattle.st_core.specs.MachineState.{MachineState}
+use Rattle.st_core.specs.MachineState.{MachineState, Machine}
 use Rattle.st_core.specs.Callbacks.{Callbacks, Called, or_old, called_of, outcome_of, handled_with, entered_by, is_entered}
 use Rattle.st_core.specs.Choice.{next_event_of}
 use Rattle.st_core.specs.Stop.{unless_ended}
-use Rattle.st_core.specs.Transition.{with_moment, with_called, with_settled, has_numbers, times_of, report_of, went_on, stopped, settled, transition_of, turn_running, turn_of}
+use Rattle.st_core.specs.Transition.{with_moment, with_called, with_settled, has_numbers, times_of, report_of, unless_refused, went_on, stopped, concluded, transition_of, turn_running, turn_of}
 use Rattle.st_core.specs.declared.entry.Entry.{Entry}
 use Rattle.st_core.specs.Post.{post_of, post_running, post_refused}
-use Rattle.st_core.specs.Run.{Meets, turn_takes_memory, turn_without_memory, post_takes_memory}
+use Rattle.st_core.specs.declared.answer.Answer.TheVariants as answer
+use Rattle.st_core.specs.declared.command.Command.TheVariants as command
+use Rattle.st_core.specs.Run.{Meets, Does, turn_takes_memory, turn_without_memory, post_takes_memory}
 
 -- ---- numbers
 range_with_len_more : (first count : ℕ) → range_with_len first (count + 1) ≡ range_with_len first count ++ (first + count) ∷ []
@@ -64,49 +66,68 @@ module _ {S D C : Type 0} where
   of_both true a b h k = h
   of_both false a b h k = k
 
-  pub went_on_takes_memory : (old machine : MachineState S D C) (number : ℕ) (called : Called S D C) → turn_takes_memory (went_on old machine number called).0 ≡ true
-  went_on_takes_memory old machine number called = of_both (has_numbers machine called.actions) _ _ refl refl
+  pub went_on_takes_memory : (machine : MachineState S D C) (number : ℕ) (called : Called S D C) → turn_takes_memory (went_on machine number called).0 ≡ true
+  went_on_takes_memory machine number called = of_both (has_numbers machine called.actions) _ _ refl refl
 
   -- what comes of a callback takes memory
-  pub settled_takes_memory : (callbacks : Callbacks S D C) (old machine : MachineState S D C) (number : ℕ) (called : Called S D C) (reason : Option ℕ)
-      → turn_takes_memory (settled callbacks old machine number called reason).0 ≡ true
-  settled_takes_memory callbacks old machine number called None = went_on_takes_memory old machine number called
-  settled_takes_memory callbacks old machine number called (Some reason) = refl
+  pub concluded_takes_memory : (callbacks : Callbacks S D C) (machine : MachineState S D C) (number : ℕ) (called : Called S D C) (reason : Option ℕ)
+      → turn_takes_memory (concluded callbacks machine number called reason).0 ≡ true
+  concluded_takes_memory callbacks machine number called None = went_on_takes_memory machine number called
+  concluded_takes_memory callbacks machine number called (Some reason) = refl
 
 -- ---- answers
 module _ {S D C : Type 0} (callbacks : Callbacks S D C) (old machine : MachineState S D C) (number : ℕ) (called : Called S D C) where
   -- the callbacks give no reason to stop
-  pub goes_on : called.reason ≡ None → settled callbacks old machine number called called.reason ≡ went_on old machine number called
-  goes_on none = ap (λ (reason : Option ℕ). settled callbacks old machine number called reason) none
+  pub goes_on : called.reason ≡ None
+      → unless_refused old (concluded callbacks machine number called called.reason) ≡ unless_refused old (went_on machine number called)
+  goes_on none = ap (λ (reason : Option ℕ). unless_refused old (concluded callbacks machine number called reason)) none
 
   -- they give one
   pub stops : (reason : ℕ) → called.reason ≡ Some reason
-      → settled callbacks old machine number called called.reason ≡ stopped callbacks machine number called reason
-  stops reason some = ap (λ (reason : Option ℕ). settled callbacks old machine number called reason) some
+      → unless_refused old (concluded callbacks machine number called called.reason) ≡ stopped callbacks machine number called reason
+  stops reason some = ap (λ (reason : Option ℕ). unless_refused old (concluded callbacks machine number called reason)) some
 
 module _ {S D C : Type 0} (old machine after : MachineState S D C) (number : ℕ) (called : Called S D C) where
   -- too few numbers are left
   pub went_on_exhausted : has_numbers machine called.actions ≡ false
-      → Meets turn_takes_memory turn_without_memory (Err Exhausted) old old (went_on old machine number called)
+      → Meets turn_takes_memory turn_without_memory (Err Exhausted) old old (unless_refused old (went_on machine number called))
   went_on_exhausted h = rw h (inl (refl, refl))
 
   -- it was refused, for want of memory or of numbers
   pub went_on_refused : (refusal : Refusal) → after ≡ old
       → ((refusal ≡ NoMemory) ⊎ ((refusal ≡ Exhausted) × (has_numbers machine called.actions ≡ false)))
-      → Meets turn_takes_memory turn_without_memory (Err refusal) old after (went_on old machine number called)
-  went_on_refused refusal same (inl memory) = inr (went_on_takes_memory old machine number called, ap Err memory, same)
+      → Meets turn_takes_memory turn_without_memory (Err refusal) old after (unless_refused old (went_on machine number called))
+  went_on_refused refusal same (inl memory) = inr (went_on_takes_memory machine number called, ap Err memory, same)
   went_on_refused refusal same (inr numbers) = rw (numbers.0, same) (went_on_exhausted numbers.1)
 
   -- the machine went on
   pub went_on_is : has_numbers machine called.actions ≡ true → {report : Report S} → report ≡ report_of machine number called
       → after ≡ with_settled (with_called machine called) number called
-      → Meets turn_takes_memory turn_without_memory (Ok (Reported report)) old after (went_on old machine number called)
+      → Meets turn_takes_memory turn_without_memory (Ok (Reported report)) old after (unless_refused old (went_on machine number called))
   went_on_is h same_report same_after = rw (h, same_report, same_after) (inl (refl, refl))
+
+-- a machine is its module and its machine state
+machine_same : {M S D C : Type 0} (new : Machine M S D C) (module_ : M) (machine : MachineState S D C) → new.module_ ≡ module_ → new.machine ≡ machine
+    → new ≡ record { module_ = module_; machine = machine }
+machine_same {M} {S} {D} {C} new module_ machine same_module same_machine =
+    ap (λ (m : M). ofparts m new.machine) same_module ∙ ap (λ (s : MachineState S D C). ofparts module_ s) same_machine
+  where
+    ofparts : M → MachineState S D C → Machine M S D C
+    ofparts m s = record { module_ = m; machine = s }
 
 -- a call meets a definition that is the same
 pub meets_same : {A T : Type 0} (takes : A → Bool) (without answer : A) (old new : T) {definition other : A × T} → other ≡ definition
     → Meets takes without answer old new definition → Meets takes without answer old new other
 meets_same takes without answer old new same meets = rw same meets
+
+-- a turn that meets its definition, of a machine whose module stays, is what the command does
+pub turn_does : {M S D C : Type 0} (callbacks : M → Callbacks S D C) (old new : Machine M S D C) (now : ℕ) (result : Result (Turned S) Refusal)
+    → new.module_ ≡ old.module_ → Meets turn_takes_memory turn_without_memory result old.machine new.machine (turn_of (callbacks old.module_) old.machine now)
+    → Does callbacks old (command.Turn now) (answer.Turn result) new
+turn_does {M} {S} {D} {C} callbacks old new now result same (inl met) =
+    inl (ap answer.Turn met.0, machine_same new old.module_ (turn_of (callbacks old.module_) old.machine now).1 same met.1)
+turn_does {M} {S} {D} {C} callbacks old new now result same (inr none) =
+    inr (none.0, ap answer.Turn none.1, machine_same new old.module_ old.machine same none.2)
 
 -- new data stand in the place of data that stand in the place of others
 pub or_old_twice : {D : Type 0} (held : D) (new before : Option D) → or_old held (option_or new before) ≡ or_old (or_old held before) new
@@ -116,43 +137,50 @@ or_old_twice held (Some new) before = refl
 module _ {S D C : Type 0} (callbacks : Callbacks S D C) (machine : MachineState S D C) (now : ℕ) where
   -- a turn of a machine that runs is what comes of the callbacks
   pub turn_is : (event : Event C) → machine.ended ≡ None → now < 2 ^ 63 → next_event_of machine ≡ Some event
-      → turn_of callbacks machine now ≡ settled callbacks machine (with_moment machine now) event.number
-      (called_of callbacks machine event) (called_of callbacks machine event).reason
+      → turn_of callbacks machine now ≡ unless_refused machine (concluded callbacks (with_moment machine now) event.number
+      (called_of callbacks machine event) (called_of callbacks machine event).reason)
   turn_is event ended early next =
-      let running : turn_running callbacks machine now ≡ transition_of callbacks machine (with_moment machine now) (next_event_of machine) =
+      let running : turn_running callbacks machine now ≡ unless_refused machine (transition_of callbacks (with_moment machine now) (next_event_of machine)) =
       rw (lt-ltb now (2 ^ 63) early) refl in
       ap (λ (end : Option (ℕ × ℕ)). unless_ended end (λ refusal. Err refusal) machine (turn_running callbacks machine now)) ended
-      ∙ running ∙ ap (λ (e : Option (Event C)). transition_of callbacks machine (with_moment machine now) e) next
+      ∙ running ∙ ap (λ (e : Option (Event C)). unless_refused machine (transition_of callbacks (with_moment machine now) e)) next
+
+  -- and takes memory
+  pub turn_wants_memory : (event : Event C) → machine.ended ≡ None → now < 2 ^ 63 → next_event_of machine ≡ Some event
+      → turn_takes_memory (turn_of callbacks machine now).0 ≡ true
+  turn_wants_memory event ended early next =
+      ap (λ (done : Result (Turned S) Refusal × MachineState S D C). turn_takes_memory done.0) (turn_is event ended early next)
+      ∙ concluded_takes_memory callbacks (with_moment machine now) event.number (called_of callbacks machine event) (called_of callbacks machine event).reason
 
   -- with no enter call
   pub turn_concludes : (event : Event C) → machine.ended ≡ None → now < 2 ^ 63 → next_event_of machine ≡ Some event
       → is_entered callbacks machine.state (outcome_of callbacks machine event) ≡ false
-      → turn_of callbacks machine now ≡ settled callbacks machine (with_moment machine now) event.number
+      → turn_of callbacks machine now ≡ unless_refused machine (concluded callbacks (with_moment machine now) event.number
       (handled_with callbacks.same_state event.number event.kind machine.state machine.data (outcome_of callbacks machine event))
-      (handled_with callbacks.same_state event.number event.kind machine.state machine.data (outcome_of callbacks machine event)).reason
+      (handled_with callbacks.same_state event.number event.kind machine.state machine.data (outcome_of callbacks machine event)).reason)
   turn_concludes event ended early next no_call =
       let handled = handled_with callbacks.same_state event.number event.kind machine.state machine.data (outcome_of callbacks machine event) in
       turn_is event ended early next
-      ∙ ap (λ (enters : Bool). settled callbacks machine (with_moment machine now) event.number
-      (if enters then entered_by callbacks machine.state handled else handled) (if enters then entered_by callbacks machine.state handled else handled).reason) no_call
+      ∙ ap (λ (enters : Bool). unless_refused machine (concluded callbacks (with_moment machine now) event.number
+      (if enters then entered_by callbacks machine.state handled else handled) (if enters then entered_by callbacks machine.state handled else handled).reason)) no_call
 
   -- with an enter call
   pub turn_enters : (event : Event C) → machine.ended ≡ None → now < 2 ^ 63 → next_event_of machine ≡ Some event
       → is_entered callbacks machine.state (outcome_of callbacks machine event) ≡ true
-      → turn_of callbacks machine now ≡ settled callbacks machine (with_moment machine now) event.number
+      → turn_of callbacks machine now ≡ unless_refused machine (concluded callbacks (with_moment machine now) event.number
       (entered_by callbacks machine.state (handled_with callbacks.same_state event.number event.kind machine.state machine.data (outcome_of callbacks machine event)))
-      (entered_by callbacks machine.state (handled_with callbacks.same_state event.number event.kind machine.state machine.data (outcome_of callbacks machine event))).reason
+      (entered_by callbacks machine.state (handled_with callbacks.same_state event.number event.kind machine.state machine.data (outcome_of callbacks machine event))).reason)
   turn_enters event ended early next call =
       let handled = handled_with callbacks.same_state event.number event.kind machine.state machine.data (outcome_of callbacks machine event) in
       turn_is event ended early next
-      ∙ ap (λ (enters : Bool). settled callbacks machine (with_moment machine now) event.number
-      (if enters then entered_by callbacks machine.state handled else handled) (if enters then entered_by callbacks machine.state handled else handled).reason) call
+      ∙ ap (λ (enters : Bool). unless_refused machine (concluded callbacks (with_moment machine now) event.number
+      (if enters then entered_by callbacks machine.state handled else handled) (if enters then entered_by callbacks machine.state handled else handled).reason)) call
 
 module _ {S D C : Type 0} (machine : MachineState S D C) (entry : Entry) (content : C) where
   -- a post to a machine that runs takes memory where a number is left
-  pub post_wants_memory : machine.ended ≡ None → machine.schedule.next < 2 ^ 63 → post_takes_memory (post_of machine entry content).0 ≡ true
+  pub post_wants_memory : machine.ended ≡ None → machine.schedule.next_number < 2 ^ 63 → post_takes_memory (post_of machine entry content).0 ≡ true
   post_wants_memory running free =
-      let posted : post_takes_memory (post_running machine entry content).0 ≡ true = rw (lt-ltb machine.schedule.next (2 ^ 63) free) refl in
+      let posted : post_takes_memory (post_running machine entry content).0 ≡ true = rw (lt-ltb machine.schedule.next_number (2 ^ 63) free) refl in
       ap (λ (end : Option (ℕ × ℕ)). post_takes_memory (unless_ended end (post_refused content) machine (post_running machine entry content)).0) running ∙ posted
 
 -- ---- what is left, by its parts
@@ -168,16 +196,16 @@ module _ {S D C : Type 0} where
       rw (same_id, same_state, same_data, same_schedule, same_requests, same_latest, same_end) refl
 
 module _ {C : Type 0} (number : ℕ) where
-  pub settled_is : {latest latest2 : ℕ} {schedule schedule2 : Schedule C} {postpone postpone2 changed changed2 : Bool} {inserts inserts2 : List (Insert C)} {requests requests2 : List (Setting C)}
-      → latest ≡ latest2 → schedule ≡ schedule2 → postpone ≡ postpone2 → changed ≡ changed2 → inserts ≡ inserts2 → requests ≡ requests2
-      → settled_in latest schedule number postpone changed inserts requests ≡ settled_in latest2 schedule2 number postpone2 changed2 inserts2 requests2
-  settled_is {latest2 = latest2} {schedule = schedule} {schedule2 = schedule2} {postpone = postpone} {postpone2 = postpone2} {changed = changed} {changed2 = changed2} {inserts = inserts} {inserts2 = inserts2} {requests = requests} same_latest same_schedule same_postpone same_change same_inserts same_requests =
-      ap (λ (l : ℕ). settled_in l schedule number postpone changed inserts requests) same_latest
-      ∙ ap (λ (s : Schedule C). settled_in latest2 s number postpone changed inserts requests) same_schedule
-      ∙ ap (λ (p : Bool). settled_in latest2 schedule2 number p changed inserts requests) same_postpone
-      ∙ ap (λ (d : Bool). settled_in latest2 schedule2 number postpone2 d inserts requests) same_change
-      ∙ ap (λ (i : List (Insert C)). settled_in latest2 schedule2 number postpone2 changed2 i requests) same_inserts
-      ∙ ap (λ (r : List (Setting C)). settled_in latest2 schedule2 number postpone2 changed2 inserts2 r) same_requests
+  pub settled_is : {latest latest2 : ℕ} {schedule schedule2 : Schedule C} {postpone postpone2 changed changed2 : Bool} {inserts inserts2 : List (Insert C)} {settings settings2 : List (Setting C)}
+      → latest ≡ latest2 → schedule ≡ schedule2 → postpone ≡ postpone2 → changed ≡ changed2 → inserts ≡ inserts2 → settings ≡ settings2
+      → settled_in latest schedule number postpone changed inserts settings ≡ settled_in latest2 schedule2 number postpone2 changed2 inserts2 settings2
+  settled_is {latest2 = latest2} {schedule = schedule} {schedule2 = schedule2} {postpone = postpone} {postpone2 = postpone2} {changed = changed} {changed2 = changed2} {inserts = inserts} {inserts2 = inserts2} {settings = settings} same_latest same_schedule same_postpone same_change same_inserts same_settings =
+      ap (λ (l : ℕ). settled_in l schedule number postpone changed inserts settings) same_latest
+      ∙ ap (λ (s : Schedule C). settled_in latest2 s number postpone changed inserts settings) same_schedule
+      ∙ ap (λ (p : Bool). settled_in latest2 schedule2 number p changed inserts settings) same_postpone
+      ∙ ap (λ (d : Bool). settled_in latest2 schedule2 number postpone2 d inserts settings) same_change
+      ∙ ap (λ (i : List (Insert C)). settled_in latest2 schedule2 number postpone2 changed2 i settings) same_inserts
+      ∙ ap (λ (r : List (Setting C)). settled_in latest2 schedule2 number postpone2 changed2 inserts2 r) same_settings
 
 -- ---- the next event, by its parts
 module _ {C : Type 0} where
@@ -209,37 +237,6 @@ pub fewer_inserts : (next inserts timers : ℕ) → nat_le (next + (inserts + ti
 fewer_inserts next inserts timers h = grind (arith, h)
 
 -- ---- timers that are set
-module _ {C : Type 0} where
-  pub numbers_taken-append : (settings : List (Setting C)) (setting : Setting C)
-      → numbers_taken (settings ++ setting ∷ []) ≡ numbers_taken settings + number_taken setting.time
-  numbers_taken-append [] setting = omega arith
-  numbers_taken-append (first ∷ settings) setting =
-      let more = numbers_taken-append settings setting in
-      rw more (omega arith)
-
-module _ {C : Type 0} (settings : List (Setting C)) (index : ℕ) where
-  -- one more request
-  pub more_settings : (setting : Setting C) → slice_get settings index ≡ Some setting
-      → take (index + 1) settings ≡ take index settings ++ setting ∷ []
-  more_settings setting found = more (slice_get_cases settings index).1 where
-    more : ((x : Setting C) × (index < length settings) × (slice_get settings index ≡ Some x) × (get_or settings index x ≡ x))
-        ⊎ ((length settings ≤ index) × (slice_get settings index ≡ None))
-        → take (index + 1) settings ≡ take index settings ++ setting ∷ []
-    more (inl (x, within, there, read)) =
-        let same : x ≡ setting = some_injective (sym there ∙ found) in
-        let one_more : index + 1 ≡ suc index = omega arith in
-        rw one_more (take-suc settings index x within ∙ ap (λ (one : Setting C). take index settings ++ one ∷ []) (read ∙ same))
-    more (inr (past, nothing)) = absurd (none_not_some (slice_get settings index) setting nothing found)
-
-  -- there are so many
-  pub one_more_there : index < length settings → slice_get settings index ≡ None → ⊥
-  one_more_there within nothing = there (slice_get_cases settings index).1 where
-    there : ((x : Setting C) × (index < length settings) × (slice_get settings index ≡ Some x) × (get_or settings index x ≡ x))
-        ⊎ ((length settings ≤ index) × (slice_get settings index ≡ None))
-        → ⊥
-    there (inl (x, inside, found, read)) = none_not_some (slice_get settings index) x nothing found
-    there (inr (past, none)) = omega (arith, within, past)
-
 -- the times of one more request
 pub times_of-append : {C : Type 0} (settings : List (Setting C)) (setting : Setting C)
     → times_of (settings ++ setting ∷ []) ≡ times_of settings ++ (setting.timer, setting.time) ∷ []

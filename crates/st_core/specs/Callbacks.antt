@@ -35,7 +35,7 @@ callbacks_of bound same_state module_ = record {
   same_state = same_state;
 }
 
--- new data where there are some, or else the old
+-- what is new where there is some, or else the old
 abbrev pub or_old : {D : Type 0} → D → Option D → D
 or_old old None = old
 or_old old (Some new) = new
@@ -49,88 +49,42 @@ module _ {C : Type 0} where
   abbrev pub enter_reply_actions : List (Tag × C) → List (EnterAction C)
   enter_reply_actions replies = map (λ (reply : Tag × C). enter_action.Reply reply.0 reply.1) replies
 
-module _ {S D C : Type 0} where
-  -- the state after an outcome: only `NextState` gives one
-  abbrev pub state_after : S → Outcome S D C → S
-  state_after old (NextState state held actions) = state
-  state_after old (KeepState held actions) = old
-  state_after old (KeepStateAndData actions) = old
-  state_after old (RepeatState held actions) = old
-  state_after old (RepeatStateAndData actions) = old
-  state_after old (Stop reason held) = old
-  state_after old (StopAndReply reason replies held) = old
+-- what an outcome of `handle` says: a new state and new data, where it gives some; whether it has the state
+-- entered again, which is no change; its actions, or, where it stops the machine, the replies alone with which
+-- it does; and the reason to stop, if it does
+pub record Said (S D C : Type 0) : Type 0 where
+  pub state : Option S
+  pub «data» : Option D
+  pub repeats : Bool
+  pub actions : List (Action C)
+  pub reason : Option ℕ
 
-  -- the data after an outcome
-  abbrev pub data_after : D → Outcome S D C → D
-  data_after old (NextState state held actions) = held
-  data_after old (KeepState held actions) = held
-  data_after old (KeepStateAndData actions) = old
-  data_after old (RepeatState held actions) = held
-  data_after old (RepeatStateAndData actions) = old
-  data_after old (Stop reason held) = or_old old held
-  data_after old (StopAndReply reason replies held) = or_old old held
+abbrev pub said_by : {S D C : Type 0} → Outcome S D C → Said S D C
+said_by (NextState state held actions) = record { state = Some state; «data» = Some held; repeats = false; actions = actions; reason = None }
+said_by (KeepState held actions) = record { state = None; «data» = Some held; repeats = false; actions = actions; reason = None }
+said_by (KeepStateAndData actions) = record { state = None; «data» = None; repeats = false; actions = actions; reason = None }
+said_by (RepeatState held actions) = record { state = None; «data» = Some held; repeats = true; actions = actions; reason = None }
+said_by (RepeatStateAndData actions) = record { state = None; «data» = None; repeats = true; actions = actions; reason = None }
+said_by (Stop reason held) = record { state = None; «data» = held; repeats = false; actions = []; reason = Some reason }
+said_by (StopAndReply reason replies held) = record { state = None; «data» = held; repeats = false; actions = reply_actions replies; reason = Some reason }
 
-  -- whether an outcome changes the state: a `NextState` whose state differs, and nothing else
-  abbrev pub changes_state : (S → S → Bool) → S → Outcome S D C → Bool
-  changes_state same_state old (NextState state held actions) = not (same_state old state)
-  changes_state same_state old (KeepState held actions) = false
-  changes_state same_state old (KeepStateAndData actions) = false
-  changes_state same_state old (RepeatState held actions) = false
-  changes_state same_state old (RepeatStateAndData actions) = false
-  changes_state same_state old (Stop reason held) = false
-  changes_state same_state old (StopAndReply reason replies held) = false
+-- what an outcome of `enter` says: new data, where it gives some, its actions, or the replies alone with which
+-- it stops the machine, and the reason to stop, if it does
+pub record Entered (D C : Type 0) : Type 0 where
+  pub «data» : Option D
+  pub actions : List (EnterAction C)
+  pub reason : Option ℕ
 
-  -- whether an outcome has the state entered again, which is no change
-  abbrev pub repeats_state : Outcome S D C → Bool
-  repeats_state (NextState state held actions) = false
-  repeats_state (KeepState held actions) = false
-  repeats_state (KeepStateAndData actions) = false
-  repeats_state (RepeatState held actions) = true
-  repeats_state (RepeatStateAndData actions) = true
-  repeats_state (Stop reason held) = false
-  repeats_state (StopAndReply reason replies held) = false
+abbrev pub entered_as : {D C : Type 0} → EnterOutcome D C → Entered D C
+entered_as (enter.KeepState held actions) = record { «data» = Some held; actions = actions; reason = None }
+entered_as (enter.KeepStateAndData actions) = record { «data» = None; actions = actions; reason = None }
+entered_as (enter.Stop reason held) = record { «data» = held; actions = []; reason = Some reason }
+entered_as (enter.StopAndReply reason replies held) = record { «data» = held; actions = enter_reply_actions replies; reason = Some reason }
 
-  -- the actions of an outcome; one that stops has the replies alone with which it stops
-  abbrev pub actions_of : Outcome S D C → List (Action C)
-  actions_of (NextState state held actions) = actions
-  actions_of (KeepState held actions) = actions
-  actions_of (KeepStateAndData actions) = actions
-  actions_of (RepeatState held actions) = actions
-  actions_of (RepeatStateAndData actions) = actions
-  actions_of (Stop reason held) = []
-  actions_of (StopAndReply reason replies held) = reply_actions replies
-
-  -- the reason for which an outcome stops the machine, if it does
-  abbrev pub reason_of : Outcome S D C → Option ℕ
-  reason_of (NextState state held actions) = None
-  reason_of (KeepState held actions) = None
-  reason_of (KeepStateAndData actions) = None
-  reason_of (RepeatState held actions) = None
-  reason_of (RepeatStateAndData actions) = None
-  reason_of (Stop reason held) = Some reason
-  reason_of (StopAndReply reason replies held) = Some reason
-
-module _ {D C : Type 0} where
-  -- the data after an enter call
-  abbrev pub entered_data : D → EnterOutcome D C → D
-  entered_data old (enter.KeepState held actions) = held
-  entered_data old (enter.KeepStateAndData actions) = old
-  entered_data old (enter.Stop reason held) = or_old old held
-  entered_data old (enter.StopAndReply reason replies held) = or_old old held
-
-  -- the actions of an enter call; one that stops has the replies alone with which it stops
-  abbrev pub entered_actions : EnterOutcome D C → List (EnterAction C)
-  entered_actions (enter.KeepState held actions) = actions
-  entered_actions (enter.KeepStateAndData actions) = actions
-  entered_actions (enter.Stop reason held) = []
-  entered_actions (enter.StopAndReply reason replies held) = enter_reply_actions replies
-
-  -- the reason for which an enter call stops the machine, if it does
-  abbrev pub entered_reason : EnterOutcome D C → Option ℕ
-  entered_reason (enter.KeepState held actions) = None
-  entered_reason (enter.KeepStateAndData actions) = None
-  entered_reason (enter.Stop reason held) = Some reason
-  entered_reason (enter.StopAndReply reason replies held) = Some reason
+-- whether a state is given and differs from the old one, as only that of a `NextState` may
+abbrev pub differs : {S : Type 0} → (S → S → Bool) → S → Option S → Bool
+differs same_state old None = false
+differs same_state old (Some state) = not (same_state old state)
 
 -- what the callbacks of a transition come to: the calls in order, the state and data after them,
 -- whether the state changed, the actions of all of them as one list, and the reason to stop, if there
@@ -150,14 +104,15 @@ module _ {S D C : Type 0} where
 
   -- what calls come to, the last of which answers this outcome in a state with data
   abbrev pub called_with : (S → S → Bool) → List (Call S) → S → D → Outcome S D C → Called S D C
-  called_with same_state calls state held outcome = record {
-    calls = calls;
-    state = state_after state outcome;
-    «data» = data_after held outcome;
-    changed = changes_state same_state state outcome;
-    actions = actions_of outcome;
-    reason = reason_of outcome;
-  }
+  called_with same_state calls state held outcome =
+      let said = said_by outcome in record {
+        calls = calls;
+        state = or_old state said.state;
+        «data» = or_old held said.data;
+        changed = differs same_state state said.state;
+        actions = said.actions;
+        reason = said.reason;
+      }
 
   -- what `handle` comes to, called for an event with this number and kind
   abbrev pub handled_with : (S → S → Bool) → ℕ → Kind → S → D → Outcome S D C → Called S D C
@@ -166,14 +121,15 @@ module _ {S D C : Type 0} where
 
   -- the enter call answers this: its data stand, its actions follow those before, and it may stop
   abbrev pub entered_with : S → Called S D C → EnterOutcome D C → Called S D C
-  entered_with old called outcome = record {
-    calls = called.calls ++ Enter old called.state ∷ [];
-    state = called.state;
-    «data» = entered_data called.data outcome;
-    changed = called.changed;
-    actions = called.actions ++ as_actions (entered_actions outcome);
-    reason = entered_reason outcome;
-  }
+  entered_with old called outcome =
+      let entered = entered_as outcome in record {
+        calls = called.calls ++ Enter old called.state ∷ [];
+        state = called.state;
+        «data» = or_old called.data entered.data;
+        changed = called.changed;
+        actions = called.actions ++ as_actions entered.actions;
+        reason = entered.reason;
+      }
 
   -- the state that was come to is entered from the old one
   abbrev pub entered_by : Callbacks S D C → S → Called S D C → Called S D C
@@ -182,7 +138,7 @@ module _ {S D C : Type 0} where
   -- whether there is an enter call after an outcome: at a state change, and where the state is repeated
   abbrev pub is_entered : Callbacks S D C → S → Outcome S D C → Bool
   is_entered callbacks old outcome =
-      callbacks.enters_is && (changes_state callbacks.same_state old outcome || repeats_state outcome)
+      callbacks.enters_is && (differs callbacks.same_state old (said_by outcome).state || (said_by outcome).repeats)
 
   -- the callbacks for an event with this number and kind, to which `handle` answers this outcome
   abbrev pub called_after : Callbacks S D C → MachineState S D C → ℕ → Kind → Outcome S D C → Called S D C

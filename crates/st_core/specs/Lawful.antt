@@ -20,7 +20,7 @@ module _ {C : Type 0} where
   pub record IsLawfulOf (id : MachineId) (schedule : Schedule C) (requests : List (Request C)) (latest : ℕ) (ended : Option (ℕ × ℕ)) : Type 0 where
     pub scheduled : IsLawfulSchedule latest schedule
     pub one_each : OneEach requests
-    pub own : AreOf id schedule.next requests
+    pub own : AreOf id schedule.next_number requests
     pub moment : latest < 2 ^ 63
     pub over : IsOver schedule requests ended
 

@@ -3,7 +3,6 @@ pub mod MachineState
 pub mod Choice
 pub mod Callbacks
 pub mod Stop
-pub mod Prepared
 pub mod Transition
 pub mod Post
 pub mod Tick
@@ -12,4 +11,3 @@ pub mod Start
 pub mod Run
 pub mod Lawful
 pub mod Accounting
-pub mod WorkedTable

@@ -7,7 +7,7 @@ use Rattle.st_events.specs.declared.refused.Refused.{Refused}
 use Rattle.st_events.specs.declared.refusal.Refusal.{Refusal}
 use Rattle.st_events.specs.declared.refusal.Refusal.TheVariants.{Exhausted}
 use Rattle.st_events.specs.declared.tag.Tag.{Tag}
-use Rattle.st_requests.specs.declared.held.Held.TheVariants.{Open}
+use Rattle.st_requests.specs.declared.request_state.RequestState.TheVariants.{Open}
 use Rattle.st_requests.specs.declared.request.Request.{Request}
 use Rattle.st_core.specs.declared.entry.Entry.{Entry}
 use Rattle.st_core.specs.declared.entry.Entry.TheVariants.{Call, Cast, Info}
@@ -34,19 +34,19 @@ post_refused content refusal = Err (record { refusal = refusal; value = content 
 module _ {S D C : Type 0} where
   -- the tag of a call that is posted next: the machine's id and the event's number
   abbrev pub next_tag : MachineState S D C → Tag
-  next_tag machine = record { machine = machine.id; request = machine.schedule.next }
+  next_tag machine = record { machine = machine.id; request = machine.schedule.next_number }
 
   -- the event that a post makes: it gets the next number
   abbrev pub posted_event : MachineState S D C → Entry → C → Event C
   posted_event machine entry content =
-      record { number = machine.schedule.next; kind = kind_of (next_tag machine) entry; content = content }
+      record { number = machine.schedule.next_number; kind = kind_of (next_tag machine) entry; content = content }
 
   -- the event waits behind all others, its number is taken, and a call has opened a request
   abbrev pub with_posted : MachineState S D C → Entry → C → MachineState S D C
   with_posted machine entry content = record machine {
     schedule = record machine.schedule {
       pending = machine.schedule.pending ++ Posted (posted_event machine entry content) ∷ [];
-      next = machine.schedule.next + 1;
+      next_number = machine.schedule.next_number + 1;
     };
     requests = opened_by (next_tag machine) entry machine.requests;
   }
@@ -54,8 +54,8 @@ module _ {S D C : Type 0} where
   -- a post to a machine that runs: it answers the event's number, or that no number is left
   abbrev pub post_running : MachineState S D C → Entry → C → Result ℕ (Refused C) × MachineState S D C
   post_running machine entry content =
-      if nat_lt machine.schedule.next (2 ^ 63)
-      then (Ok machine.schedule.next, with_posted machine entry content)
+      if nat_lt machine.schedule.next_number (2 ^ 63)
+      then (Ok machine.schedule.next_number, with_posted machine entry content)
       else (post_refused content Exhausted, machine)
 
   -- a post

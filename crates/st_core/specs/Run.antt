@@ -1,5 +1,6 @@
 -- A list of commands, from the machine before it to the machine after it.
 use Rattle.std.specs.Prelude.{◌≡◌, ℕ, ◌⊎◌, Bool, true, false, List, [], ◌∷◌, Result, Ok, Err}
+use Rattle.std.specs.Result.{is_err}
 use Rattle.st_requests.specs.declared.collected.Collected.TheVariants.{Gone}
 use Rattle.st_events.specs.declared.refused.Refused.{Refused}
 use Rattle.st_events.specs.declared.refusal.Refusal.{Refusal}
@@ -10,7 +11,7 @@ use Rattle.st_core.specs.declared.command.Command.{Command}
 use Rattle.st_core.specs.declared.command.Command.TheVariants as command
 use Rattle.st_core.specs.declared.answer.Answer.{Answer}
 use Rattle.st_core.specs.declared.answer.Answer.TheVariants as answer
-use Rattle.st_core.specs.MachineState.{MachineState}
+use Rattle.st_core.specs.MachineState.{MachineState, Machine}
 use Rattle.st_core.specs.Callbacks.{Callbacks}
 use Rattle.st_core.specs.Transition.{turn_of, comes_after_callbacks}
 use Rattle.st_core.specs.Stop.{stop_of}
@@ -51,6 +52,15 @@ module _ {S C : Type 0} where
   takes_memory (answer.Collect collected) = false
   takes_memory (answer.Stop stopped) = false
 
+  -- whether an answer is a refusal
+  abbrev pub is_refusal : Answer S C → Bool
+  is_refusal (answer.Post posted) = is_err posted
+  is_refusal (answer.Tick ticked) = is_err ticked
+  is_refusal (answer.Turn turned) = is_err turned
+  is_refusal (answer.Reply taken) = false
+  is_refusal (answer.Collect collected) = false
+  is_refusal (answer.Stop stopped) = is_err stopped
+
   -- what a command answers that found no memory; of one that takes none it is never said
   abbrev pub without_memory : Command C → Answer S C
   without_memory (command.Post entry content) = answer.Post (post_without_memory content)
@@ -83,12 +93,23 @@ module _ {S D C : Type 0} where
   step_of callbacks machine (command.Stop reason) =
       (answer.Stop (stop_of callbacks machine reason).0, (stop_of callbacks machine reason).1)
 
+-- a machine's callbacks are those of its module, by the module's own definitions
+module _ {M S D C : Type 0} (callbacks : M → Callbacks S D C) where
+  -- one command of a machine: what it answers, and what it leaves; the module never changes
+  abbrev pub step_on : Machine M S D C → Command C → Answer S C × Machine M S D C
+  step_on old command =
+      let step = step_of (callbacks old.module_) old.machine command in
+      (step.0, record { module_ = old.module_; machine = step.1 })
+
+  -- a command was done: answer and machine are those of the definition; or it found no memory, and changed
+  -- nothing
+  abbrev pub Does : Machine M S D C → Command C → Answer S C → Machine M S D C → Type 0
+  Does old command answer new = Meets takes_memory (without_memory command) answer old new (step_on old command)
+
   -- these are the answers to these commands, one after another, and this is the machine in the end
-  abbrev pub Runs : Callbacks S D C → MachineState S D C → List (Command C) → List (Answer S C) → MachineState S D C → Type 0
-  Runs callbacks machine [] [] after = after ≡ machine
-  Runs callbacks machine (command ∷ commands) (answer ∷ answers) after =
-      (next : MachineState S D C)
-      × Meets takes_memory (without_memory command) answer machine next (step_of callbacks machine command)
-      × Runs callbacks next commands answers after
-  Runs callbacks machine [] (answer ∷ answers) after = ⊥
-  Runs callbacks machine (command ∷ commands) [] after = ⊥
+  abbrev pub Runs : Machine M S D C → List (Command C) → List (Answer S C) → Machine M S D C → Type 0
+  Runs old [] [] new = new ≡ old
+  Runs old (command ∷ commands) (answer ∷ answers) new =
+      (next : Machine M S D C) × Does old command answer next × Runs next commands answers new
+  Runs old [] (answer ∷ answers) new = ⊥
+  Runs old (command ∷ commands) [] new = ⊥

@@ -9,7 +9,7 @@ use Rattle.st_events.specs.declared.refusal.Refusal.{Refusal}
 use Rattle.st_events.specs.declared.refusal.Refusal.TheVariants.{NoMemory, Exhausted, Moment}
 use Rattle.st_events.specs.declared.time.Time.{Time}
 use Rattle.st_events.specs.declared.timer.Timer.{Timer}
-use Rattle.st_actions.specs.Plan.{inserts_of, requests_of}
+use Rattle.st_actions.specs.Plan.{inserts_of, settings_of}
 use Rattle.st_agenda.specs.Agenda.{inserted_in, all_set_in}
 use Rattle.st_core.specs.declared.call.Call.{Call}
 use Rattle.st_core.specs.declared.call.Call.TheVariants.{Terminate}
@@ -43,7 +43,7 @@ first_state id state held now first = record {
   id = id;
   state = state;
   «data» = held;
-  schedule = record { pending = []; postponed = []; running = []; next = first };
+  schedule = record { pending = []; postponed = []; running = []; next_number = first };
   requests = [];
   latest = now;
   ended = None;
@@ -52,7 +52,7 @@ first_state id state held now first = record {
 -- what the actions of a start ask for is done: events are inserted, and then timers are set
 abbrev pub with_begun : {S D C : Type 0} → MachineState S D C → List (Action C) → MachineState S D C
 with_begun machine actions = record machine {
-  schedule = all_set_in machine.latest (inserted_in machine.schedule (inserts_of actions)) (requests_of actions);
+  schedule = all_set_in machine.latest (inserted_in machine.schedule (inserts_of actions)) (settings_of actions);
 }
 
 module _ {M S D C A : Type 0} where
@@ -66,7 +66,7 @@ module _ {M S D C A : Type 0} where
       if has_numbers machine called.actions
       then Ok (Running
       (record { module_ = module_; machine = with_begun machine called.actions })
-      (start_report_of Started called.calls machine.state (inserted_by machine called.actions) (times_of (requests_of called.actions))))
+      (start_report_of Started called.calls machine.state (inserted_by machine called.actions) (times_of (settings_of called.actions))))
       else start_refused module_ Exhausted
 
   -- the first enter call stops: there is a machine, which has ended, and nothing was inserted or set

@@ -8,10 +8,11 @@ use Rattle.st_events.specs.declared.setting.Setting.{Setting}
 use Rattle.st_events.specs.declared.tag.Tag.{Tag}
 use Rattle.st_events.specs.declared.time.Time.{Time}
 use Rattle.st_events.specs.declared.timer.Timer.{Timer}
-use Rattle.st_actions.specs.Plan.{replies_of, inserts_of, postpone_of, requests_of, plan_of}
+use Rattle.st_actions.specs.Plan.{replies_of, inserts_of, postpone_of, settings_of}
 use Rattle.st_requests.specs.Requests.{with_answers, taken_by}
 use Rattle.st_agenda.specs.Agenda.{settled_in}
 use Rattle.st_agenda.specs.Items.{numbered, numbers_of}
+use Rattle.st_agenda.specs.Timing as timing
 use Rattle.st_core.specs.declared.call.Call.TheVariants.{Terminate}
 use Rattle.st_core.specs.declared.done.Done.{Done}
 use Rattle.st_core.specs.declared.done.Done.TheVariants.{Finished, PutOff, Ended}
@@ -19,7 +20,6 @@ use Rattle.st_core.specs.declared.report.Report.{Report}
 use Rattle.st_core.specs.declared.turned.Turned.{Turned}
 use Rattle.st_core.specs.declared.turned.Turned.TheVariants.{Reported, Idle}
 use Rattle.st_core.specs.MachineState.{MachineState}
-use Rattle.st_core.specs.Prepared.{has_numbers_for}
 use Rattle.st_core.specs.Callbacks.{Callbacks, Called, called_of}
 use Rattle.st_core.specs.Choice.{next_event_of}
 use Rattle.st_core.specs.Stop.{with_ended, unless_ended}
@@ -32,6 +32,15 @@ done_by postpone = if postpone then PutOff else Finished
 abbrev pub comes_after_callbacks : Refusal → Bool
 comes_after_callbacks Exhausted = true
 comes_after_callbacks _ = false
+
+-- what a call leaves that answers so: a refusal leaves the machine as it was
+abbrev pub left_by : {A T : Type 0} → Result A Refusal → T → T → T
+left_by (Ok answer) old new = new
+left_by (Err refusal) old new = old
+
+-- a call that is refused leaves the machine as it was
+abbrev pub unless_refused : {A T : Type 0} → T → Result A Refusal × T → Result A Refusal × T
+unless_refused old done = (done.0, left_by done.0 old done.1)
 
 -- the timers that were set or stopped, with their times
 abbrev pub times_of : {C : Type 0} → List (Setting C) → List (Timer × Time)
@@ -61,16 +70,16 @@ module _ {S D C : Type 0} where
   abbrev pub with_settled : MachineState S D C → ℕ → Called S D C → MachineState S D C
   with_settled machine number called = record machine {
     schedule = settled_in machine.latest machine.schedule number (postpone_of called.actions) called.changed
-        (inserts_of called.actions) (requests_of called.actions);
+        (inserts_of called.actions) (settings_of called.actions);
   }
 
   -- whether there are numbers enough for what actions insert and for the time-outs that they start
   abbrev pub has_numbers : MachineState S D C → List (Action C) → Bool
-  has_numbers machine actions = has_numbers_for machine.schedule.next (plan_of actions)
+  has_numbers machine actions = timing.has_numbers machine.schedule.next_number (inserts_of actions) (settings_of actions)
 
   -- the numbers of the events that actions insert
   abbrev pub inserted_by : MachineState S D C → List (Action C) → List ℕ
-  inserted_by machine actions = numbers_of (numbered machine.schedule.next (inserts_of actions))
+  inserted_by machine actions = numbers_of (numbered machine.schedule.next_number (inserts_of actions))
 
   -- what a turn reports of an event after which the machine goes on
   abbrev pub report_of : MachineState S D C → ℕ → Called S D C → Report S
@@ -82,7 +91,7 @@ module _ {S D C : Type 0} where
     after = called.state;
     replied = replied_by machine called.actions;
     inserted = inserted_by machine called.actions;
-    set = times_of (requests_of called.actions);
+    set = times_of (settings_of called.actions);
   }
 
   -- what a turn reports of an event at which the machine ends
@@ -98,12 +107,12 @@ module _ {S D C : Type 0} where
     set = [];
   }
 
-  -- the machine goes on; where too few numbers are left, the turn is refused and all is as it was
-  abbrev pub went_on : MachineState S D C → MachineState S D C → ℕ → Called S D C → Result (Turned S) Refusal × MachineState S D C
-  went_on old machine number called =
+  -- the machine goes on; where too few numbers are left, the turn is refused
+  abbrev pub went_on : MachineState S D C → ℕ → Called S D C → Result (Turned S) Refusal × MachineState S D C
+  went_on machine number called =
       if has_numbers machine called.actions
       then (Ok (Reported (report_of machine number called)), with_settled (with_called machine called) number called)
-      else (Err Exhausted, old)
+      else (Err Exhausted, machine)
 
   -- the machine ends, and the word of `terminate` is of the new state and data
   abbrev pub stopped : Callbacks S D C → MachineState S D C → ℕ → Called S D C → ℕ → Result (Turned S) Refusal × MachineState S D C
@@ -112,22 +121,22 @@ module _ {S D C : Type 0} where
       (Ok (Reported (stop_report_of machine number called reason word)), with_ended (with_called machine called) reason word)
 
   -- what comes of the callbacks
-  abbrev pub settled : Callbacks S D C → MachineState S D C → MachineState S D C → ℕ → Called S D C → Option ℕ → Result (Turned S) Refusal × MachineState S D C
-  settled callbacks old machine number called None = went_on old machine number called
-  settled callbacks old machine number called (Some reason) = stopped callbacks machine number called reason
+  abbrev pub concluded : Callbacks S D C → MachineState S D C → ℕ → Called S D C → Option ℕ → Result (Turned S) Refusal × MachineState S D C
+  concluded callbacks machine number called None = went_on machine number called
+  concluded callbacks machine number called (Some reason) = stopped callbacks machine number called reason
 
-  -- the transition on an event, if there is one, of a machine that was another before the turn
-  abbrev pub transition_of : Callbacks S D C → MachineState S D C → MachineState S D C → Option (Event C) → Result (Turned S) Refusal × MachineState S D C
-  transition_of callbacks old machine None = (Ok Idle, machine)
-  transition_of callbacks old machine (Some event) =
+  -- the transition on an event, if there is one
+  abbrev pub transition_of : Callbacks S D C → MachineState S D C → Option (Event C) → Result (Turned S) Refusal × MachineState S D C
+  transition_of callbacks machine None = (Ok Idle, machine)
+  transition_of callbacks machine (Some event) =
       let called = called_of callbacks machine event in
-      settled callbacks old machine event.number called called.reason
+      concluded callbacks machine event.number called called.reason
 
-  -- a turn of a machine that runs
+  -- a turn of a machine that runs; one that is refused leaves it as it was, the moment included
   abbrev pub turn_running : Callbacks S D C → MachineState S D C → ℕ → Result (Turned S) Refusal × MachineState S D C
   turn_running callbacks machine now =
       let at : MachineState S D C = with_moment machine now in
-      if nat_lt now (2 ^ 63) then transition_of callbacks machine at (next_event_of at) else (Err Moment, machine)
+      if nat_lt now (2 ^ 63) then unless_refused machine (transition_of callbacks at (next_event_of at)) else (Err Moment, machine)
 
   -- a turn at a moment: what it answers, and what it leaves
   abbrev pub turn_of : Callbacks S D C → MachineState S D C → ℕ → Result (Turned S) Refusal × MachineState S D C

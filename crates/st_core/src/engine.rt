@@ -10,9 +10,6 @@ use st_timeouts::Due;
 use std::alloc::Global;
 use std::marker::Model;
 
-/// The first moment that is refused, in milliseconds, and the first number that no event gets.
-pub(crate) const LIMIT: u64 = 1 << 63;
-
 /// One machine: a callback module with its state, its data, the events that wait, the time-outs that run
 /// and the requests that are open or kept.
 ///

@@ -6,7 +6,7 @@ ghost use Rattle.st_events.specs.declared.action.Action.{Action};
 ghost use Rattle.st_events.specs.Rows.{EnterActionsFit, RepliesFit, InsertsFit, SettingsFit, PlannedFits};
 ghost use Rattle.st_actions.specs.Joined.{as_actions};
 ghost use Rattle.st_actions.specs.Plan.{plan_of};
-ghost use Rattle.st_core.specs.Callbacks.{entered_data, entered_actions, entered_reason, or_old};
+ghost use Rattle.st_core.specs.Callbacks.{entered_as, or_old};
 
 use crate::new_data::replace_given;
 use crate::planning::{join_plans, plan_both, replies_alone};
@@ -16,7 +16,7 @@ use std::alloc::{AllocError, Global};
 
 /// Why an enter call stops the machine, if it does.
 pub(crate) fn entered_reason<D, C>(outcome: &EnterOutcome<D, C>) -> Option<Reason>
-    ensures { result ≡ entered_reason outcome.now }
+    ensures { result ≡ (entered_as outcome.now).reason }
 {
     match outcome {
         EnterOutcome::KeepState(..) | EnterOutcome::KeepStateAndData(..) => None,
@@ -40,8 +40,8 @@ pub(crate) fn plan_entered<D: Drop, C: Drop>(
     requires inserts_fit { InsertsFit C.row }
     requires settings_fit { SettingsFit C.row }
     requires planned_fits { PlannedFits C.row }
-    ensures planned { (actions : List (Action C)) → first ≡ plan_of actions → IfOk result (λ planned. planned ≡ plan_of (actions ++ as_actions (entered_actions outcome))) }
-    ensures new_data { (held : D) → or_old held «data».new ≡ entered_data (or_old held «data».old) outcome }
+    ensures planned { (actions : List (Action C)) → first ≡ plan_of actions → IfOk result (λ planned. planned ≡ plan_of (actions ++ as_actions (entered_as outcome).actions)) }
+    ensures new_data { (held : D) → or_old held «data».new ≡ or_old (or_old held «data».old) (entered_as outcome).data }
 {
     match outcome {
         EnterOutcome::KeepState(new, actions) => {

@@ -1,6 +1,7 @@
 //! Laws of machines, for every callback module: each is shown once, and calling it does nothing. All but the
 //! first speak of the definitions alone.
-ghost use Rattle.std.specs.Prelude.{◌≡◌, ℕ, ◌<◌, ◌^◌, None, Ok, List};
+ghost use Rattle.std.specs.Prelude.{◌≡◌, ℕ, ◌<◌, ◌^◌, true, false, None, Ok, List};
+ghost use Rattle.st_events.specs.declared.event.Event.{Event};
 ghost use Rattle.st_events.specs.declared.init.Init.{Init};
 ghost use Rattle.st_events.specs.declared.machine_id.MachineId.{MachineId};
 ghost use Rattle.st_core.specs.declared.answer.Answer.{Answer};
@@ -8,7 +9,7 @@ ghost use Rattle.st_core.specs.declared.command.Command.{Command};
 ghost use Rattle.st_core.specs.declared.report.Report.{Report};
 ghost use Rattle.st_core.specs.declared.start.Start.TheVariants.{Running};
 ghost use Rattle.st_core.specs.Accounting.{IsAccounted};
-ghost use Rattle.st_core.specs.Callbacks.{Callbacks};
+ghost use Rattle.st_core.specs.Callbacks.{Callbacks, callbacks_of, called_of};
 ghost use Rattle.st_core.specs.Lawful.{IsLawful};
 ghost use Rattle.st_core.specs.MachineState.{Machine, MachineState};
 ghost use Rattle.st_core.specs.Run.{Runs};
@@ -28,6 +29,19 @@ pub fn a_machine_is_lawful<M: Module>(core: &Core<M>)
     let _ = &core.alloc;
 }
 
+/// A state change is a change of value: after the callbacks of an event the state counts as changed where it is
+/// another than before, and nowhere else. So equality of a module's states is equality of values.
+///
+/// Ours: docs/TRANSITIONS.md, State changes; manual: `state_enter()`, on a state change.
+pub fn a_state_change_is_a_change_of_value<M: Module>(_module: &M)
+    ensures changed { (module_ : M) (machine : MachineState M.State M.Data M.Content) (event : Event M.Content)
+        → (called_of (callbacks_of M.Module M.State.eq module_) machine event).changed ≡ true
+        → (called_of (callbacks_of M.Module M.State.eq module_) machine event).state ≡ machine.state → ⊥ }
+    ensures unchanged { (module_ : M) (machine : MachineState M.State M.Data M.Content) (event : Event M.Content)
+        → (called_of (callbacks_of M.Module M.State.eq module_) machine event).changed ≡ false
+        → (called_of (callbacks_of M.Module M.State.eq module_) machine event).state ≡ machine.state }
+{}
+
 /// A start gives a machine that is lawful, and so does one with any first number below 2^63.
 ///
 /// Ours: docs/TRANSITIONS.md, Lawful machines.
@@ -41,8 +55,8 @@ pub fn a_start_is_lawful<M: Module>(_module: &M)
 ///
 /// Ours: docs/TRANSITIONS.md, Lawful machines.
 pub fn a_run_keeps_machines_lawful<M: Module>(_module: &M)
-    ensures { (callbacks : Callbacks M.State M.Data M.Content) (before after : MachineState M.State M.Data M.Content) (commands : List (Command M.Content)) (answers : List (Answer M.State M.Content))
-        → IsLawful before → Runs callbacks before commands answers after → IsLawful after }
+    ensures { (callbacks : M → Callbacks M.State M.Data M.Content) (before after : Machine M M.State M.Data M.Content) (commands : List (Command M.Content)) (answers : List (Answer M.State M.Content))
+        → IsLawful before.machine → Runs callbacks before commands answers after → IsLawful after.machine }
 {}
 
 /// No event is lost and none is finished twice: after any list of commands that leaves a lawful machine
@@ -51,6 +65,6 @@ pub fn a_run_keeps_machines_lawful<M: Module>(_module: &M)
 ///
 /// Ours: docs/TRANSITIONS.md, Accounting.
 pub fn a_run_is_accounted<M: Module>(_module: &M)
-    ensures { (callbacks : Callbacks M.State M.Data M.Content) (before after : MachineState M.State M.Data M.Content) (commands : List (Command M.Content)) (answers : List (Answer M.State M.Content))
-        → IsLawful before → Runs callbacks before commands answers after → after.ended ≡ None → IsAccounted before answers after }
+    ensures { (callbacks : M → Callbacks M.State M.Data M.Content) (before after : Machine M M.State M.Data M.Content) (commands : List (Command M.Content)) (answers : List (Answer M.State M.Content))
+        → IsLawful before.machine → Runs callbacks before commands answers after → after.machine.ended ≡ None → IsAccounted before.machine answers after.machine }
 {}

@@ -23,8 +23,6 @@ mod run;
 mod settings;
 mod start;
 mod stop;
-#[cfg(test)]
-mod tests;
 mod tick;
 mod turn;
 mod turned;
@@ -37,11 +35,12 @@ pub use engine::Core;
 pub use entry::Entry;
 pub use laws::{
     a_machine_is_lawful, a_run_is_accounted, a_run_keeps_machines_lawful, a_start_is_lawful,
+    a_state_change_is_a_change_of_value,
 };
 pub use report::Report;
 pub use st_events::{
-    Action, Actions, EnterAction, EnterActions, EnterOutcome, Init, Kind, MachineId, Module,
-    Outcome, PlainList, Reason, Refusal, Refused, Replies, SmallList, Tag, Time, Timer,
+    Action, Actions, EnterAction, EnterActions, EnterOutcome, Init, Kind, MOMENT_LIMIT, MachineId,
+    Module, NUMBER_LIMIT, Outcome, PlainList, Reason, Refusal, Refused, Replies, SmallList, Tag, Time, Timer,
 };
 pub use st_requests::Collected;
 pub use st_timeouts::Due;

@@ -4,7 +4,7 @@ ghost use Rattle.std.specs.Mem.{FitsInMemory};
 ghost use Rattle.st_events.specs.contracts.outcome.Outcome.{the_row as outcome_row};
 ghost use Rattle.st_events.specs.Rows.{ActionsFit, RepliesFit, InsertsFit, SettingsFit, PlannedFits};
 ghost use Rattle.st_actions.specs.Plan.{plan_of};
-ghost use Rattle.st_core.specs.Callbacks.{state_after, data_after, changes_state, repeats_state, actions_of, reason_of, or_old};
+ghost use Rattle.st_core.specs.Callbacks.{said_by, differs, or_old};
 
 use crate::new_data::replace_given;
 use crate::planning::{plan_actions, replies_alone};
@@ -14,7 +14,7 @@ use std::alloc::{AllocError, Global};
 
 /// The state after an outcome.
 pub(crate) fn state_after<S: Copy, D, C>(old: S, outcome: &Outcome<S, D, C>) -> S
-    ensures { result ≡ state_after old outcome.now }
+    ensures { result ≡ or_old old (said_by outcome.now).state }
 {
     match outcome {
         Outcome::NextState(state, _, _) => *state,
@@ -29,7 +29,7 @@ pub(crate) fn state_after<S: Copy, D, C>(old: S, outcome: &Outcome<S, D, C>) -> 
 
 /// Whether an outcome changes the state.
 pub(crate) fn changes_state<S: Copy + Eq, D, C>(old: S, outcome: &Outcome<S, D, C>) -> bool
-    ensures { result ≡ changes_state S.eq old outcome.now }
+    ensures { result ≡ differs S.eq old (said_by outcome.now).state }
 {
     match outcome {
         Outcome::NextState(state, _, _) => old != *state,
@@ -43,7 +43,7 @@ pub(crate) fn changes_state<S: Copy + Eq, D, C>(old: S, outcome: &Outcome<S, D, 
 
 /// Whether an outcome has the state entered again.
 pub(crate) fn repeats_state<S, D, C>(outcome: &Outcome<S, D, C>) -> bool
-    ensures { result ≡ repeats_state outcome.now }
+    ensures { result ≡ (said_by outcome.now).repeats }
 {
     match outcome {
         Outcome::RepeatState(..) | Outcome::RepeatStateAndData(..) => true,
@@ -57,7 +57,7 @@ pub(crate) fn repeats_state<S, D, C>(outcome: &Outcome<S, D, C>) -> bool
 
 /// Why an outcome stops the machine, if it does.
 pub(crate) fn reason_of<S, D, C>(outcome: &Outcome<S, D, C>) -> Option<Reason>
-    ensures { result ≡ reason_of outcome.now }
+    ensures { result ≡ (said_by outcome.now).reason }
 {
     match outcome {
         Outcome::NextState(..)
@@ -83,8 +83,8 @@ pub(crate) fn plan_outcome<S: Drop, D: Drop, C: Drop>(
     requires inserts_fit { InsertsFit C.row }
     requires settings_fit { SettingsFit C.row }
     requires planned_fits { PlannedFits C.row }
-    ensures planned { IfOk result (λ planned. planned ≡ plan_of (actions_of outcome)) }
-    ensures new_data { (held : D) → or_old held «data».new ≡ data_after (or_old held «data».old) outcome }
+    ensures planned { IfOk result (λ planned. planned ≡ plan_of (said_by outcome).actions) }
+    ensures new_data { (held : D) → or_old held «data».new ≡ or_old (or_old held «data».old) (said_by outcome).data }
 {
     match outcome {
         Outcome::NextState(_state, new, actions) => {

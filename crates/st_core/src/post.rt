@@ -2,12 +2,14 @@
 ghost use Rattle.std.specs.Prelude.{◌≡◌, List, None, OnOk, OnErr};
 ghost use Rattle.st_requests.specs.declared.request.Request.{Request};
 ghost use Rattle.st_requests.specs.Requests.{held_for};
-ghost use Rattle.st_core.specs.Post.{post_of, kind_of, opened_by};
-ghost use Rattle.st_core.specs.Run.{Meets, post_takes_memory, post_without_memory};
+ghost use Rattle.st_core.specs.declared.answer.Answer.TheVariants as answer;
+ghost use Rattle.st_core.specs.declared.command.Command.TheVariants as command;
+ghost use Rattle.st_core.specs.Callbacks.{callbacks_of};
+ghost use Rattle.st_core.specs.Post.{kind_of, opened_by};
+ghost use Rattle.st_core.specs.Run.{Does};
 
-use crate::engine::LIMIT;
 use crate::{Core, Entry};
-use st_events::{Kind, Module, Refusal, Refused, Tag};
+use st_events::{Kind, Module, NUMBER_LIMIT, Refusal, Refused, Tag};
 use st_requests::Requests;
 use std::alloc::AllocError;
 
@@ -55,16 +57,15 @@ impl<M: Module> Core<M> {
     ///
     /// Manual: `call/2`, `send_request/2`, `cast/2`, `event_type()`.
     pub fn post(&mut self, entry: Entry, content: M::Content) -> Result<u64, Refused<M::Content>>
-        ensures step { Meets post_takes_memory (post_without_memory content) result self.old.machine self.new.machine (post_of self.old.machine entry content) }
-        ensures unchanged_module { self.new.module_ ≡ self.old.module_ }
+        ensures does { Does (callbacks_of M.Module M.State.eq) self.old (command.Post entry content) (answer.Post result) self.new }
 
         ensures unchanged { OnErr result (self.new ≡ self.old) }
     {
         if let Some((reason, _)) = self.ended {
             return Err(Refused::new(Refusal::Stopped(reason), content));
         }
-        let number = self.agenda.next();
-        if number >= LIMIT {
+        let number = self.agenda.next_number();
+        if number >= NUMBER_LIMIT {
             return Err(Refused::new(Refusal::Exhausted, content));
         }
         let tag = Tag {

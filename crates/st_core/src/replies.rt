@@ -1,6 +1,10 @@
 //! Replies to requests, and what a caller collects.
 ghost use Rattle.std.specs.Prelude.{◌≡◌, option_copied};
-ghost use Rattle.st_core.specs.Replies.{reply_to, collect_of, peek_of};
+ghost use Rattle.st_core.specs.declared.answer.Answer.TheVariants as answer;
+ghost use Rattle.st_core.specs.declared.command.Command.TheVariants as command;
+ghost use Rattle.st_core.specs.Callbacks.{callbacks_of};
+ghost use Rattle.st_core.specs.Replies.{peek_of};
+ghost use Rattle.st_core.specs.Run.{Does};
 
 use crate::Core;
 use st_events::{Module, Tag};
@@ -15,9 +19,7 @@ impl<M: Module> Core<M> {
     ///
     /// Manual: `reply/2`; ours: docs/DECISIONS.md, Requests.
     pub fn reply(&mut self, tag: Tag, content: M::Content) -> bool
-        ensures taken { result ≡ (reply_to self.old.machine tag content).0 }
-        ensures answered { self.new.machine ≡ (reply_to self.old.machine tag content).1 }
-        ensures unchanged_module { self.new.module_ ≡ self.old.module_ }
+        ensures does { Does (callbacks_of M.Module M.State.eq) self.old (command.Reply tag content) (answer.Reply result) self.new }
     {
         self.requests.answer(tag, content)
     }
@@ -41,9 +43,7 @@ impl<M: Module> Core<M> {
     ///
     /// Manual: `receive_response/1`, `call/2`; ours: docs/DECISIONS.md, Requests.
     pub fn collect(&mut self, tag: Tag) -> Collected<M::Content>
-        ensures collected { result ≡ (collect_of self.old.machine tag).0 }
-        ensures left { self.new.machine ≡ (collect_of self.old.machine tag).1 }
-        ensures unchanged_module { self.new.module_ ≡ self.old.module_ }
+        ensures does { Does (callbacks_of M.Module M.State.eq) self.old (command.Collect tag) (answer.Collect result) self.new }
     {
         self.requests.collect(tag)
     }

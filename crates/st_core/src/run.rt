@@ -1,18 +1,21 @@
 //! A list of commands, one after another.
-ghost use Rattle.std.specs.Prelude.{◌≡◌, None, IfOk, IfErr};
+ghost use Rattle.std.specs.Prelude.{◌≡◌, true, None, IfOk, IfErr};
 ghost use Rattle.st_events.specs.declared.refusal.Refusal.TheVariants.{NoMemory};
 ghost use Rattle.st_core.specs.Accounting.{IsAccounted};
 ghost use Rattle.st_core.specs.Callbacks.{callbacks_of};
-ghost use Rattle.st_core.specs.Run.{step_of, takes_memory, without_memory, Meets, Runs};
+ghost use Rattle.st_core.specs.Run.{is_refusal, Does, Runs};
 
 use crate::{Answer, Command, Core};
 use st_events::{Module, Refusal, Refused};
 
 impl<M: Module> Core<M> {
-    /// Does one command.
-    fn step(&mut self, command: Command<M::Content>) -> Answer<M::State, M::Content>
-        ensures step { Meets takes_memory (without_memory command) result self.old.machine self.new.machine (step_of (callbacks_of M.Module M.State.eq self.old.module_) self.old.machine command) }
-        ensures unchanged_module { self.new.module_ ≡ self.old.module_ }
+    /// Does one command, and answers what its call answers.
+    ///
+    /// Ours: docs/DECISIONS.md, Runs.
+    pub fn step(&mut self, command: Command<M::Content>) -> Answer<M::State, M::Content>
+        ensures does { Does (callbacks_of M.Module M.State.eq) self.old command result self.new }
+
+        ensures unchanged { is_refusal result ≡ true → self.new ≡ self.old }
     {
         match command {
             Command::Post(entry, content) => Answer::Post(self.post(entry, content)),
@@ -38,9 +41,8 @@ impl<M: Module> Core<M> {
         &mut self,
         commands: Vec<Command<M::Content>>,
     ) -> Result<Vec<Answer<M::State, M::Content>>, Refused<Vec<Command<M::Content>>>>
-        ensures run { IfOk result (λ answers. Runs (callbacks_of M.Module M.State.eq self.old.module_) self.old.machine commands.items answers.items self.new.machine) }
+        ensures run { IfOk result (λ answers. Runs (callbacks_of M.Module M.State.eq) self.old commands.items answers.items self.new) }
         ensures accounted { IfOk result (λ answers. self.new.machine.ended ≡ None → IsAccounted self.old.machine answers.items self.new.machine) }
-        ensures unchanged_module { self.new.module_ ≡ self.old.module_ }
 
         ensures unchanged { IfErr result (λ refused. (refused.refusal ≡ NoMemory) × (refused.value ≡ commands) × (self.new ≡ self.old)) }
     {

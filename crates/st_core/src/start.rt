@@ -5,7 +5,6 @@ ghost use Rattle.st_core.specs.Callbacks.{Called, callbacks_of, begun_with, ente
 ghost use Rattle.st_core.specs.Start.{start_of, begun_as, started_with, ended_with, Starts, first_state};
 
 use crate::calls::{one_call, with_call};
-use crate::engine::LIMIT;
 use crate::entered::{entered_reason, plan_entered};
 use crate::new_data::replace;
 use crate::planning::plan_actions;
@@ -13,7 +12,7 @@ use crate::prepared::prepare;
 use crate::{Call, Core, Done, Report};
 use st_actions::Planned;
 use st_agenda::Agenda;
-use st_events::{Actions, Init, MachineId, Module, PlainList, Reason, Refusal, Refused};
+use st_events::{Actions, Init, MOMENT_LIMIT, MachineId, Module, PlainList, Reason, Refusal, Refused};
 use st_requests::Requests;
 use std::alloc::Global;
 
@@ -73,7 +72,7 @@ impl<M: Module> Core<M> {
         requires greatest { first < 2 ^ 63 }
         ensures start { Starts «module» result (start_of (callbacks_of M.Module M.State.eq «module») «module» id (M.init_is «module» arg.now) now first) }
     {
-        if now >= LIMIT {
+        if now >= MOMENT_LIMIT {
             return Err(Refused::new(Refusal::Moment, module));
         }
         match module.init(alloc, arg) {

@@ -1,7 +1,10 @@
 //! A machine is stopped from outside.
-ghost use Rattle.std.specs.Prelude.{◌≡◌};
+ghost use Rattle.std.specs.Prelude.{◌≡◌, OnErr};
+ghost use Rattle.st_core.specs.declared.answer.Answer.TheVariants as answer;
+ghost use Rattle.st_core.specs.declared.command.Command.TheVariants as command;
 ghost use Rattle.st_core.specs.Callbacks.{callbacks_of};
-ghost use Rattle.st_core.specs.Stop.{stop_of, with_ended};
+ghost use Rattle.st_core.specs.Run.{Does};
+ghost use Rattle.st_core.specs.Stop.{with_ended};
 
 use crate::Core;
 use st_agenda::Agenda;
@@ -16,9 +19,9 @@ impl<M: Module> Core<M> {
     ///
     /// Manual: `stop/3`, `Module:terminate/3`; ours: docs/DECISIONS.md, A stop from outside.
     pub fn stop(&mut self, reason: Reason) -> Result<u32, Refusal>
-        ensures word { result ≡ (stop_of (callbacks_of M.Module M.State.eq self.old.module_) self.old.machine reason).0 }
-        ensures stopped { self.new.machine ≡ (stop_of (callbacks_of M.Module M.State.eq self.old.module_) self.old.machine reason).1 }
-        ensures unchanged_module { self.new.module_ ≡ self.old.module_ }
+        ensures does { Does (callbacks_of M.Module M.State.eq) self.old (command.Stop reason) (answer.Stop result) self.new }
+
+        ensures unchanged { OnErr result (self.new ≡ self.old) }
     {
         if let Some((reason, _)) = self.ended {
             return Err(Refusal::Stopped(reason));
@@ -34,7 +37,7 @@ impl<M: Module> Core<M> {
         ensures ended { self.new.machine ≡ with_ended self.old.machine reason word }
         ensures unchanged_module { self.new.module_ ≡ self.old.module_ }
     {
-        self.agenda = Agenda::new(self.alloc, self.agenda.next());
+        self.agenda = Agenda::new(self.alloc, self.agenda.next_number());
         self.requests.close(reason);
         self.ended = Some((reason, word));
     }

@@ -1,11 +1,12 @@
 //! Time passes.
 ghost use Rattle.std.specs.Prelude.{◌≡◌, OnErr};
-ghost use Rattle.st_core.specs.Run.{Meets, tick_without_memory};
-ghost use Rattle.st_core.specs.Tick.{tick_of, tick_takes_memory};
+ghost use Rattle.st_core.specs.declared.answer.Answer.TheVariants as answer;
+ghost use Rattle.st_core.specs.declared.command.Command.TheVariants as command;
+ghost use Rattle.st_core.specs.Callbacks.{callbacks_of};
+ghost use Rattle.st_core.specs.Run.{Does};
 
 use crate::Core;
-use crate::engine::LIMIT;
-use st_events::{Module, Refusal};
+use st_events::{MOMENT_LIMIT, Module, Refusal};
 
 impl<M: Module> Core<M> {
     /// Tells the machine the moment, in milliseconds, and answers how many time-outs expire: each that is
@@ -18,15 +19,14 @@ impl<M: Module> Core<M> {
     ///
     /// Ours: docs/TRANSITIONS.md, Time-outs; the manual's time-outs come by themselves.
     pub fn tick(&mut self, now: u64) -> Result<u64, Refusal>
-        ensures step { Meets tick_takes_memory tick_without_memory result self.old.machine self.new.machine (tick_of self.old.machine now) }
-        ensures unchanged_module { self.new.module_ ≡ self.old.module_ }
+        ensures does { Does (callbacks_of M.Module M.State.eq) self.old (command.Tick now) (answer.Tick result) self.new }
 
         ensures unchanged { OnErr result (self.new ≡ self.old) }
     {
         if let Some((reason, _)) = self.ended {
             return Err(Refusal::Stopped(reason));
         }
-        if now >= LIMIT {
+        if now >= MOMENT_LIMIT {
             return Err(Refusal::Moment);
         }
         let latest = self.latest.max(now);

@@ -3,21 +3,22 @@
 ghost use Rattle.std.specs.Prelude.{◌≡◌, ◌<◌, ◌^◌, [], ◌∷◌, Some, IfOk, OnErr};
 ghost use Rattle.std.specs.Option.{option_map};
 ghost use Rattle.st_actions.specs.Plan.{plan_of, replies_of};
+ghost use Rattle.st_core.specs.declared.answer.Answer.TheVariants as answer;
 ghost use Rattle.st_core.specs.declared.call.Call.TheVariants.{Handle, Enter};
+ghost use Rattle.st_core.specs.declared.command.Command.TheVariants as command;
 ghost use Rattle.st_core.specs.Callbacks.{Called, callbacks_of, or_old, handled_with, entered_by, is_entered};
 ghost use Rattle.st_core.specs.Choice.{next_event_of};
-ghost use Rattle.st_core.specs.Transition.{with_moment, done_by, went_on, stopped, settled, turn_of};
-ghost use Rattle.st_core.specs.Run.{Meets, turn_takes_memory, turn_without_memory};
+ghost use Rattle.st_core.specs.Transition.{with_moment, done_by, unless_refused, went_on, stopped, concluded};
+ghost use Rattle.st_core.specs.Run.{Does, Meets, turn_takes_memory, turn_without_memory};
 
 use crate::calls::{one_call, with_call};
-use crate::engine::LIMIT;
 use crate::entered::{entered_reason, plan_entered};
 use crate::new_data::{or_old, replace};
 use crate::outcomes::{changes_state, plan_outcome, reason_of, repeats_state, state_after};
 use crate::prepared::prepare;
 use crate::{Call, Core, Done, Report, Turned};
 use st_actions::Planned;
-use st_events::{Kind, Module, Outcome, PlainList, Reason, Refusal, Replies};
+use st_events::{Kind, MOMENT_LIMIT, Module, Outcome, PlainList, Reason, Refusal, Replies};
 use std::alloc::{AllocError, Global};
 
 /// What a module's `handle` answers.
@@ -91,15 +92,14 @@ impl<M: Module> Core<M> {
     ///
     /// Manual: `transition_option()`, the steps of a state transition; `state_enter()`.
     pub fn turn(&mut self, now: u64) -> Result<Turned<M::State>, Refusal>
-        ensures step { Meets turn_takes_memory turn_without_memory result self.old.machine self.new.machine (turn_of (callbacks_of M.Module M.State.eq self.old.module_) self.old.machine now) }
-        ensures unchanged_module { self.new.module_ ≡ self.old.module_ }
+        ensures does { Does (callbacks_of M.Module M.State.eq) self.old (command.Turn now) (answer.Turn result) self.new }
 
         ensures unchanged { OnErr result (self.new ≡ self.old) }
     {
         if let Some((reason, _)) = self.ended {
             return Err(Refusal::Stopped(reason));
         }
-        if now >= LIMIT {
+        if now >= MOMENT_LIMIT {
             return Err(Refusal::Moment);
         }
         let Some((number, kind)) = self.agenda.next_event() else {
@@ -132,7 +132,7 @@ impl<M: Module> Core<M> {
         ensures step { (called : Called M.State M.Data M.Content)
             → called ≡ handled_with M.State.eq number kind self.old.machine.state self.old.machine.data outcome
             → Meets turn_takes_memory turn_without_memory result self.old.machine self.new.machine
-            (settled (callbacks_of M.Module M.State.eq self.old.module_) self.old.machine (with_moment self.old.machine now) number called called.reason) }
+            (unless_refused self.old.machine (concluded (callbacks_of M.Module M.State.eq self.old.module_) (with_moment self.old.machine now) number called called.reason)) }
         ensures unchanged_module { self.new.module_ ≡ self.old.module_ }
 
         ensures unchanged { OnErr result (self.new ≡ self.old) }
@@ -164,7 +164,7 @@ impl<M: Module> Core<M> {
             → called ≡ entered_by (callbacks_of M.Module M.State.eq self.old.module_) self.old.machine.state
             (handled_with M.State.eq number kind self.old.machine.state self.old.machine.data outcome)
             → Meets turn_takes_memory turn_without_memory result self.old.machine self.new.machine
-            (settled (callbacks_of M.Module M.State.eq self.old.module_) self.old.machine (with_moment self.old.machine now) number called called.reason) }
+            (unless_refused self.old.machine (concluded (callbacks_of M.Module M.State.eq self.old.module_) (with_moment self.old.machine now) number called called.reason)) }
         ensures unchanged_module { self.new.module_ ≡ self.old.module_ }
 
         ensures unchanged { OnErr result (self.new ≡ self.old) }
@@ -202,7 +202,7 @@ impl<M: Module> Core<M> {
             → called.calls ≡ calls → called.state ≡ after → called.data ≡ or_old self.old.machine.data «data» → called.changed ≡ changed
             → plan_of called.actions ≡ planned
             → Meets turn_takes_memory turn_without_memory result self.old.machine self.new.machine
-            (went_on self.old.machine (with_moment self.old.machine now) number called) }
+            (unless_refused self.old.machine (went_on (with_moment self.old.machine now) number called)) }
         ensures unchanged_module { self.new.module_ ≡ self.old.module_ }
 
         ensures unchanged { OnErr result (self.new ≡ self.old) }

@@ -5,7 +5,6 @@ use Rattle.std.specs.Prelude.{String}
 use Rattle.std.specs.String.{string_eq}
 use Rattle.std.proofs.lemmas.Bool.{cases_Bool, ltb-true, ltb-false}
 use Rattle.indexmap.specs.IndexMap.{set_value_at, insert_entry}
-use Rattle.st_core.specs.Run.{Meets}
 use Rattle.st_door.specs.Doors.{NamedDoor, DoorMachine, door_named, IsFirst, has_name, door_of, change_first}
 use Rattle.st_door.specs.Entries.{DoorCore, door_of_entry, doors_of_entries}
 
@@ -172,11 +171,3 @@ ok_always P (Err e) h = tt
 
 pub when_none : {T : Type 0} (P : Type 0) (o : Option T) → o ≡ None → IfNone o P → P
 when_none P o none h = rw none at h
-
--- a call that answered `Ok` did what its definition says
-pub met-ok : {T E M : Type 0} (takes_memory : Result T E → Bool) (refusal : E) (answer : Result T E) (value : T) (old new : M) (definition : Result T E × M)
-    → answer ≡ Ok value → Meets takes_memory (Err refusal) answer old new definition → new ≡ definition.1
-met-ok takes_memory refusal answer value old new definition ok met = elim met [
-  | inl same ↦ same.1
-  | inr failed ↦ let none : answer ≡ Err refusal = failed.1 in cc
-]

@@ -11,12 +11,12 @@ use Rattle.st_core.specs.Post.{post_of, next_tag}
 use Rattle.st_door.specs.declared.door_content.DoorContent.{DoorContent}
 use Rattle.st_door.specs.declared.door_content.DoorContent.TheVariants.{CodeLength}
 use Rattle.st_door.specs.declared.line.Line.TheVariants as line
-use Rattle.st_door.specs.declared.reply.Reply.TheVariants.{Printed, Refuses}
+use Rattle.st_door.specs.declared.effect.Effect.TheVariants.{Printed, Refuses}
 use Rattle.st_door.specs.Doors.{NamedDoor, DoorMachine, IsFirst, SameLabels, door_named, door_of, has_name, ask_of, asked_door, tag_of, next_tag_of, refusal_of, door_collect_of, collected_door, collected_length}
 use Rattle.st_door.specs.Printing.{length_text}
-use Rattle.st_door.specs.Script.{ScriptState, asked_length, rested_of, settled_of, step_of, length_collected, length_finished, printing}
+use Rattle.st_door.specs.Script.{ScriptState, asked_length, rested_of, effect_of, step_of, length_collected, length_finished, printing}
 use Rattle.st_door.proofs.DoorLemmas.{IsFirst-within, IsFirst-changed, IsFirst-found}
-use Rattle.st_door.proofs.SettlingLemmas.{no_door, labels-set, labels-more}
+use Rattle.st_door.proofs.IdleLemmas.{no_door, labels-set, labels-more}
 use Rattle.st_door.proofs.ScriptStateLemmas.{IsFirst-labels, cases_ended, id-post, post-refused}
 
 -- ---- the call
@@ -33,8 +33,8 @@ tagged-accepted id (Err failed) tag accepted = cc
 -- its tag is the one that the machine gives next
 pub tagged-next : (machine : DoorMachine) (tag : Tag) → Ok tag ≡ tag_of machine.id (post_of machine Call CodeLength).0 → tag ≡ next_tag machine
 tagged-next machine tag accepted = elim (cases_ended machine.ended) [
-  | inl runs ↦ elim (cases_Bool (nat_lt machine.schedule.next (2 ^ 63))) [
-    | inl room ↦ let same = rw (runs, room) at accepted in cc
+  | inl runs ↦ elim (cases_Bool (nat_lt machine.schedule.next_number (2 ^ 63))) [
+    | inl reserved ↦ let same = rw (runs, reserved) at accepted in cc
     | inr full ↦ let never = rw (runs, full) at accepted in cc
   ]
   | inr end ↦ let never = rw end.1 at accepted in cc
@@ -60,13 +60,13 @@ abbrev pub asked_script : ScriptState → ℕ → ScriptState
 asked_script script place = record script { doors = set script.doors place (asked_door (get_or script.doors place no_door)) }
 
 -- the name has its place still, once the door was asked and the doors rest
-pub first-asked : (script asked settled : ScriptState) (name : List ℕ) (place : ℕ) → IsFirst (has_name name) script.doors place
-    → asked ≡ asked_script script place → SameLabels asked.doors settled.doors → IsFirst (has_name name) settled.doors place
-first-asked script asked settled name place first is_asked rests =
+pub first-asked : (script asked idle : ScriptState) (name : List ℕ) (place : ℕ) → IsFirst (has_name name) script.doors place
+    → asked ≡ asked_script script place → SameLabels asked.doors idle.doors → IsFirst (has_name name) idle.doors place
+first-asked script asked idle name place first is_asked rests =
     let within : place < length script.doors = IsFirst-within (has_name name) script.doors place first in
     let labels : SameLabels script.doors asked.doors =
     rw is_asked (labels-set script.doors place no_door _ within (id-post (get_or script.doors place no_door).machine Call CodeLength)) in
-    IsFirst-labels name script.doors settled.doors place (labels-more script.doors asked.doors settled.doors labels rests) first
+    IsFirst-labels name script.doors idle.doors place (labels-more script.doors asked.doors idle.doors labels rests) first
 
 -- ---- the reply
 -- the script with the reply to the call of a tag collected at the door at a place
@@ -105,19 +105,19 @@ length-asked : (script : ScriptState) (name : List ℕ) (place : ℕ) → IsFirs
     → step_of script (line.Length name)
     ≡ printing (length_collected (rested_of (asked_script script place)) name (next_tag_of (get_or script.doors place no_door)) (door_of name (rested_of (asked_script script place)).doors))
 length-asked script name place first accepted =
-    ap (λ (acted : Result ScriptState Refusal). settled_of script (line.Length name) acted) (length-acted script name place first accepted)
+    ap (λ (acted : Result ScriptState Refusal). effect_of script (line.Length name) acted) (length-acted script name place first accepted)
     ∙ ap (λ (found : Option NamedDoor). printing (length_finished (rested_of (asked_script script place)) name found))
     (IsFirst-found (has_name name) script.doors place no_door first)
 
 -- what a line comes to that asks for a length
-pub length-done : (script settled : ScriptState) (name : List ℕ) (place : ℕ) (tag : Tag) → IsFirst (has_name name) script.doors place
+pub length-done : (script idle : ScriptState) (name : List ℕ) (place : ℕ) (tag : Tag) → IsFirst (has_name name) script.doors place
     → Ok tag ≡ tag_of (get_or script.doors place no_door).machine.id (ask_of (get_or script.doors place no_door)).0
-    → settled ≡ rested_of (asked_script script place) → IsFirst (has_name name) settled.doors place
-    → step_of script (line.Length name) ≡ (Printed (length_text name (collected_at settled place tag)), collected_script settled place tag)
-length-done script settled name place tag first tagged rested there =
+    → idle ≡ rested_of (asked_script script place) → IsFirst (has_name name) idle.doors place
+    → step_of script (line.Length name) ≡ (Printed (length_text name (collected_at idle place tag)), collected_script idle place tag)
+length-done script idle name place tag first tagged rested there =
     let door : NamedDoor = get_or script.doors place no_door in
     let next : tag ≡ next_tag_of door = tagged-next door.machine tag tagged in
     length-asked script name place first (tagged-accepted door.machine.id (ask_of door).0 tag tagged)
     ∙ (ap (λ (s : ScriptState). printing (length_collected s name (next_tag_of door) (door_of name s.doors))) (sym rested)
-    ∙ (ap (λ (t : Tag). printing (length_collected settled name t (door_of name settled.doors))) (sym next)
-    ∙ ap printing (collected-there settled name place tag there)))
+    ∙ (ap (λ (t : Tag). printing (length_collected idle name t (door_of name idle.doors))) (sym next)
+    ∙ ap printing (collected-there idle name place tag there)))

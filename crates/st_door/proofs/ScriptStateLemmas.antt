@@ -24,13 +24,13 @@ use Rattle.st_door.specs.declared.door_content.DoorContent.{DoorContent}
 use Rattle.st_door.specs.declared.door_content.DoorContent.TheVariants.{Button}
 use Rattle.st_door.specs.declared.door_state.DoorState.TheVariants.{Locked}
 use Rattle.st_door.specs.declared.line.Line.TheVariants as line
-use Rattle.st_door.specs.declared.reply.Reply.{Reply}
-use Rattle.st_door.specs.declared.reply.Reply.TheVariants.{Printed, Refuses}
+use Rattle.st_door.specs.declared.effect.Effect.{Effect}
+use Rattle.st_door.specs.declared.effect.Effect.TheVariants.{Printed, Refuses}
 use Rattle.st_door.specs.Doors.{NamedDoor, DoorMachine, IsFirst, IsKept, SameLabels, door_limit, door_named, door_of, has_name, is_ready_door, slots_of, least_from, free_slot_of, press_of, pressed_door, refusal_of, door_callbacks, door_stop_of, ended_door, stop_refusal_of, upward}
 use Rattle.st_door.specs.Printing.{status_of}
 use Rattle.st_door.specs.Script.{ScriptState, door_start_of, next_id_of, the_door, named_status_of, rested_of, step_of, with_start}
 use Rattle.st_door.proofs.DoorLemmas.{IsFirst-within, IsFirst-changed, IsFirst-found, IsFirst-map, IsFirst-of_map}
-use Rattle.st_door.proofs.SettlingLemmas.{no_door, labels-set, labels-more, id-unless}
+use Rattle.st_door.proofs.IdleLemmas.{no_door, labels-set, labels-more, id-unless}
 
 -- ---- the least free place
 any-upward : (more first slot : ℕ) → first ≤ slot → slot < first + more → list_any (λ taken. nat_eq taken slot) (upward first more) ≡ true
@@ -59,7 +59,7 @@ upward-more (suc more) first last same = ap (λ (t : List ℕ). first ∷ t) (up
 -- a door that rests goes to the end
 pub kept-pushed : (doors : List NamedDoor) (from until : ℕ) (door : NamedDoor) → IsKept doors from until
     → length doors < door_limit → door.machine.id.slot ≡ length doors → is_ready_door door ≡ false → IsKept (doors ++ door ∷ []) from until
-kept-pushed doors from until door kept room slot rests = record {
+kept-pushed doors from until door kept reserved slot rests = record {
   ordered = kept.ordered;
   within = rw length-append (omega (arith, kept.within));
   few = rw length-append (omega arith);
@@ -164,8 +164,8 @@ cases_ended (Some end) = inr (end, refl)
 pub post-refused : (machine : DoorMachine) (entry : Entry) (content : DoorContent) (refusal : Refusal)
     → refusal_of (post_of machine entry content).0 ≡ Some refusal → (post_of machine entry content).1 ≡ machine
 post-refused machine entry content refusal refused = elim (cases_ended machine.ended) [
-  | inl runs ↦ elim (cases_Bool (nat_lt machine.schedule.next (2 ^ 63))) [
-    | inl room ↦ let none = rw (runs, room) at refused in cc
+  | inl runs ↦ elim (cases_Bool (nat_lt machine.schedule.next_number (2 ^ 63))) [
+    | inl reserved ↦ let none = rw (runs, reserved) at refused in cc
     | inr full ↦ rw (runs, full) refl
   ]
   | inr end ↦ rw end.1 refl
@@ -205,8 +205,8 @@ button-done script name digit place first accepted =
 
 -- a post keeps the machine's id
 id-post_running : (machine : DoorMachine) (entry : Entry) (content : DoorContent) → (post_running machine entry content).1.id ≡ machine.id
-id-post_running machine entry content = elim (cases_Bool (nat_lt machine.schedule.next (2 ^ 63))) [
-  | inl room ↦ rw room refl
+id-post_running machine entry content = elim (cases_Bool (nat_lt machine.schedule.next_number (2 ^ 63))) [
+  | inl reserved ↦ rw reserved refl
   | inr full ↦ rw full refl
 ]
 
@@ -273,7 +273,7 @@ new-taken script name code place first = rw (IsFirst-found (has_name name) scrip
 pub new-done : (script acted : ScriptState) (name code : List ℕ) → door_of name script.doors ≡ None → length script.doors < door_limit
     → with_start script name (door_start_of script code) ≡ Ok acted
     → step_of script (line.New name code) ≡ (Printed (named_status_of (rested_of acted) name), rested_of acted)
-new-done script acted name code free room started = rw (free, lt-ltb _ _ room, started) refl
+new-done script acted name code free reserved started = rw (free, lt-ltb _ _ reserved, started) refl
 
 -- a door that has started stands behind the others, under its name, and rests
 pub new-place : (script acted : ScriptState) (name code : List ℕ) → door_of name script.doors ≡ None
@@ -323,39 +323,39 @@ started-slot script code core report numbered started =
     ap (λ (id : MachineId). id.slot) (started-state script code core report started).0 ∙ free-slot script.doors numbered
 
 -- ---- the reply once the doors rest
-pub settled-reply : (script settled : ScriptState) (name : List ℕ) (place : ℕ) (said : Reply × ScriptState) (reply : Reply)
-    → settled ≡ rested_of script → said ≡ (Printed (named_status_of (rested_of script) name), rested_of script)
-    → IsFirst (has_name name) settled.doors place → reply ≡ Printed (status_of (get_or settled.doors place no_door))
-    → reply ≡ said.0
-settled-reply script settled name place said reply rested done first says =
+pub idle-effect : (script idle : ScriptState) (name : List ℕ) (place : ℕ) (said : Effect × ScriptState) (effect : Effect)
+    → idle ≡ rested_of script → said ≡ (Printed (named_status_of (rested_of script) name), rested_of script)
+    → IsFirst (has_name name) idle.doors place → effect ≡ Printed (status_of (get_or idle.doors place no_door))
+    → effect ≡ said.0
+idle-effect script idle name place said effect rested done first says =
     says
-    ∙ (ap (λ (text : List ℕ). Printed text) (sym (named-status name settled place no_door first))
-    ∙ (ap (λ (s : ScriptState). Printed (named_status_of s name)) rested ∙ sym (ap (λ (s : Reply × ScriptState). s.0) done)))
+    ∙ (ap (λ (text : List ℕ). Printed text) (sym (named-status name idle place no_door first))
+    ∙ (ap (λ (s : ScriptState). Printed (named_status_of s name)) rested ∙ sym (ap (λ (s : Effect × ScriptState). s.0) done)))
 
-pub settled-script : (script settled : ScriptState) (name : List ℕ) (said : Reply × ScriptState)
-    → settled ≡ rested_of script → said ≡ (Printed (named_status_of (rested_of script) name), rested_of script) → settled ≡ said.1
-settled-script script settled name said rested done = rested ∙ sym (ap (λ (s : Reply × ScriptState). s.1) done)
+pub idle-script : (script idle : ScriptState) (name : List ℕ) (said : Effect × ScriptState)
+    → idle ≡ rested_of script → said ≡ (Printed (named_status_of (rested_of script) name), rested_of script) → idle ≡ said.1
+idle-script script idle name said rested done = rested ∙ sym (ap (λ (s : Effect × ScriptState). s.1) done)
 
 -- the doors with a button pressed at a place have the same labels
 pub labels-pressed : (doors : List NamedDoor) (digit place : ℕ) → place < length doors → SameLabels doors (set doors place (pressed_door digit (get_or doors place no_door)))
 labels-pressed doors digit place within = labels-set doors place no_door _ within (id-post (get_or doors place no_door).machine Cast (Button digit))
 
 -- the name has its place still, once a button was pressed and the doors rest
-pub first-pressed : (script pressed settled : ScriptState) (name : List ℕ) (digit place : ℕ) → IsFirst (has_name name) script.doors place
-    → pressed ≡ pressed_script script digit place → SameLabels pressed.doors settled.doors → IsFirst (has_name name) settled.doors place
-first-pressed script pressed settled name digit place first is_pressed rests =
+pub first-pressed : (script pressed idle : ScriptState) (name : List ℕ) (digit place : ℕ) → IsFirst (has_name name) script.doors place
+    → pressed ≡ pressed_script script digit place → SameLabels pressed.doors idle.doors → IsFirst (has_name name) idle.doors place
+first-pressed script pressed idle name digit place first is_pressed rests =
     let within : place < length script.doors = IsFirst-within (has_name name) script.doors place first in
     let labels : SameLabels script.doors pressed.doors = rw is_pressed (labels-pressed script.doors digit place within) in
-    IsFirst-labels name script.doors settled.doors place (labels-more script.doors pressed.doors settled.doors labels rests) first
+    IsFirst-labels name script.doors idle.doors place (labels-more script.doors pressed.doors idle.doors labels rests) first
 
 -- the doors with the one at a place stopped have the same labels
 pub labels-ended : (doors : List NamedDoor) (reason place : ℕ) → place < length doors → SameLabels doors (set doors place (ended_door reason (get_or doors place no_door)))
 labels-ended doors reason place within = labels-set doors place no_door _ within (id-stop (get_or doors place no_door).machine reason)
 
 -- the name has its place still, once the door was stopped and the doors rest
-pub first-ended : (script ended settled : ScriptState) (name : List ℕ) (reason place : ℕ) → IsFirst (has_name name) script.doors place
-    → ended ≡ ended_script script reason place → SameLabels ended.doors settled.doors → IsFirst (has_name name) settled.doors place
-first-ended script ended settled name reason place first is_ended rests =
+pub first-ended : (script ended idle : ScriptState) (name : List ℕ) (reason place : ℕ) → IsFirst (has_name name) script.doors place
+    → ended ≡ ended_script script reason place → SameLabels ended.doors idle.doors → IsFirst (has_name name) idle.doors place
+first-ended script ended idle name reason place first is_ended rests =
     let within : place < length script.doors = IsFirst-within (has_name name) script.doors place first in
     let labels : SameLabels script.doors ended.doors = rw is_ended (labels-ended script.doors reason place within) in
-    IsFirst-labels name script.doors settled.doors place (labels-more script.doors ended.doors settled.doors labels rests) first
+    IsFirst-labels name script.doors idle.doors place (labels-more script.doors ended.doors idle.doors labels rests) first

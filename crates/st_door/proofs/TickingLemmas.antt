@@ -5,7 +5,7 @@ use Rattle.std.proofs.lemmas.Bool.{cases_Bool}
 use Rattle.std.proofs.lemmas.List.Sums.{sum_by-cons}
 use Rattle.st_core.specs.Tick.{tick_of, tick_running}
 use Rattle.st_door.specs.Doors.{NamedDoor, DoorMachine, SameLabels, ticked_door, ticked_doors, expired_of, all_expired_of}
-use Rattle.st_door.proofs.SettlingLemmas.{id-unless}
+use Rattle.st_door.proofs.IdleLemmas.{id-unless}
 
 -- so many elements from the front are changed
 abbrev pub changed_front : {X : Type 0} → (X → X) → ℕ → List X → List X

@@ -17,8 +17,8 @@ use Rattle.st_door.specs.declared.door_data.DoorData.{DoorData}
 use Rattle.st_door.specs.declared.door_state.DoorState.{DoorState}
 use Rattle.st_door.specs.declared.line.Line.{Line}
 use Rattle.st_door.specs.declared.line.Line.TheVariants as line
-use Rattle.st_door.specs.declared.reply.Reply.{Reply}
-use Rattle.st_door.specs.declared.reply.Reply.TheVariants.{Silent, Printed, Refuses, Malformed}
+use Rattle.st_door.specs.declared.effect.Effect.{Effect}
+use Rattle.st_door.specs.declared.effect.Effect.TheVariants.{Silent, Printed, Refuses, Malformed}
 use Rattle.st_door.specs.Door.{init_of}
 use Rattle.st_door.specs.Doors.{NamedDoor, DoorMachine, door_callbacks, door_limit, door_of, with_machine, free_slot_of, run_until_idle, press_of, refusal_of, ask_of, next_tag_of, door_collect_of, collected_length, door_stop_of, stop_refusal_of, all_expired_of, ticked_doors}
 use Rattle.st_door.specs.Grammar.{line_of}
@@ -157,35 +157,35 @@ finished_of before script (line.Length name) = length_finished script name (door
 finished_of before script line.Names = (names_text script.doors, script)
 
 -- a line that has finished prints its text
-abbrev pub printing : List ℕ × ScriptState → Reply × ScriptState
+abbrev pub printing : List ℕ × ScriptState → Effect × ScriptState
 printing finished = (Printed finished.0, finished.1)
 
 -- a line that is refused changes nothing; else the doors run until they rest, and then it finishes and prints
-abbrev pub settled_of : ScriptState → Line → Result ScriptState Refusal → Reply × ScriptState
-settled_of script said (Err refusal) = (Refuses refusal, script)
-settled_of script said (Ok acted) = printing (finished_of script (rested_of acted) said)
+abbrev pub effect_of : ScriptState → Line → Result ScriptState Refusal → Effect × ScriptState
+effect_of script said (Err refusal) = (Refuses refusal, script)
+effect_of script said (Ok acted) = printing (finished_of script (rested_of acted) said)
 
 -- what a line brings about, and the script after it; a line that says nothing does nothing
-abbrev pub step_of : ScriptState → Line → Reply × ScriptState
+abbrev pub step_of : ScriptState → Line → Effect × ScriptState
 step_of script line.Blank = (Silent, script)
 step_of script line.Malformed = (Malformed, script)
-step_of script (line.New name code) = settled_of script (line.New name code) (acted_of script (line.New name code))
-step_of script (line.Button name digit) = settled_of script (line.Button name digit) (acted_of script (line.Button name digit))
-step_of script (line.Show name) = settled_of script (line.Show name) (acted_of script (line.Show name))
-step_of script (line.At moment) = settled_of script (line.At moment) (acted_of script (line.At moment))
-step_of script (line.Stop name reason) = settled_of script (line.Stop name reason) (acted_of script (line.Stop name reason))
-step_of script (line.Length name) = settled_of script (line.Length name) (acted_of script (line.Length name))
-step_of script line.Names = settled_of script line.Names (acted_of script line.Names)
+step_of script (line.New name code) = effect_of script (line.New name code) (acted_of script (line.New name code))
+step_of script (line.Button name digit) = effect_of script (line.Button name digit) (acted_of script (line.Button name digit))
+step_of script (line.Show name) = effect_of script (line.Show name) (acted_of script (line.Show name))
+step_of script (line.At moment) = effect_of script (line.At moment) (acted_of script (line.At moment))
+step_of script (line.Stop name reason) = effect_of script (line.Stop name reason) (acted_of script (line.Stop name reason))
+step_of script (line.Length name) = effect_of script (line.Length name) (acted_of script (line.Length name))
+step_of script line.Names = effect_of script line.Names (acted_of script line.Names)
 
 -- what the line of a number prints
-abbrev pub printed_of : ℕ → Reply → List ℕ
+abbrev pub printed_of : ℕ → Effect → List ℕ
 printed_of number Silent = []
 printed_of number (Printed text) = text
 printed_of number (Refuses refusal) = refused_text number (number_of refusal)
 printed_of number Malformed = malformed_text number
 
 -- whether the line is refused or malformed
-abbrev pub is_fault : Reply → Bool
+abbrev pub is_fault : Effect → Bool
 is_fault Silent = false
 is_fault (Printed text) = false
 is_fault (Refuses refusal) = true

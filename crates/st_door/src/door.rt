@@ -251,23 +251,5 @@ impl Module for Door {
         copied(alloc, data)
     }
 
-    ghost states_exact = { Prim.search rules };
-
-    ghost outcome_fits = { Prim.search rules };
-
-    ghost enter_outcome_fits = { Prim.search rules };
-
-    ghost init_fits = { Prim.search rules };
-
-    ghost actions_fit = { Prim.search rules };
-
-    ghost enter_actions_fit = { Prim.search rules };
-
-    ghost replies_fit = { Prim.search rules };
-
-    ghost inserts_fit = { Prim.search rules };
-
-    ghost settings_fit = { Prim.search rules };
-
-    ghost planned_fits = { Prim.search rules };
+    ghost lawful = { Prim.search rules };
 }

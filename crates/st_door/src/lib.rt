@@ -9,6 +9,7 @@ mod door_content;
 mod door_data;
 mod door_state;
 mod doors;
+mod effect;
 mod failed;
 mod failures;
 mod input;
@@ -17,16 +18,13 @@ mod lines;
 mod mode;
 mod output;
 mod printing;
-mod reply;
 mod run;
 mod script;
 mod script_fault;
-mod settling;
 mod sink;
 mod source;
-#[cfg(test)]
-mod tests;
 mod text;
+mod until_idle;
 mod word_forms;
 
 pub use counted::Counted;

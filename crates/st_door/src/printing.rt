@@ -4,7 +4,7 @@ ghost use Rattle.st_door.specs.Printing.{state_name_of, status_text, ended_text,
 ghost use Rattle.st_door.specs.Script.{printed_of};
 
 use crate::DoorState;
-use crate::reply::Reply;
+use crate::effect::Effect;
 use crate::text::Text;
 use st_events::Reason;
 use std::alloc::{AllocError, Global};
@@ -67,16 +67,16 @@ pub(crate) fn code_length(
 }
 
 /// What the line of a number prints.
-pub(crate) fn printed(alloc: Global, number: u64, reply: Reply) -> Result<Text, AllocError>
-    ensures { IfOk result (λ text. text ≡ printed_of number reply) }
+pub(crate) fn printed(alloc: Global, number: u64, effect: Effect) -> Result<Text, AllocError>
+    ensures { IfOk result (λ text. text ≡ printed_of number effect) }
 {
-    match reply {
-        Reply::Silent => Ok(Text::from(String::new(alloc))),
-        Reply::Printed(text) => Ok(text),
-        Reply::Refuses(refusal) => {
+    match effect {
+        Effect::Silent => Ok(Text::from(String::new(alloc))),
+        Effect::Printed(text) => Ok(text),
+        Effect::Refuses(refusal) => {
             let refusal = refusal.number();
             Ok(Text::from(format!(in alloc; "line {number} refused {refusal}\n")?))
         }
-        Reply::Malformed => Ok(Text::from(format!(in alloc; "line {number} malformed\n")?)),
+        Effect::Malformed => Ok(Text::from(format!(in alloc; "line {number} malformed\n")?)),
     }
 }

@@ -10,16 +10,16 @@ use crate::line::read_line;
 use crate::lines::{split_lines, without_return};
 use crate::output::write_output;
 use crate::printing::printed;
-use crate::reply::Reply;
+use crate::effect::Effect;
 use crate::script::Script;
 use crate::{Mode, ScriptFault, Sink, Source};
 use std::alloc::Global;
 
 /// Whether a reply makes the script's status 1.
-fn is_fault(reply: &Reply) -> bool
-    ensures { result ≡ is_fault reply.now }
+fn is_fault(effect: &Effect) -> bool
+    ensures { result ≡ is_fault effect.now }
 {
-    matches!(reply, Reply::Refuses(_) | Reply::Malformed)
+    matches!(effect, Effect::Refuses(_) | Effect::Malformed)
 }
 
 /// Does the lines of an input and writes what they print, line by line.
@@ -37,9 +37,9 @@ fn run_input<W: Sink>(alloc: Global, input: &[u8], writer: &mut W) -> Result<u8,
     let mut faulty = false;
     for (index, bytes) in lines.iter().enumerate() {
         let line = read_line(alloc, without_return(bytes))?;
-        let reply = script.obey(line)?;
-        faulty |= is_fault(&reply);
-        let text = printed(alloc, index as u64 + 1, reply)?;
+        let effect = script.obey(line)?;
+        faulty |= is_fault(&effect);
+        let text = printed(alloc, index as u64 + 1, effect)?;
         write_output(writer, text.as_str().as_bytes())?;
     }
     Ok(if faulty { 1 } else { 0 })

@@ -3,26 +3,23 @@ ghost use Rattle.std.specs.Prelude.{◌≡◌, ◌≤◌, ◌<◌, ℕ, None, Ok
 ghost use Rattle.st_door.specs.Doors.{NamedDoor, SameLabels, door_limit, door_of, refusal_of, press_of, pressed_door, stop_refusal_of, door_stop_of, ended_door, ask_of, asked_door, tag_of, door_collect_of, collected_door, collected_length, all_expired_of};
 ghost use Rattle.st_door.specs.Printing.{status_of};
 ghost use Rattle.st_door.specs.Script.{first_script_state, step_of, with_start, door_start_of, ticked_script, rested_of};
-ghost use Rattle.st_door.specs.declared.reply.Reply.TheVariants.{Printed};
+ghost use Rattle.st_door.specs.declared.effect.Effect.TheVariants.{Printed};
 ghost use Rattle.st_door.specs.declared.line.Line.TheVariants as line;
 
 use crate::doors::Doors;
 use crate::line::Line;
 use crate::printing::{code_length, expired};
-use crate::reply::Reply;
-use crate::settling::run_until_idle;
+use crate::effect::Effect;
+use crate::until_idle::run_until_idle;
 use crate::text::Text;
 use crate::{Digits, Door};
-use st_core::{Core, Start};
+use st_core::{Core, MOMENT_LIMIT, Start};
 use st_events::{MachineId, Reason, Refusal, Tag};
 use std::alloc::{AllocError, Global};
 use std::marker::Model;
 
 /// How many doors there may be.
 const DOOR_LIMIT: usize = 65_536;
-
-/// The first moment that is refused.
-const MOMENT_LIMIT: u64 = 1 << 63;
 
 /// A script between two of its lines: its doors, its moment in milliseconds, and from which place up
 /// to which other a door may be ready. Between lines no other is.
@@ -62,13 +59,13 @@ impl Script {
     }
 
     /// Does what a line says, and answers what it brings about.
-    pub(crate) fn obey(&mut self, line: Line) -> Result<Reply, AllocError>
-        ensures reply { IfOk result (λ reply. reply ≡ (step_of self.old line).0) }
+    pub(crate) fn obey(&mut self, line: Line) -> Result<Effect, AllocError>
+        ensures effect { IfOk result (λ effect. effect ≡ (step_of self.old line).0) }
         ensures script { OnOk result (self.new ≡ (step_of self.old line).1) }
     {
         match line {
-            Line::Blank => Ok(Reply::Silent),
-            Line::Malformed => Ok(Reply::Malformed),
+            Line::Blank => Ok(Effect::Silent),
+            Line::Malformed => Ok(Effect::Malformed),
             Line::New { name, code } => self.obey_new(name, code),
             Line::Button { name, digit } => self.obey_button(name.as_str(), digit),
             Line::Show { name } => self.obey_show(name.as_str()),
@@ -80,113 +77,113 @@ impl Script {
     }
 
     /// Starts a door under a name, and answers its status.
-    fn obey_new(&mut self, name: Text, code: Digits) -> Result<Reply, AllocError>
-        ensures reply { IfOk result (λ reply. reply ≡ (step_of self.old (line.New name code)).0) }
+    fn obey_new(&mut self, name: Text, code: Digits) -> Result<Effect, AllocError>
+        ensures effect { IfOk result (λ effect. effect ≡ (step_of self.old (line.New name code)).0) }
         ensures script { OnOk result (self.new ≡ (step_of self.old (line.New name code)).1) }
     {
         if let Some(taken) = self.doors.place_of(name.as_str()) {
             let id = self.doors.id_at(taken);
-            return Ok(Reply::Refuses(Refusal::AlreadyStarted(id)));
+            return Ok(Effect::Refuses(Refusal::AlreadyStarted(id)));
         }
         let place = self.doors.len();
         if place >= DOOR_LIMIT {
-            return Ok(Reply::Refuses(Refusal::Full));
+            return Ok(Effect::Refuses(Refusal::Full));
         }
         if let Some(refusal) = self.start_door(name, code)? {
-            return Ok(Reply::Refuses(refusal));
+            return Ok(Effect::Refuses(refusal));
         }
-        self.settle()?;
-        self.status_reply(place)
+        self.run_until_idle()?;
+        self.status_effect(place)
     }
 
     /// Presses a button of the door of a name, and answers its status.
-    fn obey_button(&mut self, name: &str, digit: u8) -> Result<Reply, AllocError>
-        ensures reply { IfOk result (λ reply. reply ≡ (step_of self.old (line.Button name.now digit)).0) }
+    fn obey_button(&mut self, name: &str, digit: u8) -> Result<Effect, AllocError>
+        ensures effect { IfOk result (λ effect. effect ≡ (step_of self.old (line.Button name.now digit)).0) }
         ensures script { OnOk result (self.new ≡ (step_of self.old (line.Button name.now digit)).1) }
     {
         let Some(place) = self.doors.place_of(name) else {
-            return Ok(Reply::Refuses(Refusal::NoSuchName));
+            return Ok(Effect::Refuses(Refusal::NoSuchName));
         };
         if let Some(refusal) = self.press(place, digit)? {
-            return Ok(Reply::Refuses(refusal));
+            return Ok(Effect::Refuses(refusal));
         }
-        self.settle()?;
-        self.status_reply(place)
+        self.run_until_idle()?;
+        self.status_effect(place)
     }
 
     /// Answers the status of the door of a name.
-    fn obey_show(&mut self, name: &str) -> Result<Reply, AllocError>
-        ensures reply { IfOk result (λ reply. reply ≡ (step_of self.old (line.Show name.now)).0) }
+    fn obey_show(&mut self, name: &str) -> Result<Effect, AllocError>
+        ensures effect { IfOk result (λ effect. effect ≡ (step_of self.old (line.Show name.now)).0) }
         ensures script { OnOk result (self.new ≡ (step_of self.old (line.Show name.now)).1) }
     {
         let Some(place) = self.doors.place_of(name) else {
-            return Ok(Reply::Refuses(Refusal::NoSuchName));
+            return Ok(Effect::Refuses(Refusal::NoSuchName));
         };
-        self.settle()?;
-        self.status_reply(place)
+        self.run_until_idle()?;
+        self.status_effect(place)
     }
 
     /// Lets time pass up to a moment, and answers how many time-outs expire. A moment before the script's
     /// counts as the script's.
-    fn obey_at(&mut self, moment: u64) -> Result<Reply, AllocError>
-        ensures reply { IfOk result (λ reply. reply ≡ (step_of self.old (line.At moment)).0) }
+    fn obey_at(&mut self, moment: u64) -> Result<Effect, AllocError>
+        ensures effect { IfOk result (λ effect. effect ≡ (step_of self.old (line.At moment)).0) }
         ensures script { OnOk result (self.new ≡ (step_of self.old (line.At moment)).1) }
     {
         if moment >= MOMENT_LIMIT {
-            return Ok(Reply::Refuses(Refusal::Moment));
+            return Ok(Effect::Refuses(Refusal::Moment));
         }
         let count = self.tick(self.moment.max(moment))?;
-        self.settle()?;
+        self.run_until_idle()?;
         let text = expired(self.alloc, self.moment, count)?;
-        Ok(Reply::Printed(Text::from(text)))
+        Ok(Effect::Printed(Text::from(text)))
     }
 
     /// Stops the door of a name for a reason, and answers its status.
-    fn obey_stop(&mut self, name: &str, reason: Reason) -> Result<Reply, AllocError>
-        ensures reply { IfOk result (λ reply. reply ≡ (step_of self.old (line.Stop name.now reason)).0) }
+    fn obey_stop(&mut self, name: &str, reason: Reason) -> Result<Effect, AllocError>
+        ensures effect { IfOk result (λ effect. effect ≡ (step_of self.old (line.Stop name.now reason)).0) }
         ensures script { OnOk result (self.new ≡ (step_of self.old (line.Stop name.now reason)).1) }
     {
         let Some(place) = self.doors.place_of(name) else {
-            return Ok(Reply::Refuses(Refusal::NoSuchName));
+            return Ok(Effect::Refuses(Refusal::NoSuchName));
         };
         if let Some(refusal) = self.stop(place, reason) {
-            return Ok(Reply::Refuses(refusal));
+            return Ok(Effect::Refuses(refusal));
         }
-        self.settle()?;
-        self.status_reply(place)
+        self.run_until_idle()?;
+        self.status_effect(place)
     }
 
     /// Asks the door of a name how long its code is, and answers what it replies.
-    fn obey_length(&mut self, name: &str) -> Result<Reply, AllocError>
-        ensures reply { IfOk result (λ reply. reply ≡ (step_of self.old (line.Length name.now)).0) }
+    fn obey_length(&mut self, name: &str) -> Result<Effect, AllocError>
+        ensures effect { IfOk result (λ effect. effect ≡ (step_of self.old (line.Length name.now)).0) }
         ensures script { OnOk result (self.new ≡ (step_of self.old (line.Length name.now)).1) }
     {
         let Some(place) = self.doors.place_of(name) else {
-            return Ok(Reply::Refuses(Refusal::NoSuchName));
+            return Ok(Effect::Refuses(Refusal::NoSuchName));
         };
         let tag = match self.ask(place)? {
             Ok(tag) => tag,
-            Err(refusal) => return Ok(Reply::Refuses(refusal)),
+            Err(refusal) => return Ok(Effect::Refuses(refusal)),
         };
-        self.settle()?;
+        self.run_until_idle()?;
         let digits = self.collect(place, tag);
         let text = code_length(self.alloc, name, digits)?;
-        Ok(Reply::Printed(Text::from(text)))
+        Ok(Effect::Printed(Text::from(text)))
     }
 
     /// Answers the names.
-    fn obey_names(&mut self) -> Result<Reply, AllocError>
-        ensures reply { IfOk result (λ reply. reply ≡ (step_of self.old line.Names).0) }
+    fn obey_names(&mut self) -> Result<Effect, AllocError>
+        ensures effect { IfOk result (λ effect. effect ≡ (step_of self.old line.Names).0) }
         ensures script { OnOk result (self.new ≡ (step_of self.old line.Names).1) }
     {
-        self.settle()?;
-        Ok(Reply::Printed(Text::from(self.doors.names(self.alloc)?)))
+        self.run_until_idle()?;
+        Ok(Effect::Printed(Text::from(self.doors.names(self.alloc)?)))
     }
 
     /// Starts a door under a name that is not taken, and answers why that is refused, if it is.
     fn start_door(&mut self, name: Text, code: Digits) -> Result<Option<Refusal>, AllocError>
         requires free { door_of name self.old.doors ≡ None }
-        requires room { length self.old.doors < door_limit }
+        requires reserved { length self.old.doors < door_limit }
         ensures started { IfOk result (λ refusal. IfNone refusal (with_start self.old name (door_start_of self.old code) ≡ Ok self.new)) }
         ensures refused { IfOk result (λ refusal. IfSome refusal (λ refusal. (with_start self.old name (door_start_of self.old code) ≡ Err refusal) × (self.new ≡ self.old))) }
     {
@@ -269,7 +266,7 @@ impl Script {
     }
 
     /// Makes turns until the doors rest.
-    fn settle(&mut self) -> Result<(), AllocError>
+    fn run_until_idle(&mut self) -> Result<(), AllocError>
         ensures rested { OnOk result (self.new ≡ rested_of self.old) }
         ensures same_labels { OnOk result (SameLabels self.old.doors self.new.doors) }
     {
@@ -279,12 +276,12 @@ impl Script {
     }
 
     /// Answers the status of the door at a place.
-    fn status_reply(&self, place: usize) -> Result<Reply, AllocError>
+    fn status_effect(&self, place: usize) -> Result<Effect, AllocError>
         requires { place < length self.now.doors }
-        ensures { IfOk result (λ reply. (d : NamedDoor) → reply ≡ Printed (status_of (slice_index_or self.now.doors place d))) }
+        ensures { IfOk result (λ effect. (d : NamedDoor) → effect ≡ Printed (status_of (slice_index_or self.now.doors place d))) }
     {
         let text = self.doors.status_at(self.alloc, place)?;
-        Ok(Reply::Printed(Text::from(text)))
+        Ok(Effect::Printed(Text::from(text)))
     }
 }
 

@@ -1,14 +1,10 @@
 //! The callback module.
-ghost use Rattle.std.specs.Prelude.{◌≡◌, ℕ, Bool, true, IfOk};
-ghost use Rattle.std.specs.Mem.{FitsInMemory};
+ghost use Rattle.std.specs.Prelude.{◌≡◌, ℕ, Bool, IfOk};
 ghost use Rattle.st_events.specs.declared.kind.Kind.{Kind};
 ghost use Rattle.st_events.specs.declared.outcome.Outcome.{Outcome};
 ghost use Rattle.st_events.specs.declared.enter_outcome.EnterOutcome.{EnterOutcome};
 ghost use Rattle.st_events.specs.declared.init.Init.{Init};
-ghost use Rattle.st_events.specs.contracts.outcome.Outcome.{the_row as outcome_row};
-ghost use Rattle.st_events.specs.contracts.enter_outcome.EnterOutcome.{the_row as enter_outcome_row};
-ghost use Rattle.st_events.specs.contracts.init.Init.{the_row as init_row};
-ghost use Rattle.st_events.specs.Rows.{ActionsFit, EnterActionsFit, RepliesFit, InsertsFit, SettingsFit, PlannedFits};
+ghost use Rattle.st_events.specs.Laws.{IsLawfulModule};
 
 use crate::{EnterOutcome, Init, Kind, Outcome, Reason};
 use std::alloc::{AllocError, Global};
@@ -114,33 +110,7 @@ pub trait Module: Drop {
     fn copy_data(&self, alloc: Global, data: &Self::Data) -> Result<Self::Data, AllocError>
         ensures { IfOk result (λ copy. copy ≡ «data».now) };
 
-    // States that compare equal are one state.
-    ghost states_exact: { (a b : Self.State) → Self.State.eq a b ≡ true → a ≡ b };
-
-    // What `handle` answers fits in memory, with its inline actions.
-    ghost outcome_fits: { FitsInMemory (outcome_row Self.State.row Self.Data.row Self.Content.row) };
-
-    // What `enter` answers fits in memory, with its inline actions.
-    ghost enter_outcome_fits: { FitsInMemory (enter_outcome_row Self.Data.row Self.Content.row) };
-
-    // What `init` answers fits in memory, with its inline actions.
-    ghost init_fits: { FitsInMemory (init_row Self.State.row Self.Data.row Self.Content.row) };
-
-    // A list of actions fits in memory, with its inline actions.
-    ghost actions_fit: { ActionsFit Self.Content.row };
-
-    // So does a list of an enter call's actions.
-    ghost enter_actions_fit: { EnterActionsFit Self.Content.row };
-
-    // A list of replies fits in memory, with its inline replies.
-    ghost replies_fit: { RepliesFit Self.Content.row };
-
-    // A list of events to be inserted fits in memory, with its inline events.
-    ghost inserts_fit: { InsertsFit Self.Content.row };
-
-    // A list of timers to be set fits in memory, with its inline settings.
-    ghost settings_fit: { SettingsFit Self.Content.row };
-
-    // What a list of actions asks for fits in memory, with all of these.
-    ghost planned_fits: { PlannedFits Self.Content.row };
+    // States that compare equal are one state, and what the calls answer, and what actions ask for, fits in
+    // memory, with what lies inline in it. A module shows it by one line.
+    ghost lawful: { IsLawfulModule Self.State.row Self.Data.row Self.Content.row Self.State.eq };
 }

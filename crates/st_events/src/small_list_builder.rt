@@ -24,7 +24,7 @@ impl<T> Model for SmallListBuilder<T> {
 
     ghost use Rattle.st_events.specs.Places.{present, IsFull};
 
-    ghost view = { λ builder. record { items = present builder.elements.items; room = builder.elements.capacity - length builder.elements.items } };
+    ghost view = { λ builder. record { items = present builder.elements.items; reserved = builder.elements.capacity - length builder.elements.items } };
 
     ghost invariant = { λ builder. (4 ≤ builder.elements.capacity) × IsFull builder.elements.items };
 }
@@ -32,8 +32,8 @@ impl<T> Model for SmallListBuilder<T> {
 impl<T: Drop> SmallListBuilder<T> {
     /// No element yet, and room for so many, at least four. For up to four this takes no memory. Where
     /// memory is wanted and there is none, there is no list.
-    pub fn with_room(alloc: Global, count: usize) -> Result<SmallListBuilder<T>, AllocError>
-        ensures room { IfOk result (λ builder. builder ≡ record { items = []; room = max 4 count }) }
+    pub fn with_reserved(alloc: Global, count: usize) -> Result<SmallListBuilder<T>, AllocError>
+        ensures reserved { IfOk result (λ builder. builder ≡ record { items = []; reserved = max 4 count }) }
 
         ensures inline { count ≤ 4 → IsOk result }
     {
@@ -44,7 +44,7 @@ impl<T: Drop> SmallListBuilder<T> {
 
     /// Adds an element at the end, in room that was got before. It cannot fail.
     pub fn push(&mut self, element: T)
-        requires { 0 < self.old.room }
+        requires { 0 < self.old.reserved }
         ensures pushed { self.new ≡ with_element self.old element }
     {
         self.elements.push_reserved(Some(element));

@@ -10,4 +10,4 @@ module _ {C : Type 0} where
       (left : List (Tag × C)) : Type 0 where
     pub all : with_answers requests (reverse left) ≡ with_answers old replies
     pub taken : listed ++ taken_by requests (reverse left) ≡ before ++ taken_by old replies
-    pub room : length listed + length left ≤ capacity
+    pub reserved : length listed + length left ≤ capacity

@@ -8,8 +8,8 @@ use Rattle.std.proofs.lemmas.Bool.{and_parts}
 use Rattle.st_events.specs.declared.tag.Tag.{Tag}
 use Rattle.st_events.proofs.ComparedLemmas.{same_number, none_if, no_first}
 use Rattle.st_requests.specs.declared.collected.Collected.TheVariants as collected
-use Rattle.st_requests.specs.declared.held.Held.{Held}
-use Rattle.st_requests.specs.declared.held.Held.TheVariants.{Open, Reply, Stopped}
+use Rattle.st_requests.specs.declared.request_state.RequestState.{RequestState}
+use Rattle.st_requests.specs.declared.request_state.RequestState.TheVariants.{Open, Reply, Stopped}
 use Rattle.st_requests.specs.declared.request.Request.{Request}
 use Rattle.st_requests.specs.Requests.{same_tag, is_for, held_for, OneEach, is_waiting, is_some_waiting, is_open, answered, with_answer, collected_of, without_kept, without_request, closed, closed_by}
 
@@ -43,7 +43,7 @@ module _ {C : Type 0} where
   not_first tag request others h = no_first (is_for tag request) request.held (held_for others tag) h
 
   -- ---- where a tag's request stands
-  found_by : (b : Bool) (n m : ℕ) (request : Request C) (others : List (Request C)) (rest : Option (Held C)) → m ≡ suc n
+  found_by : (b : Bool) (n m : ℕ) (request : Request C) (others : List (Request C)) (rest : Option (RequestState C)) → m ≡ suc n
       → rest ≡ option_map (λ (one : Request C). one.held) (slice_get others n)
       → (if b then Some request.held else rest) ≡ option_map (λ (one : Request C). one.held) (slice_get (request ∷ others) (cond (not b) m 0))
   found_by true n m request others rest e h = refl
@@ -171,7 +171,7 @@ module _ {C : Type 0} where
   collected_nowhere tag requests at = sym (kept_none tag requests (not_found tag requests at))
 
   -- an open request stays, and nothing is collected yet
-  pub waiting_collected : (held : Held C) → is_waiting held ≡ true → collected.Waiting ≡ collected_of (Some held)
+  pub waiting_collected : (held : RequestState C) → is_waiting held ≡ true → collected.Waiting ≡ collected_of (Some held)
   waiting_collected Open h = refl
   waiting_collected (Reply content) h = cc
   waiting_collected (Stopped reason) h = cc

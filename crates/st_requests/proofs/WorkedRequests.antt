@@ -4,8 +4,8 @@ use Rattle.std.proofs.Common.{◌≡◌, ℕ, true, false, arith, List, [], ◌�
 use Rattle.std.specs.Prelude.{Some, None}
 use Rattle.st_events.specs.declared.tag.Tag.{Tag}
 use Rattle.st_requests.specs.declared.collected.Collected.TheVariants as collected
-use Rattle.st_requests.specs.declared.held.Held.{Held}
-use Rattle.st_requests.specs.declared.held.Held.TheVariants.{Open, Reply, Stopped}
+use Rattle.st_requests.specs.declared.request_state.RequestState.{RequestState}
+use Rattle.st_requests.specs.declared.request_state.RequestState.TheVariants.{Open, Reply, Stopped}
 use Rattle.st_requests.specs.declared.request.Request.{Request}
 use Rattle.st_requests.specs.Requests.{same_tag, held_for, is_open, reply_of, with_answer, with_answers, taken_by, collected_of, without_kept, without_request, closed_by, AreOf, NoneOpen}
 
@@ -13,7 +13,7 @@ use Rattle.st_requests.specs.Requests.{same_tag, held_for, is_open, reply_of, wi
 abbrev tag : ℕ → Tag
 tag request = record { machine = record { slot = 0; serial = 1 }; request = request }
 
-abbrev request : ℕ → Held ℕ → Request ℕ
+abbrev request : ℕ → RequestState ℕ → Request ℕ
 request number held = record { tag = tag number; held = held }
 
 -- three requests are open; the second is answered with 50; the machine stops for the reason 9

@@ -4,8 +4,8 @@ use Rattle.st_events.specs.declared.machine_id.MachineId.{MachineId}
 use Rattle.st_events.specs.declared.tag.Tag.{Tag}
 use Rattle.st_requests.specs.declared.collected.Collected.{Collected}
 use Rattle.st_requests.specs.declared.collected.Collected.TheVariants as collected
-use Rattle.st_requests.specs.declared.held.Held.{Held}
-use Rattle.st_requests.specs.declared.held.Held.TheVariants.{Open, Reply, Stopped}
+use Rattle.st_requests.specs.declared.request_state.RequestState.{RequestState}
+use Rattle.st_requests.specs.declared.request_state.RequestState.TheVariants.{Open, Reply, Stopped}
 use Rattle.st_requests.specs.declared.request.Request.{Request}
 
 -- whether two tags are one: the machine's place and serial are equal, and the request
@@ -19,7 +19,7 @@ module _ {C : Type 0} where
   is_for tag request = same_tag tag request.tag
 
   -- what stands for a tag: that of the first request that has it
-  abbrev pub held_for : List (Request C) → Tag → Option (Held C)
+  abbrev pub held_for : List (Request C) → Tag → Option (RequestState C)
   held_for [] tag = None
   held_for (request ∷ others) tag = if is_for tag request then Some request.held else held_for others tag
 
@@ -29,20 +29,20 @@ module _ {C : Type 0} where
   OneEach (request ∷ others) = (held_for others request.tag ≡ None) × OneEach others
 
   -- the reply, where one is kept
-  abbrev pub reply_of : Option (Held C) → Option C
+  abbrev pub reply_of : Option (RequestState C) → Option C
   reply_of (Some (Reply content)) = Some content
   reply_of (Some Open) = None
   reply_of (Some (Stopped reason)) = None
   reply_of None = None
 
   -- whether a request waits for its reply
-  abbrev pub is_waiting : Held C → Bool
+  abbrev pub is_waiting : RequestState C → Bool
   is_waiting Open = true
   is_waiting (Reply content) = false
   is_waiting (Stopped reason) = false
 
   -- whether there is a request, and it waits for its reply
-  abbrev pub is_some_waiting : Option (Held C) → Bool
+  abbrev pub is_some_waiting : Option (RequestState C) → Bool
   is_some_waiting (Some held) = is_waiting held
   is_some_waiting None = false
 
@@ -51,7 +51,7 @@ module _ {C : Type 0} where
   is_open requests tag = is_some_waiting (held_for requests tag)
 
   -- an open request holds the reply from then on, another what it held
-  abbrev pub answered : C → Held C → Held C
+  abbrev pub answered : C → RequestState C → RequestState C
   answered content Open = Reply content
   answered content (Reply kept) = Reply kept
   answered content (Stopped reason) = Stopped reason
@@ -62,7 +62,7 @@ module _ {C : Type 0} where
       map (λ (request : Request C). if is_for tag request then record request { held = answered content request.held } else request) requests
 
   -- what is collected: the reply or the reason that is kept, or that there is none yet, or none any more
-  abbrev pub collected_of : Option (Held C) → Collected C
+  abbrev pub collected_of : Option (RequestState C) → Collected C
   collected_of (Some Open) = collected.Waiting
   collected_of (Some (Reply content)) = collected.Reply content
   collected_of (Some (Stopped reason)) = collected.Stopped reason
@@ -73,7 +73,7 @@ module _ {C : Type 0} where
   without_kept requests tag = filter (λ (request : Request C). not (is_for tag request) || is_waiting request.held) requests
 
   -- an open request is stopped for the reason, another holds what it held
-  abbrev pub closed : ℕ → Held C → Held C
+  abbrev pub closed : ℕ → RequestState C → RequestState C
   closed reason Open = Stopped reason
   closed reason (Reply kept) = Reply kept
   closed reason (Stopped earlier) = Stopped earlier

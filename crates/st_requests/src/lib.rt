@@ -3,14 +3,14 @@
 #![tactic(auto)]
 
 mod collected;
-mod held;
+mod request_state;
 mod request;
 mod requests;
 #[cfg(test)]
 mod tests;
 
 pub use collected::Collected;
-pub use held::Held;
+pub use request_state::RequestState;
 pub use request::Request;
 pub use requests::Requests;
 pub use st_events::{Reason, Replies, Tag};

@@ -2,7 +2,7 @@
 ghost use Rattle.std.specs.Prelude.{◌≡◌, Some, option_copied};
 ghost use Rattle.st_requests.specs.Requests.{is_waiting, reply_of, answered, collected_of, closed};
 
-use crate::{Collected, Held};
+use crate::{Collected, RequestState};
 use st_events::{Reason, Tag};
 
 /// A request: its tag, and what stands for it.
@@ -13,7 +13,7 @@ pub struct Request<C> {
     /// Its name.
     pub tag: Tag,
     /// What stands for it.
-    pub held: Held<C>,
+    pub held: RequestState<C>,
 }
 
 impl<C> Request<C> {
@@ -21,7 +21,7 @@ impl<C> Request<C> {
     pub(crate) fn is_open(&self) -> bool
         ensures { result ≡ is_waiting self.now.held }
     {
-        matches!(self.held, Held::Open)
+        matches!(self.held, RequestState::Open)
     }
 
     /// The reply, where one is kept.
@@ -29,8 +29,8 @@ impl<C> Request<C> {
         ensures { option_copied result ≡ reply_of (Some self.now.held) }
     {
         match &self.held {
-            Held::Reply(content) => Some(content),
-            Held::Open | Held::Stopped(_) => None,
+            RequestState::Reply(content) => Some(content),
+            RequestState::Open | RequestState::Stopped(_) => None,
         }
     }
 
@@ -39,9 +39,9 @@ impl<C> Request<C> {
         ensures { result ≡ collected_of (Some self.held) }
     {
         match self.held {
-            Held::Open => Collected::Waiting,
-            Held::Reply(content) => Collected::Reply(content),
-            Held::Stopped(reason) => Collected::Stopped(reason),
+            RequestState::Open => Collected::Waiting,
+            RequestState::Reply(content) => Collected::Reply(content),
+            RequestState::Stopped(reason) => Collected::Stopped(reason),
         }
     }
 }
@@ -54,7 +54,7 @@ impl<C: Drop> Request<C> {
     {
         let is_open = self.is_open();
         if is_open {
-            self.held = Held::Reply(content);
+            self.held = RequestState::Reply(content);
         }
         is_open
     }
@@ -64,7 +64,7 @@ impl<C: Drop> Request<C> {
         ensures { self.new ≡ record self.old { held = closed reason self.old.held } }
     {
         if self.is_open() {
-            self.held = Held::Stopped(reason);
+            self.held = RequestState::Stopped(reason);
         }
     }
 }

@@ -3,7 +3,7 @@ ghost use Rattle.std.specs.Prelude.{◌≡◌, ◌+◌, ◌≤◌, ◌++◌, [],
 ghost use Rattle.st_events.specs.Rows.{RepliesFit};
 ghost use Rattle.st_requests.specs.Requests.{is_for, held_for, reply_of, with_answer, with_answers, taken_by, is_open, collected_of, without_kept, without_request, closed_by};
 
-use crate::{Collected, Held, Request};
+use crate::{Collected, RequestState, Request};
 use st_events::{Reason, Replies, Tag};
 use std::alloc::{AllocError, Global};
 use std::marker::Model;
@@ -63,14 +63,14 @@ impl<C: Drop> Requests<C> {
     /// Manual: `call/2`, `send_request/2`.
     pub fn open(&mut self, tag: Tag) -> Result<(), AllocError>
         requires { held_for self.old tag ≡ None }
-        ensures opened { OnOk result (self.new ≡ self.old ++ record { tag = tag; held = Held.Open } ∷ []) }
+        ensures opened { OnOk result (self.new ≡ self.old ++ record { tag = tag; held = RequestState.Open } ∷ []) }
 
         ensures unchanged { OnErr result (self.new ≡ self.old) }
     {
         self.requests.reserve(1)?;
         self.requests.push_reserved(Request {
             tag,
-            held: Held::Open,
+            held: RequestState::Open,
         });
         Ok(())
     }
@@ -114,7 +114,7 @@ impl<C: Drop> Requests<C> {
     /// Manual: `reply/1`, `reply_action()`.
     pub fn answer_all(&mut self, replies: Replies<C>, taken: &mut Vec<Tag>)
         requires replies_fit { RepliesFit C.row }
-        requires room { length taken.old.items + length replies ≤ vec_capacity taken.old }
+        requires reserved { length taken.old.items + length replies ≤ vec_capacity taken.old }
         ensures answered { self.new ≡ with_answers self.old replies }
         ensures taken { taken.new.items ≡ taken.old.items ++ taken_by self.old replies }
     {

@@ -2,7 +2,7 @@
 ghost use Rattle.std.specs.Prelude.{◌≡◌, ◌++◌, [], ◌∷◌, None, vec_capacity};
 ghost use Rattle.st_requests.specs.Requests.{held_for};
 
-use crate::{Collected, Held, Requests};
+use crate::{Collected, RequestState, Requests};
 use st_events::{MachineId, Replies, SmallList, Tag};
 use std::alloc::Global;
 use std::process::Abort;
@@ -29,7 +29,7 @@ fn replies(requests: &Requests<u32>) -> [Option<u32>; 8] {
 /// Opens a request. A call that finds no memory changes nothing that can be read, and is made again.
 fn open(rt: &impl Abort, requests: &mut Requests<u32>, tag: Tag)
     requires { held_for requests.old tag ≡ None }
-    ensures { requests.new ≡ requests.old ++ record { tag = tag; held = Held.Open } ∷ [] }
+    ensures { requests.new ≡ requests.old ++ record { tag = tag; held = RequestState.Open } ∷ [] }
 {
     let before = replies(requests);
     if requests.open(tag).is_err() {

@@ -134,16 +134,16 @@ module _ {C : Type 0} where
     fits = omega (arith, sound.fits, length-append fewer (entry ∷ []));
   }
 
-  room_if : (found : Option (Running C)) (room : ℕ) → is_some (option_map (λ (one : Running C). one.content) found) ≡ false
-      → (is_some found ≡ true) ⊎ (0 < room) → 0 < room
-  room_if None room h (inl k) = cc
-  room_if None room h (inr k) = k
-  room_if (Some one) room h k = cc
+  room_if : (found : Option (Running C)) (reserved : ℕ) → is_some (option_map (λ (one : Running C). one.content) found) ≡ false
+      → (is_some found ≡ true) ⊎ (0 < reserved) → 0 < reserved
+  room_if None reserved h (inl k) = cc
+  room_if None reserved h (inr k) = k
+  room_if (Some one) reserved h k = cc
 
   -- where a timer that is set did not run, there is room
-  pub room_left : (timer : Timer) (listed : List (Listed C)) (room : ℕ) → is_some (content_of timer listed) ≡ false
-      → (runs timer listed ≡ true) ⊎ (0 < room) → 0 < room
-  room_left timer listed room h k = room_if (running_of timer (all_of listed)) room h k
+  pub room_left : (timer : Timer) (listed : List (Listed C)) (reserved : ℕ) → is_some (content_of timer listed) ≡ false
+      → (runs timer listed ≡ true) ⊎ (0 < reserved) → 0 < reserved
+  room_left timer listed reserved h k = room_if (running_of timer (all_of listed)) reserved h k
 
   -- ---- which is due first
   first_of_put_by : (b : Bool) (one other : Running C) (others put : List (Running C))

@@ -13,7 +13,7 @@ pub record Listed (C : Type 0) : Type 0 where
 -- the running time-outs in the order of their requests, and for how many more there is room
 pub record Timeouts (C : Type 0) : Type 0 where
   pub listed : List (Listed C)
-  pub room : ℕ
+  pub reserved : ℕ
 
 -- the first of some
 abbrev pub first_of : {X : Type 0} → List X → Option X
@@ -54,7 +54,7 @@ module _ {C : Type 0} where
   abbrev pub with_set : Timeouts C → Listed C → Timeouts C
   with_set old one = record {
     listed = without_listed one.running.timer old.listed ++ one ∷ [];
-    room = if runs one.running.timer old.listed then old.room else old.room - 1;
+    reserved = if runs one.running.timer old.listed then old.reserved else old.reserved - 1;
   }
 
   -- one that is cancelled runs no more

@@ -46,8 +46,8 @@ fn readable(rt: &impl Abort, timeouts: &Timeouts<char>) -> Seen {
 }
 
 /// Makes room. A call that finds no memory changes nothing that can be read, and is made again.
-fn make_room(rt: &impl Abort, timeouts: &mut Timeouts<char>, count: usize)
-    ensures { count ≤ timeouts.new.room }
+fn reserve_for(rt: &impl Abort, timeouts: &mut Timeouts<char>, count: usize)
+    ensures { count ≤ timeouts.new.reserved }
 {
     let before = readable(rt, timeouts);
     if timeouts.reserve(count).is_err() {
@@ -73,7 +73,7 @@ fn set(
 ) -> Option<char>
     requires { now < 2 ^ 63 }
 {
-    make_room(rt, timeouts, 1);
+    reserve_for(rt, timeouts, 1);
     timeouts.set(timer, time, content, number, now)
 }
 
@@ -93,7 +93,7 @@ fn each_call_answers(rt: HostRuntime) {
     let mut timeouts = Timeouts::new(rt.alloc());
     assert_eq!(rt; timeouts.first_zero(), None);
     assert_eq!(rt; timeouts.next_due(), None);
-    make_room(&rt, &mut timeouts, 3);
+    reserve_for(&rt, &mut timeouts, 3);
     assert_eq!(rt; set(&rt, &mut timeouts, Timer::Event, 0, 'a', 1, 5), None);
     assert_eq!(rt; set(&rt, &mut timeouts, Timer::State, 10, 'b', 2, 5), None);
     assert_eq!(rt;
@@ -264,13 +264,13 @@ fn a_refused_call_changes_nothing(rt: HostRuntime) {
         None
     );
     assert_eq!(rt; timeouts.next_expiry(10), Some((Timer::State, 2)));
-    make_room(&rt, &mut timeouts, 20);
+    reserve_for(&rt, &mut timeouts, 20);
     assert_eq!(rt; timeouts.count_due(20), 1);
     assert_eq!(rt;
         set(&rt, &mut timeouts, Timer::Named(2), 5, 'd', 4, 0),
         None
     );
-    make_room(&rt, &mut timeouts, 100);
+    reserve_for(&rt, &mut timeouts, 100);
     assert_eq!(rt;
         listed(&rt, &timeouts).as_slice(),
         [

@@ -34,7 +34,7 @@ impl<C> Model for Timeouts<C> {
 
     ghost Value = { Timeouts C };
 
-    ghost view = { λ timeouts. record { listed = map listed_of timeouts.entries.items; room = timeouts.ready } };
+    ghost view = { λ timeouts. record { listed = map listed_of timeouts.entries.items; reserved = timeouts.ready } };
 
     ghost invariant = { λ timeouts. IsSound timeouts.entries.items timeouts.ready (vec_capacity timeouts.entries) };
 }
@@ -44,7 +44,7 @@ impl<C> Timeouts<C> {
     ///
     /// Manual: `timeout_action()`.
     pub fn new(alloc: Global) -> Timeouts<C>
-        ensures { result ≡ record { listed = []; room = 0 } }
+        ensures { result ≡ record { listed = []; reserved = 0 } }
     {
         Timeouts {
             entries: Vec::new(alloc),
@@ -136,9 +136,9 @@ impl<C: Drop> Timeouts<C> {
     ///
     /// Ours: docs/DECISIONS.md, Choices in the code.
     pub fn reserve(&mut self, count: usize) -> Result<(), AllocError>
-        ensures reserved { OnOk result (self.new ≡ record self.old { room = max self.old.room count }) }
+        ensures reserved { OnOk result (self.new ≡ record self.old { reserved = max self.old.reserved count }) }
 
-        ensures enough { count ≤ self.old.room → IsOk result }
+        ensures enough { count ≤ self.old.reserved → IsOk result }
         ensures unchanged { OnErr result (self.new ≡ self.old) }
     {
         if self.ready < count {
@@ -155,7 +155,7 @@ impl<C: Drop> Timeouts<C> {
     /// Manual: `event_timeout()`, `state_timeout()`, `generic_timeout()`.
     pub fn set(&mut self, timer: Timer, time: u32, content: C, number: u64, now: u64) -> Option<C>
         requires moment { now < 2 ^ 63 }
-        requires room { (runs timer self.old.listed ≡ true) ⊎ (0 < self.old.room) }
+        requires reserved { (runs timer self.old.listed ≡ true) ⊎ (0 < self.old.reserved) }
         ensures returned { result ≡ content_of timer self.old.listed }
         ensures set { self.new ≡ with_set self.old (begun timer time content number now) }
     {

@@ -10,15 +10,15 @@ loop-action-init g c =
     let turned = c.reverse.ensures.reversed in
     let back = reverse-reverse c.args.actions in
     let as_long = ap length turned ∙ length-reverse c.args.actions in
-    let replies = ap (λ b. b.items) c.in-Ok.ensures.room in
-    let requests = ap (λ b. b.items) c.in-Ok-with_room.ensures.room in
-    let reply_room = ap (λ b. b.room) c.in-Ok.ensures.room in
-    let request_room = ap (λ b. b.room) c.in-Ok-with_room.ensures.room in
+    let replies = ap (λ b. b.items) c.in-Ok.ensures.reserved in
+    let requests = ap (λ b. b.items) c.in-Ok-with_reserved.ensures.reserved in
+    let reply_room = ap (λ b. b.reserved) c.in-Ok.ensures.reserved in
+    let request_room = ap (λ b. b.reserved) c.in-Ok-with_reserved.ensures.reserved in
     record {
       replies = rw (replies, turned, back) refl;
       requests = rw (requests, turned, back) refl;
-      room_for_replies = omega (arith, as_long, reply_room, c.len-count.ensures.length);
-      room_for_requests = omega (arith, as_long, request_room, c.len-count.ensures.length);
+      reserved_for_replies = omega (arith, as_long, reply_room, c.len-count.ensures.length);
+      reserved_for_settings = omega (arith, as_long, request_room, c.len-count.ensures.length);
     }
 
 pub loop-action-smaller-in-Reply : goal.loop-action-smaller-in-Reply
@@ -36,19 +36,19 @@ loop-action-smaller-else-not-sets g c = omega (arith, one_fewer _ _ _ c.in-Some.
 pub push-requires : goal.push-requires
 push-requires g c =
     let fewer = one_fewer _ _ _ c.in-Some.ensures.popped in
-    (c.requires.replies_fit, omega (arith, fewer, c.loop-action.invariant.room_for_replies))
+    (c.requires.replies_fit, omega (arith, fewer, c.loop-action.invariant.reserved_for_replies))
 
 pub loop-action-preserved-in-Reply : goal.loop-action-preserved-in-Reply
 loop-action-preserved-in-Reply g c =
     let kept = c.loop-action.invariant in
     let fewer = one_fewer _ _ _ c.in-Some.ensures.popped in
     let next = last_is_first _ _ _ c.in-Some.ensures.popped ∙ ap (λ action. action ∷ reverse c.pop.new.self) c.in-Reply.is in
-    let room = ap (λ b. b.room) c.push.ensures.pushed in
+    let reserved = ap (λ b. b.reserved) c.push.ensures.pushed in
     record {
       replies = goes_over _ _ _ _ (c.in-Reply.tag, c.in-Reply.content) (ap (λ b. b.items) c.push.ensures.pushed) (rw next at kept.replies);
       requests = rw next at kept.requests;
-      room_for_replies = omega (arith, fewer, room, kept.room_for_replies);
-      room_for_requests = omega (arith, fewer, kept.room_for_requests);
+      reserved_for_replies = omega (arith, fewer, reserved, kept.reserved_for_replies);
+      reserved_for_settings = omega (arith, fewer, kept.reserved_for_settings);
     }
 
 pub loop-action-preserved : goal.loop-action-preserved
@@ -59,15 +59,15 @@ loop-action-preserved g c =
     record {
       replies = rw next at kept.replies;
       requests = rw next at kept.requests;
-      room_for_replies = omega (arith, fewer, kept.room_for_replies);
-      room_for_requests = omega (arith, fewer, kept.room_for_requests);
+      reserved_for_replies = omega (arith, fewer, kept.reserved_for_replies);
+      reserved_for_settings = omega (arith, fewer, kept.reserved_for_settings);
     }
 
 -- the request is the last of its timer
 pub push-requires-then-not-sets : goal.push-requires-then-not-sets
 push-requires-then-not-sets g c =
     let fewer = one_fewer _ _ _ c.in-Some.ensures.popped in
-    (c.requires.settings_fit, omega (arith, fewer, c.loop-action.invariant.room_for_requests))
+    (c.requires.settings_fit, omega (arith, fewer, c.loop-action.invariant.reserved_for_settings))
 
 pub loop-action-preserved-then-not-sets : goal.loop-action-preserved-then-not-sets
 loop-action-preserved-then-not-sets g c =
@@ -76,13 +76,13 @@ loop-action-preserved-then-not-sets g c =
     let next = last_is_first _ _ _ c.in-Some.ensures.popped ∙ ap (λ action. action ∷ reverse c.pop.new.self) c.in-Set.is in
     let last : sets c.in-Set.timer (as_actions (reverse c.pop.new.self)) ≡ false =
     enter_sets-reverse c.in-Set.timer c.pop.new.self ∙ (sym c.sets.ensures ∙ c.if-not-sets.true) in
-    let room = ap (λ b. b.room) c.push-then-not-sets.ensures.pushed in
+    let reserved = ap (λ b. b.reserved) c.push-then-not-sets.ensures.pushed in
     record {
       replies = rw next at kept.replies;
       requests = request_over c.in-Set.timer c.in-Set.time c.in-Set.content _ _ (as_actions (reverse c.pop.new.self)) _ last
           (ap (λ b. b.items) c.push-then-not-sets.ensures.pushed) (rw next at kept.requests);
-      room_for_replies = omega (arith, fewer, kept.room_for_replies);
-      room_for_requests = omega (arith, fewer, room, kept.room_for_requests);
+      reserved_for_replies = omega (arith, fewer, kept.reserved_for_replies);
+      reserved_for_settings = omega (arith, fewer, reserved, kept.reserved_for_settings);
     }
 
 -- a later request of its timer decides
@@ -96,8 +96,8 @@ loop-action-preserved-else-not-sets g c =
     record {
       replies = rw next at kept.replies;
       requests = request_later c.in-Set.timer c.in-Set.time c.in-Set.content _ (as_actions (reverse c.pop.new.self)) _ later (rw next at kept.requests);
-      room_for_replies = omega (arith, fewer, kept.room_for_replies);
-      room_for_requests = omega (arith, fewer, kept.room_for_requests);
+      reserved_for_replies = omega (arith, fewer, kept.reserved_for_replies);
+      reserved_for_settings = omega (arith, fewer, kept.reserved_for_settings);
     }
 
 pub returns-clause-planned : goal.returns-clause-planned

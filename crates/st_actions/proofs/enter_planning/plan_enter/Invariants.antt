@@ -1,5 +1,5 @@
 use Rattle.std.proofs.Common.{◌≡◌, ◌≤◌, ◌++◌, length, reverse}
-use Rattle.st_actions.specs.Plan.{replies_of, requests_of}
+use Rattle.st_actions.specs.Plan.{replies_of, settings_of}
 use Rattle.st_actions.specs.Joined.{as_actions}
 use Rattle.st_actions.proofs.enter_planning.plan_enter.Given as goal
 
@@ -7,9 +7,9 @@ use Rattle.st_actions.proofs.enter_planning.plan_enter.Given as goal
 abbrev pub invariant-loop-action : goal.invariant-loop-action
 invariant-loop-action g l = record {
   replies : l.replies.items ++ replies_of (as_actions (reverse l.actions)) ≡ replies_of (as_actions l.fn.actions);
-  requests : l.requests.items ++ requests_of (as_actions (reverse l.actions)) ≡ requests_of (as_actions l.fn.actions);
-  room_for_replies : length l.actions ≤ l.replies.room;
-  room_for_requests : length l.actions ≤ l.requests.room;
+  requests : l.requests.items ++ settings_of (as_actions (reverse l.actions)) ≡ settings_of (as_actions l.fn.actions);
+  reserved_for_replies : length l.actions ≤ l.replies.reserved;
+  reserved_for_settings : length l.actions ≤ l.requests.reserved;
 }
 
 abbrev pub decreases-loop-action : goal.decreases-loop-action

@@ -5,7 +5,7 @@ use Rattle.st_actions.proofs.joining.move_all.Given as goal
 abbrev pub invariant-loop-element : goal.invariant-loop-element
 invariant-loop-element g l = record {
   elements : l.onto.items ++ reverse l.elements ≡ l.fn.onto.items ++ l.fn.elements;
-  room : l.onto.room + length l.fn.elements ≡ l.fn.onto.room + length l.elements;
+  reserved : l.onto.reserved + length l.fn.elements ≡ l.fn.onto.reserved + length l.elements;
 }
 
 abbrev pub decreases-loop-element : goal.decreases-loop-element

@@ -12,13 +12,13 @@ loop-request-init g c =
     record {
       requests = rw (turned, back) refl;
       places = refl;
-      room = omega (arith, as_long, c.requires.room);
+      reserved = omega (arith, as_long, c.requires.reserved);
     }
 
 pub push-requires : goal.push-requires
 push-requires g c =
     let fewer = one_fewer _ _ _ c.in-Some.ensures.popped in
-    (c.requires.settings_fit, omega (arith, fewer, c.loop-request.invariant.room))
+    (c.requires.settings_fit, omega (arith, fewer, c.loop-request.invariant.reserved))
 
 pub loop-request-preserved-then-not-sets : goal.loop-request-preserved-then-not-sets
 loop-request-preserved-then-not-sets g c =
@@ -26,12 +26,12 @@ loop-request-preserved-then-not-sets g c =
     let fewer = one_fewer _ _ _ c.in-Some.ensures.popped in
     let next = last_is_first _ _ _ c.in-Some.ensures.popped in
     let items = ap (λ b. b.items) c.push.ensures.pushed in
-    let room = ap (λ b. b.room) c.push.ensures.pushed in
+    let reserved = ap (λ b. b.reserved) c.push.ensures.pushed in
     let longer = one_fewer _ _ _ items in
     record {
       requests = remaining_over c.in-Some.request _ _ (reverse c.pop.new.self) c.args.later.now _ (sym c.sets.ensures ∙ c.if-not-sets.true) items (rw next at kept.requests);
-      places = omega (arith, fewer, longer, room, kept.places, kept.room);
-      room = omega (arith, fewer, room, kept.room);
+      places = omega (arith, fewer, longer, reserved, kept.places, kept.reserved);
+      reserved = omega (arith, fewer, reserved, kept.reserved);
     }
 
 pub loop-request-preserved : goal.loop-request-preserved
@@ -42,5 +42,5 @@ loop-request-preserved g c =
     record {
       requests = remaining_replaced c.in-Some.request _ (reverse c.pop.new.self) c.args.later.now _ (sym c.sets.ensures ∙ c.if-not-sets.false) (rw next at kept.requests);
       places = kept.places;
-      room = omega (arith, fewer, kept.room);
+      reserved = omega (arith, fewer, kept.reserved);
     }

@@ -9,20 +9,20 @@ loop-action-init g c =
     let turned = c.reverse.ensures.reversed in
     let back = reverse-reverse c.args.actions in
     let as_long = ap length turned ∙ length-reverse c.args.actions in
-    let replies = ap (λ b. b.items) c.in-Ok.ensures.room in
-    let inserts = ap (λ b. b.items) c.in-Ok-with_room.ensures.room in
-    let reply_room = ap (λ b. b.room) c.in-Ok.ensures.room in
-    let insert_room = ap (λ b. b.room) c.in-Ok-with_room.ensures.room in
-    let requests = ap (λ b. b.items) c.in-Ok-with_room-2.ensures.room in
-    let request_room = ap (λ b. b.room) c.in-Ok-with_room-2.ensures.room in
+    let replies = ap (λ b. b.items) c.in-Ok.ensures.reserved in
+    let inserts = ap (λ b. b.items) c.in-Ok-with_reserved.ensures.reserved in
+    let reply_room = ap (λ b. b.reserved) c.in-Ok.ensures.reserved in
+    let insert_room = ap (λ b. b.reserved) c.in-Ok-with_reserved.ensures.reserved in
+    let requests = ap (λ b. b.items) c.in-Ok-with_reserved-2.ensures.reserved in
+    let request_room = ap (λ b. b.reserved) c.in-Ok-with_reserved-2.ensures.reserved in
     record {
       replies = rw (replies, turned, back) refl;
       postpone = rw (turned, back) refl;
       inserts = rw (inserts, turned, back) refl;
       requests = rw (requests, turned, back) refl;
-      room_for_replies = omega (arith, as_long, reply_room, c.len-count.ensures.length);
-      room_for_inserts = omega (arith, as_long, insert_room, c.len-count.ensures.length);
-      room_for_requests = omega (arith, as_long, request_room, c.len-count.ensures.length);
+      reserved_for_replies = omega (arith, as_long, reply_room, c.len-count.ensures.length);
+      reserved_for_inserts = omega (arith, as_long, insert_room, c.len-count.ensures.length);
+      reserved_for_settings = omega (arith, as_long, request_room, c.len-count.ensures.length);
     }
 
 pub loop-action-smaller-in-Reply : goal.loop-action-smaller-in-Reply
@@ -42,15 +42,15 @@ loop-action-preserved-in-Reply g c =
     let kept = c.loop-action.invariant in
     let fewer = one_fewer _ _ _ c.in-Some.ensures.popped in
     let next = last_is_first _ _ _ c.in-Some.ensures.popped ∙ ap (λ action. action ∷ reverse c.pop.new.self) c.in-Reply.is in
-    let room = ap (λ b. b.room) c.push.ensures.pushed in
+    let reserved = ap (λ b. b.reserved) c.push.ensures.pushed in
     record {
       replies = goes_over _ _ _ _ (c.in-Reply.tag, c.in-Reply.content) (ap (λ b. b.items) c.push.ensures.pushed) (rw next at kept.replies);
       postpone = rw next at kept.postpone;
       inserts = rw next at kept.inserts;
       requests = rw next at kept.requests;
-      room_for_replies = omega (arith, fewer, room, kept.room_for_replies);
-      room_for_inserts = omega (arith, fewer, kept.room_for_inserts);
-      room_for_requests = omega (arith, fewer, kept.room_for_requests);
+      reserved_for_replies = omega (arith, fewer, reserved, kept.reserved_for_replies);
+      reserved_for_inserts = omega (arith, fewer, kept.reserved_for_inserts);
+      reserved_for_settings = omega (arith, fewer, kept.reserved_for_settings);
     }
 
 pub loop-action-preserved-in-Postpone : goal.loop-action-preserved-in-Postpone
@@ -63,30 +63,30 @@ loop-action-preserved-in-Postpone g c =
       postpone = rw next at kept.postpone;
       inserts = rw next at kept.inserts;
       requests = rw next at kept.requests;
-      room_for_replies = omega (arith, fewer, kept.room_for_replies);
-      room_for_inserts = omega (arith, fewer, kept.room_for_inserts);
-      room_for_requests = omega (arith, fewer, kept.room_for_requests);
+      reserved_for_replies = omega (arith, fewer, kept.reserved_for_replies);
+      reserved_for_inserts = omega (arith, fewer, kept.reserved_for_inserts);
+      reserved_for_settings = omega (arith, fewer, kept.reserved_for_settings);
     }
 
 pub push-requires-in-NextEvent : goal.push-requires-in-NextEvent
 push-requires-in-NextEvent g c =
     let fewer = one_fewer _ _ _ c.in-Some.ensures.popped in
-    (c.requires.inserts_fit, omega (arith, fewer, c.loop-action.invariant.room_for_inserts))
+    (c.requires.inserts_fit, omega (arith, fewer, c.loop-action.invariant.reserved_for_inserts))
 
 pub loop-action-preserved-in-NextEvent : goal.loop-action-preserved-in-NextEvent
 loop-action-preserved-in-NextEvent g c =
     let kept = c.loop-action.invariant in
     let fewer = one_fewer _ _ _ c.in-Some.ensures.popped in
     let next = last_is_first _ _ _ c.in-Some.ensures.popped ∙ ap (λ action. action ∷ reverse c.pop.new.self) c.in-NextEvent.is in
-    let room = ap (λ b. b.room) c.push-in-NextEvent.ensures.pushed in
+    let reserved = ap (λ b. b.reserved) c.push-in-NextEvent.ensures.pushed in
     record {
       replies = rw next at kept.replies;
       postpone = rw next at kept.postpone;
       inserts = goes_over _ _ _ _ _ (ap (λ b. b.items) c.push-in-NextEvent.ensures.pushed) (rw next at kept.inserts);
       requests = rw next at kept.requests;
-      room_for_replies = omega (arith, fewer, kept.room_for_replies);
-      room_for_inserts = omega (arith, fewer, room, kept.room_for_inserts);
-      room_for_requests = omega (arith, fewer, kept.room_for_requests);
+      reserved_for_replies = omega (arith, fewer, kept.reserved_for_replies);
+      reserved_for_inserts = omega (arith, fewer, reserved, kept.reserved_for_inserts);
+      reserved_for_settings = omega (arith, fewer, kept.reserved_for_settings);
     }
 
 pub loop-action-preserved : goal.loop-action-preserved
@@ -99,16 +99,16 @@ loop-action-preserved g c =
       postpone = rw next at kept.postpone;
       inserts = rw next at kept.inserts;
       requests = rw next at kept.requests;
-      room_for_replies = omega (arith, fewer, kept.room_for_replies);
-      room_for_inserts = omega (arith, fewer, kept.room_for_inserts);
-      room_for_requests = omega (arith, fewer, kept.room_for_requests);
+      reserved_for_replies = omega (arith, fewer, kept.reserved_for_replies);
+      reserved_for_inserts = omega (arith, fewer, kept.reserved_for_inserts);
+      reserved_for_settings = omega (arith, fewer, kept.reserved_for_settings);
     }
 
 -- the request is the last of its timer
 pub push-requires-then-not-sets : goal.push-requires-then-not-sets
 push-requires-then-not-sets g c =
     let fewer = one_fewer _ _ _ c.in-Some.ensures.popped in
-    (c.requires.settings_fit, omega (arith, fewer, c.loop-action.invariant.room_for_requests))
+    (c.requires.settings_fit, omega (arith, fewer, c.loop-action.invariant.reserved_for_settings))
 
 pub loop-action-preserved-then-not-sets : goal.loop-action-preserved-then-not-sets
 loop-action-preserved-then-not-sets g c =
@@ -117,16 +117,16 @@ loop-action-preserved-then-not-sets g c =
     let next = last_is_first _ _ _ c.in-Some.ensures.popped ∙ ap (λ action. action ∷ reverse c.pop.new.self) c.in-Set.is in
     let last : sets c.in-Set.timer (reverse c.pop.new.self) ≡ false =
     sets-reverse c.in-Set.timer c.pop.new.self ∙ (sym c.sets.ensures ∙ c.if-not-sets.true) in
-    let room = ap (λ b. b.room) c.push-then-not-sets.ensures.pushed in
+    let reserved = ap (λ b. b.reserved) c.push-then-not-sets.ensures.pushed in
     record {
       replies = rw next at kept.replies;
       postpone = rw next at kept.postpone;
       inserts = rw next at kept.inserts;
       requests = request_over c.in-Set.timer c.in-Set.time c.in-Set.content _ _ (reverse c.pop.new.self) _ last
           (ap (λ b. b.items) c.push-then-not-sets.ensures.pushed) (rw next at kept.requests);
-      room_for_replies = omega (arith, fewer, kept.room_for_replies);
-      room_for_inserts = omega (arith, fewer, kept.room_for_inserts);
-      room_for_requests = omega (arith, fewer, room, kept.room_for_requests);
+      reserved_for_replies = omega (arith, fewer, kept.reserved_for_replies);
+      reserved_for_inserts = omega (arith, fewer, kept.reserved_for_inserts);
+      reserved_for_settings = omega (arith, fewer, reserved, kept.reserved_for_settings);
     }
 
 -- a later request of its timer decides
@@ -142,9 +142,9 @@ loop-action-preserved-else-not-sets g c =
       postpone = rw next at kept.postpone;
       inserts = rw next at kept.inserts;
       requests = request_later c.in-Set.timer c.in-Set.time c.in-Set.content _ (reverse c.pop.new.self) _ later (rw next at kept.requests);
-      room_for_replies = omega (arith, fewer, kept.room_for_replies);
-      room_for_inserts = omega (arith, fewer, kept.room_for_inserts);
-      room_for_requests = omega (arith, fewer, kept.room_for_requests);
+      reserved_for_replies = omega (arith, fewer, kept.reserved_for_replies);
+      reserved_for_inserts = omega (arith, fewer, kept.reserved_for_inserts);
+      reserved_for_settings = omega (arith, fewer, kept.reserved_for_settings);
     }
 
 pub returns-clause-planned : goal.returns-clause-planned

@@ -1,5 +1,5 @@
 use Rattle.std.proofs.Common.{◌≡◌, ◌≤◌, ◌++◌, length, reverse}
-use Rattle.st_actions.specs.Plan.{replies_of, inserts_of, postpone_of, postpone_or, requests_of}
+use Rattle.st_actions.specs.Plan.{replies_of, inserts_of, postpone_of, postpone_or, settings_of}
 use Rattle.st_actions.proofs.planning.plan.Given as goal
 
 -- what was taken, with what the rest asks for, is what all ask for
@@ -8,10 +8,10 @@ invariant-loop-action g l = record {
   replies : l.replies.items ++ replies_of (reverse l.actions) ≡ replies_of l.fn.actions;
   postpone : postpone_or l.postpone (reverse l.actions) ≡ postpone_of l.fn.actions;
   inserts : l.inserts.items ++ inserts_of (reverse l.actions) ≡ inserts_of l.fn.actions;
-  requests : l.requests.items ++ requests_of (reverse l.actions) ≡ requests_of l.fn.actions;
-  room_for_replies : length l.actions ≤ l.replies.room;
-  room_for_inserts : length l.actions ≤ l.inserts.room;
-  room_for_requests : length l.actions ≤ l.requests.room;
+  requests : l.requests.items ++ settings_of (reverse l.actions) ≡ settings_of l.fn.actions;
+  reserved_for_replies : length l.actions ≤ l.replies.reserved;
+  reserved_for_inserts : length l.actions ≤ l.inserts.reserved;
+  reserved_for_settings : length l.actions ≤ l.requests.reserved;
 }
 
 abbrev pub decreases-loop-action : goal.decreases-loop-action

@@ -9,7 +9,7 @@ loop-insert-init g c = behind_none c.args.queue.now c.args.first c.args.inserts
 pub loop-insert-preserved : goal.loop-insert-preserved
 loop-insert-preserved g c =
     behind_more c.args.queue.now c.loop-insert.queue c.insert_staged.new.self c.args.first (c.args.first + c.len.result) c.args.inserts c.loop-insert.left c.pop.new.self
-    c.in-Some.insert c.requires.within c.requires.room c.in-Some.ensures.popped (rw c.len.ensures.length refl) c.insert_staged.ensures.inserted c.loop-insert.invariant
+    c.in-Some.insert c.requires.within c.requires.reserved c.in-Some.ensures.popped (rw c.len.ensures.length refl) c.insert_staged.ensures.inserted c.loop-insert.invariant
 
 pub returns : goal.returns
 returns g c = behind_all c.args.queue.now c.loop-insert.queue c.args.first c.args.inserts c.loop-insert.left (c.pop.ensures.end.0 (rw c.in_default.is refl)) c.loop-insert.invariant

@@ -10,5 +10,5 @@ loop-place-preserved c =
     record {
       numbers = one_number_more c.args.first c.loop-place.place _ before.numbers refl c.push_reserved.ensures.items;
       count = grind (arith, common_steps);
-      room = grind (arith, common_steps);
+      reserved = grind (arith, common_steps);
     }

@@ -6,5 +6,5 @@ abbrev pub invariant-loop-place : goal.invariant-loop-place
 invariant-loop-place l = record {
   numbers : l.numbers.items ≡ range_with_len l.fn.first l.place;
   count : vec_len l.numbers ≡ l.place;
-  room : vec_capacity l.numbers ≡ l.fn.count;
+  reserved : vec_capacity l.numbers ≡ l.fn.count;
 }

@@ -1,6 +1,7 @@
 use Rattle.std.proofs.Common.{sym, arith}
 use Rattle.std.proofs.lemmas.Grind.{common_steps}
-use Rattle.st_core.proofs.TransitionLemmas.{more_settings, one_more_there, times_of-append}
+use Rattle.st_agenda.proofs.LoopLemmas.{more_settings, one_more_there}
+use Rattle.st_core.proofs.TransitionLemmas.{times_of-append}
 use Rattle.st_core.proofs.settings.times_of.Goals as goal
 
 pub unreachable-requires : goal.unreachable-requires
@@ -14,5 +15,5 @@ loop-index-preserved g c =
     record {
       times = rw (more, times_of-append, ← c.loop-index.invariant.times) c.push_reserved.ensures.items;
       count = grind (arith, common_steps);
-      room = grind (arith, common_steps);
+      reserved = grind (arith, common_steps);
     }

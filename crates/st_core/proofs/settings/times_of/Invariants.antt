@@ -8,5 +8,5 @@ abbrev pub invariant-loop-index : goal.invariant-loop-index
 invariant-loop-index g l = record {
   times : l.times.items ≡ times_of (take l.index l.settings);
   count : length l.times.items ≡ l.index;
-  room : vec_capacity l.times ≡ length l.settings;
+  reserved : vec_capacity l.times ≡ length l.settings;
 }

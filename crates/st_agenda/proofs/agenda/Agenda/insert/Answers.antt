@@ -10,4 +10,4 @@ pub returns : goal.returns
 returns g c =
     let inside = c.self.inside in
     rw (← c.self.view_is)
-    (inserted_is inside.pending c.insert.new.self inside.timeouts.listed inside.expiries c.self.invariant c.args.inserts c.insert.ensures inside.timeouts.room)
+    (inserted_is inside.pending c.insert.new.self inside.timeouts.listed inside.expiries c.self.invariant c.args.inserts c.insert.ensures inside.timeouts.reserved)

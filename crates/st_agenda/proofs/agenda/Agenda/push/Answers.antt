@@ -7,7 +7,7 @@ pub invariant_of-self : goal.invariant_of-self
 invariant_of-self g c =
     let inside = c.self.inside in
     kept_pushed inside.pending c.push-pushed.new.self inside.timeouts.listed inside.expiries c.self.invariant
-    (record { number = inside.pending.next; kind = c.args.kind; content = c.args.content }) refl
+    (record { number = inside.pending.next_number; kind = c.args.kind; content = c.args.content }) refl
     c.push-pushed.result c.push-pushed.ensures.pushed c.push-pushed.ensures.unchanged c.in_order.ensures
 
 pub returns-clause-pushed : goal.returns-clause-pushed
@@ -16,5 +16,5 @@ returns-clause-pushed g c =
     rw (← c.self.view_is)
     (on_ok_weaker c.push-pushed.result
     (pushed_is inside.pending c.push-pushed.new.self inside.timeouts.listed inside.expiries c.self.invariant
-    (record { number = inside.pending.next; kind = c.args.kind; content = c.args.content }) refl)
+    (record { number = inside.pending.next_number; kind = c.args.kind; content = c.args.content }) refl)
     c.push-pushed.ensures.pushed)

@@ -7,11 +7,11 @@ invariant_of-self g c =
     let inside = c.self.inside in
     let free = rw (← c.self.view_is) at c.requires.free in
     let below = rw (← c.self.view_is) at c.requires.below in
-    rw c.insert_staged.ensures.inserted (sound_put_in inside.queue inside.received inside.next (slot.Event c.args.event) c.self.invariant free below)
+    rw c.insert_staged.ensures.inserted (sound_put_in inside.queue inside.received inside.next_number (slot.Event c.args.event) c.self.invariant free below)
 
 pub returns : goal.returns
 returns g c =
     let inside = c.self.inside in
     let free = rw (← c.self.view_is) at c.requires.free in
     let below = rw (← c.self.view_is) at c.requires.below in
-    rw (← c.self.view_is, c.insert_staged.ensures.inserted) (put_in_is inside.queue inside.received inside.next (slot.Event c.args.event) c.self.invariant free below)
+    rw (← c.self.view_is, c.insert_staged.ensures.inserted) (put_in_is inside.queue inside.received inside.next_number (slot.Event c.args.event) c.self.invariant free below)

@@ -92,10 +92,16 @@ returns-in-Some g c = record {
 }
 
 pub array_drop-planned-requires-in_default-enter-2 : goal.array_drop-planned-requires-in_default-enter-2
-array_drop-planned-requires-in_default-enter-2 g c = omega (arith, g.met.M.Module.settings_fit)
+array_drop-planned-requires-in_default-enter-2 g c = omega (arith, g.met.M.Module.lawful.settings_fit)
 
 pub array_drop-planned-requires-in_default-one_call-3 : goal.array_drop-planned-requires-in_default-one_call-3
-array_drop-planned-requires-in_default-one_call-3 g c = omega (arith, g.met.M.Module.settings_fit)
+array_drop-planned-requires-in_default-one_call-3 g c = omega (arith, g.met.M.Module.lawful.settings_fit)
 
 pub array_drop-planned-requires-in-Some-reason-3 : goal.array_drop-planned-requires-in-Some-reason-3
-array_drop-planned-requires-in-Some-reason-3 g c = omega (arith, g.met.M.Module.settings_fit)
+array_drop-planned-requires-in-Some-reason-3 g c = omega (arith, g.met.M.Module.lawful.settings_fit)
+
+-- what the enter call comes to fits in memory
+pub plan_entered-requires : goal.plan_entered-requires
+plan_entered-requires g c =
+    let fits = g.met.M.Module.lawful in
+    (fits.planned_fits, (fits.enter_outcome_fits, (fits.enter_outcome_fits, (fits.enter_actions_fit, (fits.replies_fit, (fits.inserts_fit, (fits.settings_fit, fits.planned_fits)))))))

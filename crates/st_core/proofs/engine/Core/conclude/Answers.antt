@@ -6,7 +6,7 @@ use Rattle.st_actions.specs.Plan.{plan_of}
 use Rattle.st_core.specs.Callbacks.{callbacks_of, or_old}
 use Rattle.st_core.specs.Run.{turn_takes_memory, turn_without_memory}
 use Rattle.st_core.specs.Transition.{with_moment}
-use Rattle.st_core.proofs.TransitionLemmas.{settled_takes_memory, goes_on, stops, meets_same}
+use Rattle.st_core.proofs.TransitionLemmas.{concluded_takes_memory, goes_on, stops, meets_same}
 use Rattle.st_core.proofs.engine.Core.conclude.Goals as goal
 
 pub go_on-requires-send-M-State : goal.go_on-requires-send-M-State
@@ -39,14 +39,14 @@ returns-in_err-planned-clause-step g c called called_is =
     let callbacks = callbacks_of g.M.Module g.M.State.PartialEq.eq c.args.self.now.module_ in
     let machine = c.args.self.now.machine in
     let told = err_from_is_err_and c.from_residual.result c.from_residual.ensures.1 in
-    inr (settled_takes_memory callbacks machine (with_moment machine c.args.now) c.args.number called called.reason, rw (told.1, told.2) refl, refl)
+    inr (concluded_takes_memory callbacks (with_moment machine c.args.now) c.args.number called called.reason, rw (told.1, told.2) refl, refl)
 
 pub returns-in_err-calls-clause-step : goal.returns-in_err-calls-clause-step
 returns-in_err-calls-clause-step g c called called_is =
     let callbacks = callbacks_of g.M.Module g.M.State.PartialEq.eq c.args.self.now.module_ in
     let machine = c.args.self.now.machine in
     let told = err_from_is_err_and c.from_residual-in_err-calls.result c.from_residual-in_err-calls.ensures.1 in
-    inr (settled_takes_memory callbacks machine (with_moment machine c.args.now) c.args.number called called.reason, rw (told.1, told.2) refl, refl)
+    inr (concluded_takes_memory callbacks (with_moment machine c.args.now) c.args.number called called.reason, rw (told.1, told.2) refl, refl)
 
 -- the machine goes on
 pub returns-in-None-clause-step : goal.returns-in-None-clause-step
@@ -76,7 +76,13 @@ returns-in-Some-clause-step g c called called_is =
 
 -- the requests are dropped
 pub array_drop-planned-requires-in_err-calls-2 : goal.array_drop-planned-requires-in_err-calls-2
-array_drop-planned-requires-in_err-calls-2 g c = omega (arith, g.met.M.Module.settings_fit)
+array_drop-planned-requires-in_err-calls-2 g c = omega (arith, g.met.M.Module.lawful.settings_fit)
 
 pub array_drop-planned-requires-in-Some-reason-2 : goal.array_drop-planned-requires-in-Some-reason-2
-array_drop-planned-requires-in-Some-reason-2 g c = omega (arith, g.met.M.Module.settings_fit)
+array_drop-planned-requires-in-Some-reason-2 g c = omega (arith, g.met.M.Module.lawful.settings_fit)
+
+-- what the outcome comes to fits in memory
+pub plan_outcome-requires : goal.plan_outcome-requires
+plan_outcome-requires g c =
+    let fits = g.met.M.Module.lawful in
+    (fits.outcome_fits, (fits.planned_fits, (fits.outcome_fits, (fits.actions_fit, (fits.replies_fit, (fits.inserts_fit, (fits.settings_fit, fits.planned_fits)))))))

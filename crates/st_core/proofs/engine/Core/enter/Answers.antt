@@ -3,10 +3,10 @@ use Rattle.std.proofs.lemmas.Result.{err_from_is_err_and}
 use Rattle.std.specs.Prelude.{None, Some}
 use Rattle.st_actions.specs.declared.planned.Planned.{Planned}
 use Rattle.st_actions.specs.Plan.{plan_of}
-use Rattle.st_core.specs.Callbacks.{Called, callbacks_of, or_old, actions_of, entered_data, handled_with, entered_with}
+use Rattle.st_core.specs.Callbacks.{Called, callbacks_of, or_old, said_by, entered_as, handled_with, entered_with}
 use Rattle.st_core.specs.Run.{turn_takes_memory, turn_without_memory}
 use Rattle.st_core.specs.Transition.{with_moment}
-use Rattle.st_core.proofs.TransitionLemmas.{settled_takes_memory, goes_on, stops, meets_same}
+use Rattle.st_core.proofs.TransitionLemmas.{concluded_takes_memory, goes_on, stops, meets_same}
 use Rattle.st_core.proofs.engine.Core.enter.Goals as goal
 
 pub go_on-requires-send-M-State : goal.go_on-requires-send-M-State
@@ -39,28 +39,28 @@ returns-in_err-first-clause-step g c called called_is =
     let callbacks = callbacks_of g.M.Module g.M.State.PartialEq.eq c.args.self.now.module_ in
     let machine = c.args.self.now.machine in
     let told = err_from_is_err_and c.from_residual.result c.from_residual.ensures.1 in
-    inr (settled_takes_memory callbacks machine (with_moment machine c.args.now) c.args.number called called.reason, rw (told.1, told.2) refl, refl)
+    inr (concluded_takes_memory callbacks (with_moment machine c.args.now) c.args.number called called.reason, rw (told.1, told.2) refl, refl)
 
 pub returns-in_err-entered-clause-step : goal.returns-in_err-entered-clause-step
 returns-in_err-entered-clause-step g c called called_is =
     let callbacks = callbacks_of g.M.Module g.M.State.PartialEq.eq c.args.self.now.module_ in
     let machine = c.args.self.now.machine in
     let told = err_from_is_err_and c.from_residual-in_err-entered.result c.from_residual-in_err-entered.ensures.1 in
-    inr (settled_takes_memory callbacks machine (with_moment machine c.args.now) c.args.number called called.reason, rw (told.1, told.2) refl, refl)
+    inr (concluded_takes_memory callbacks (with_moment machine c.args.now) c.args.number called called.reason, rw (told.1, told.2) refl, refl)
 
 pub returns-in_err-planned-clause-step : goal.returns-in_err-planned-clause-step
 returns-in_err-planned-clause-step g c called called_is =
     let callbacks = callbacks_of g.M.Module g.M.State.PartialEq.eq c.args.self.now.module_ in
     let machine = c.args.self.now.machine in
     let told = err_from_is_err_and c.from_residual-in_err-planned.result c.from_residual-in_err-planned.ensures.1 in
-    inr (settled_takes_memory callbacks machine (with_moment machine c.args.now) c.args.number called called.reason, rw (told.1, told.2) refl, refl)
+    inr (concluded_takes_memory callbacks (with_moment machine c.args.now) c.args.number called called.reason, rw (told.1, told.2) refl, refl)
 
 pub returns-in_err-calls-clause-step : goal.returns-in_err-calls-clause-step
 returns-in_err-calls-clause-step g c called called_is =
     let callbacks = callbacks_of g.M.Module g.M.State.PartialEq.eq c.args.self.now.module_ in
     let machine = c.args.self.now.machine in
     let told = err_from_is_err_and c.from_residual-in_err-calls.result c.from_residual-in_err-calls.ensures.1 in
-    inr (settled_takes_memory callbacks machine (with_moment machine c.args.now) c.args.number called called.reason, rw (told.1, told.2) refl, refl)
+    inr (concluded_takes_memory callbacks (with_moment machine c.args.now) c.args.number called called.reason, rw (told.1, told.2) refl, refl)
 
 -- the machine goes on
 pub returns-in-None-clause-step : goal.returns-in-None-clause-step
@@ -79,11 +79,11 @@ returns-in-None-clause-step g c called called_is =
     let state : called.state ≡ c.state_after-after.result = rw called_as (sym after) in
     let held : called.data ≡ or_old machine.data c.plan_entered.new.data =
     ap (λ (last : Called _ _ _). last.data) called_as
-    ∙ ap (λ before. entered_data before c.in_ok-entered.entered) (sym kept)
+    ∙ ap (λ before. or_old before (entered_as c.in_ok-entered.entered).data) (sym kept)
     ∙ sym (c.plan_entered.ensures.new_data machine.data) in
     let asked : plan_of called.actions ≡ c.in_ok-planned.planned =
     ap (λ (last : Called _ _ _). plan_of last.actions) called_as
-    ∙ sym (c.in_ok-planned.ensures.planned (actions_of c.args.outcome) c.in_ok-first.ensures.planned) in
+    ∙ sym (c.in_ok-planned.ensures.planned (said_by c.args.outcome).actions c.in_ok-first.ensures.planned) in
     let none : called.reason ≡ None = rw called_as (sym c.entered_reason-reason.ensures ∙ c.in-None.is) in
     let changed : called.changed ≡ c.changes_state-changed.result = rw (called_as, c.changes_state-changed.ensures, ← c.self.view_is) refl in
     meets_same turn_takes_memory turn_without_memory _ _ _ (goes_on callbacks machine (with_moment machine c.args.now) c.args.number called none)
@@ -106,21 +106,33 @@ returns-in-Some-clause-step g c called called_is =
     let state : called.state ≡ c.state_after-after.result = rw called_as (sym after) in
     let held : called.data ≡ or_old machine.data c.plan_entered.new.data =
     ap (λ (last : Called _ _ _). last.data) called_as
-    ∙ ap (λ before. entered_data before c.in_ok-entered.entered) (sym kept)
+    ∙ ap (λ before. or_old before (entered_as c.in_ok-entered.entered).data) (sym kept)
     ∙ sym (c.plan_entered.ensures.new_data machine.data) in
     let asked : plan_of called.actions ≡ c.in_ok-planned.planned =
     ap (λ (last : Called _ _ _). plan_of last.actions) called_as
-    ∙ sym (c.in_ok-planned.ensures.planned (actions_of c.args.outcome) c.in_ok-first.ensures.planned) in
+    ∙ sym (c.in_ok-planned.ensures.planned (said_by c.args.outcome).actions c.in_ok-first.ensures.planned) in
     let some : called.reason ≡ Some c.in-Some.reason = rw called_as (sym c.entered_reason-reason.ensures ∙ c.in-Some.is) in
     meets_same turn_takes_memory turn_without_memory _ _ _ (stops callbacks machine (with_moment machine c.args.now) c.args.number called c.in-Some.reason some)
     (c.stop_at.ensures.step called calls state held (ap (λ (planned : Planned _). planned.replies) asked))
 
 -- the requests are dropped
 pub array_drop-first-requires-in_err-entered-2 : goal.array_drop-first-requires-in_err-entered-2
-array_drop-first-requires-in_err-entered-2 g c = omega (arith, g.met.M.Module.settings_fit)
+array_drop-first-requires-in_err-entered-2 g c = omega (arith, g.met.M.Module.lawful.settings_fit)
 
 pub array_drop-planned-requires-in_err-calls-2 : goal.array_drop-planned-requires-in_err-calls-2
-array_drop-planned-requires-in_err-calls-2 g c = omega (arith, g.met.M.Module.settings_fit)
+array_drop-planned-requires-in_err-calls-2 g c = omega (arith, g.met.M.Module.lawful.settings_fit)
 
 pub array_drop-planned-requires-in-Some-reason-2 : goal.array_drop-planned-requires-in-Some-reason-2
-array_drop-planned-requires-in-Some-reason-2 g c = omega (arith, g.met.M.Module.settings_fit)
+array_drop-planned-requires-in-Some-reason-2 g c = omega (arith, g.met.M.Module.lawful.settings_fit)
+
+-- what the outcome comes to fits in memory
+pub plan_outcome-requires : goal.plan_outcome-requires
+plan_outcome-requires g c =
+    let fits = g.met.M.Module.lawful in
+    (fits.outcome_fits, (fits.planned_fits, (fits.outcome_fits, (fits.actions_fit, (fits.replies_fit, (fits.inserts_fit, (fits.settings_fit, fits.planned_fits)))))))
+
+-- what the enter call comes to fits in memory
+pub plan_entered-requires : goal.plan_entered-requires
+plan_entered-requires g c =
+    let fits = g.met.M.Module.lawful in
+    (fits.planned_fits, (fits.enter_outcome_fits, (fits.enter_outcome_fits, (fits.enter_actions_fit, (fits.replies_fit, (fits.inserts_fit, (fits.settings_fit, fits.planned_fits)))))))

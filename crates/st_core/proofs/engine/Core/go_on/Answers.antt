@@ -1,7 +1,7 @@
 use Rattle.std.proofs.Common.{◌≡◌, ◌≤◌, ◌+◌, ◌^◌, true, Some, length, max, refl, ap, sym, ◌∙◌, arith}
 use Rattle.std.proofs.lemmas.Result.{err_from_is_err_and}
 use Rattle.std.specs.Option.{option_map}
-use Rattle.st_actions.specs.Plan.{replies_of, inserts_of, postpone_of, requests_of}
+use Rattle.st_actions.specs.Plan.{replies_of, inserts_of, postpone_of, settings_of}
 use Rattle.st_requests.specs.Requests.{taken_by}
 use Rattle.st_core.proofs.StateLemmas.{settled_keeps}
 use Rattle.st_events.specs.declared.event.Event.{Event}
@@ -19,14 +19,14 @@ returns-clause-step g c called same_calls same_state same_data same_change same_
     let planned = sym same_plan in
     let enough : has_numbers (with_moment machine c.args.now) called.actions ≡ true =
     rw (← c.self.view_is) (rw planned at c.in_ok-prepared.ensures.numbers) in
-    let inserted : c.in_ok-prepared.prepared.inserted ≡ numbers_of (numbered c.self.inside.agenda.schedule.next (inserts_of called.actions)) =
+    let inserted : c.in_ok-prepared.prepared.inserted ≡ numbers_of (numbered c.self.inside.agenda.schedule.next_number (inserts_of called.actions)) =
     rw planned at c.in_ok-prepared.ensures.inserted in
-    let set : c.in_ok-prepared.prepared.set ≡ times_of (requests_of called.actions) = rw planned at c.in_ok-prepared.ensures.set in
+    let set : c.in_ok-prepared.prepared.set ≡ times_of (settings_of called.actions) = rw planned at c.in_ok-prepared.ensures.set in
     let latest : c.max-self-inside.result ≡ max machine.latest c.args.now = rw (c.max-self-inside.ensures, ← c.self.view_is) refl in
     let same : c.prepare.new.agenda.schedule ≡ machine.schedule = rw (c.prepare.ensures.same_schedule, ← c.self.view_is) refl in
     let postponed : c.args.planned.postpone ≡ postpone_of called.actions = rw planned refl in
     let to_insert : c.args.planned.inserts ≡ inserts_of called.actions = rw planned refl in
-    let to_set : c.args.planned.requests ≡ requests_of called.actions = rw planned refl in
+    let to_set : c.args.planned.requests ≡ settings_of called.actions = rw planned refl in
     let to_reply : c.args.planned.replies ≡ replies_of called.actions = rw planned refl in
     let replied : c.answer_all.new.taken.items ≡ taken_by machine.requests (replies_of called.actions) =
     rw (c.answer_all.ensures.taken, c.in_ok-prepared.ensures.replied, to_reply, ← c.self.view_is) refl in
@@ -49,17 +49,17 @@ returns-in_err-prepared-clause-step g c called same_calls same_state same_data s
 pub settle-requires : goal.settle-requires
 settle-requires g c =
     let same : c.prepare.new.agenda.schedule ≡ c.args.self.now.machine.schedule = rw (c.prepare.ensures.same_schedule, ← c.self.view_is) refl in
-    let next : c.prepare.new.agenda.schedule.next ≡ c.self.inside.agenda.schedule.next = ap (λ (s : Schedule _). s.next) c.prepare.ensures.same_schedule in
-    let enough = enough_for_all c.self.inside.agenda.schedule.next (length c.args.planned.inserts) (numbers_taken c.args.planned.requests) c.in_ok-prepared.ensures.numbers in
-    let numbers : c.prepare.new.agenda.schedule.next + (length c.args.planned.inserts + numbers_taken c.args.planned.requests) ≤ 2 ^ 63 = omega (arith, next, enough) in
+    let next : c.prepare.new.agenda.schedule.next_number ≡ c.self.inside.agenda.schedule.next_number = ap (λ (s : Schedule _). s.next_number) c.prepare.ensures.same_schedule in
+    let enough = enough_for_all c.self.inside.agenda.schedule.next_number (length c.args.planned.inserts) (numbers_taken c.args.planned.requests) c.in_ok-prepared.ensures.numbers in
+    let numbers : c.prepare.new.agenda.schedule.next_number + (length c.args.planned.inserts + numbers_taken c.args.planned.requests) ≤ 2 ^ 63 = omega (arith, next, enough) in
     let number_is = ap (λ (s : Schedule _). option_map (λ (event : Event _). event.number) (next_in s)) same ∙ c.requires.number_is in
-    let inserts_fit = g.met.M.Module.inserts_fit in
-    let settings_fit = g.met.M.Module.settings_fit in
-    (inserts_fit, (settings_fit, (inserts_fit, (settings_fit, (omega (arith, c.max-self-inside.ensures, c.self.invariant.moment, c.requires.moment), (number_is, (c.in_ok-prepared.ensures.staged, (c.in_ok-prepared.ensures.room, numbers))))))))
+    let inserts_fit = g.met.M.Module.lawful.inserts_fit in
+    let settings_fit = g.met.M.Module.lawful.settings_fit in
+    (inserts_fit, (settings_fit, (inserts_fit, (settings_fit, (omega (arith, c.max-self-inside.ensures, c.self.invariant.moment, c.requires.moment), (number_is, (c.in_ok-prepared.ensures.staged, (c.in_ok-prepared.ensures.reserved, numbers))))))))
 
 -- the requests are dropped
 pub array_drop-planned-requires-in_err-prepared-2 : goal.array_drop-planned-requires-in_err-prepared-2
-array_drop-planned-requires-in_err-prepared-2 g c = omega (arith, g.met.M.Module.settings_fit)
+array_drop-planned-requires-in_err-prepared-2 g c = omega (arith, g.met.M.Module.lawful.settings_fit)
 
 -- what is left can come about
 pub invariant_of-self-2 : goal.invariant_of-self-2
@@ -67,7 +67,7 @@ invariant_of-self-2 g c =
     let old = c.self.inside in
     let planned = c.args.planned in
     let next : option_map (λ (event : Event _). event.number) (next_in old.agenda.schedule) ≡ Some c.args.number = rw (← c.self.view_is) at c.requires.number_is in
-    let enough = enough_for_all old.agenda.schedule.next (length planned.inserts) (numbers_taken planned.requests) c.in_ok-prepared.ensures.numbers in
+    let enough = enough_for_all old.agenda.schedule.next_number (length planned.inserts) (numbers_taken planned.requests) c.in_ok-prepared.ensures.numbers in
     rw (c.settle.ensures, c.answer_all.ensures.answered, c.prepare.ensures.same_schedule, c.max-self-inside.ensures)
     (settled_keeps old.id old.agenda.schedule old.requests old.latest c.args.now old.ended c.args.number planned.postpone c.args.changed planned.inserts planned.requests planned.replies
     c.requires.moment next enough c.self.invariant)

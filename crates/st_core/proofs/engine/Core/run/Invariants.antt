@@ -10,8 +10,7 @@ invariant-loop-command g l =
       can_next : (goal.iterator-loop-command g).can_next l.command-iterator;
       is_finite : (goal.iterator-loop-command g).is_finite l.command-iterator;
       split : l.yielded ++ into_iter_items l.command-iterator ≡ l.fn.commands.items;
-      room : vec_capacity l.answers ≡ length l.fn.commands.items;
+      reserved : vec_capacity l.answers ≡ length l.fn.commands.items;
       count : vec_len l.answers ≡ length l.yielded;
-      unchanged_module : l.self.module_ ≡ l.fn.self.module_;
-      run : Runs (callbacks_of g.M.Module g.M.State.PartialEq.eq l.fn.self.module_) l.fn.self.machine l.yielded l.answers.items l.self.machine;
+      run : Runs (callbacks_of g.M.Module g.M.State.PartialEq.eq) l.fn.self l.yielded l.answers.items l.self;
     }

@@ -26,4 +26,4 @@ pub begin_entered-requires-send-M-Arg : goal.begin_entered-requires-send-M-Arg
 begin_entered-requires-send-M-Arg g c κs le = c.type_bounds.send-M-Arg
 
 pub begin-requires-after_bounds : goal.begin-requires-after_bounds
-begin-requires-after_bounds g c κs le = (g.met.M.Module.actions_fit, (omega (arith, c.if-now-ge-LIMIT.false), c.requires.greatest))
+begin-requires-after_bounds g c κs le = (g.met.M.Module.lawful.actions_fit, (omega (arith, c.if-now-ge-MOMENT_LIMIT.false), c.requires.greatest))

@@ -1,4 +1,5 @@
-use Rattle.std.proofs.Common.{◌≡◌, ◌<◌, ◌^◌, true, false, None, Some, refl, ap, sym, ◌∙◌, arith}
+use Rattle.std.proofs.Common.{◌≡◌, ◌<◌, ◌^◌, true, false, None, Some, refl, ap, sym, ◌∙◌, inr, arith}
+use Rattle.std.proofs.lemmas.Result.{err_from_is_err_and}
 use Rattle.std.specs.Option.{option_map}
 use Rattle.st_agenda.specs.Agenda.{name_of_event}
 use Rattle.st_events.specs.declared.event.Event.{Event}
@@ -6,7 +7,7 @@ use Rattle.st_core.specs.Callbacks.{callbacks_of, outcome_of, handled_with, ente
 use Rattle.st_core.specs.Choice.{next_event_of}
 use Rattle.st_core.specs.Run.{turn_takes_memory, turn_without_memory}
 use Rattle.st_core.proofs.LawfulLemmas.{lawful_moment}
-use Rattle.st_core.proofs.TransitionLemmas.{machine_of, number_named, event_is, turn_concludes, turn_enters, meets_same}
+use Rattle.st_core.proofs.TransitionLemmas.{machine_of, number_named, event_is, turn_wants_memory, turn_concludes, turn_enters, turn_does, meets_same}
 use Rattle.st_core.proofs.engine.Core.turn.Goals as goal
 
 pub is_entered-requires-send-M-State : goal.is_entered-requires-send-M-State
@@ -47,27 +48,43 @@ conclude-requires-send-M-Arg g c κs within = c.type_bounds.send-M-Arg
 
 pub enter-requires-after_bounds : goal.enter-requires-after_bounds
 enter-requires-after_bounds g c κs within =
-    let early : c.args.now < 2 ^ 63 = omega (arith, c.if-now-ge-LIMIT.false) in
+    let early : c.args.now < 2 ^ 63 = omega (arith, c.if-now-ge-MOMENT_LIMIT.false) in
     let next = next_event_of c.args.self.now.machine in
     let named : option_map name_of_event next ≡ Some (c.in-Some-next_event.number, c.in-Some-next_event.kind) = rw (← c.self.view_is) (sym c.next_event.ensures ∙ c.in-Some-next_event.is) in
-    (g.met.M.Module.outcome_fits, (early, number_named next (c.in-Some-next_event.number, c.in-Some-next_event.kind) named))
+    (g.met.M.Module.lawful.outcome_fits, (early, number_named next (c.in-Some-next_event.number, c.in-Some-next_event.kind) named))
 
 pub conclude-requires-after_bounds : goal.conclude-requires-after_bounds
 conclude-requires-after_bounds g c κs within =
-    let early : c.args.now < 2 ^ 63 = omega (arith, c.if-now-ge-LIMIT.false) in
+    let early : c.args.now < 2 ^ 63 = omega (arith, c.if-now-ge-MOMENT_LIMIT.false) in
     let next = next_event_of c.args.self.now.machine in
     let named : option_map name_of_event next ≡ Some (c.in-Some-next_event.number, c.in-Some-next_event.kind) = rw (← c.self.view_is) (sym c.next_event.ensures ∙ c.in-Some-next_event.is) in
-    (g.met.M.Module.outcome_fits, (early, number_named next (c.in-Some-next_event.number, c.in-Some-next_event.kind) named))
+    (g.met.M.Module.lawful.outcome_fits, (early, number_named next (c.in-Some-next_event.number, c.in-Some-next_event.kind) named))
 
--- with an enter call
-pub returns-then-is_entered-clause-step : goal.returns-then-is_entered-clause-step
-returns-then-is_entered-clause-step g c =
+-- `handle` finds no memory
+pub returns-in_err-outcome-clause-does : goal.returns-in_err-outcome-clause-does
+returns-in_err-outcome-clause-does g c =
     let callbacks = callbacks_of g.M.Module g.M.State.PartialEq.eq c.args.self.now.module_ in
     let machine = c.args.self.now.machine in
     let next = next_event_of machine in
     let event : Event _ = record { number = c.in-Some-next_event.number; kind = c.in-Some-next_event.kind; content = c.in-Some-next_content.content.now } in
     let ended : machine.ended ≡ None = rw (← c.self.view_is) c.in_default.is in
-    let early : c.args.now < 2 ^ 63 = omega (arith, c.if-now-ge-LIMIT.false) in
+    let early : c.args.now < 2 ^ 63 = omega (arith, c.if-now-ge-MOMENT_LIMIT.false) in
+    let named : option_map name_of_event next ≡ Some (c.in-Some-next_event.number, c.in-Some-next_event.kind) = rw (← c.self.view_is) (sym c.next_event.ensures ∙ c.in-Some-next_event.is) in
+    let content : option_map (λ (e : Event _). e.content) next ≡ Some c.in-Some-next_content.content.now =
+    rw (← c.self.view_is) (sym c.next_content.ensures ∙ rw c.in-Some-next_content.is refl) in
+    let there = event_is next (c.in-Some-next_event.number, c.in-Some-next_event.kind) c.in-Some-next_content.content.now named content in
+    let told = err_from_is_err_and c.from_residual.result c.from_residual.ensures.1 in
+    inr (turn_wants_memory callbacks machine c.args.now event ended early there, rw (told.1, told.2) refl, refl)
+
+-- with an enter call
+pub returns-then-is_entered-clause-does : goal.returns-then-is_entered-clause-does
+returns-then-is_entered-clause-does g c =
+    let callbacks = callbacks_of g.M.Module g.M.State.PartialEq.eq c.args.self.now.module_ in
+    let machine = c.args.self.now.machine in
+    let next = next_event_of machine in
+    let event : Event _ = record { number = c.in-Some-next_event.number; kind = c.in-Some-next_event.kind; content = c.in-Some-next_content.content.now } in
+    let ended : machine.ended ≡ None = rw (← c.self.view_is) c.in_default.is in
+    let early : c.args.now < 2 ^ 63 = omega (arith, c.if-now-ge-MOMENT_LIMIT.false) in
     let named : option_map name_of_event next ≡ Some (c.in-Some-next_event.number, c.in-Some-next_event.kind) = rw (← c.self.view_is) (sym c.next_event.ensures ∙ c.in-Some-next_event.is) in
     let content : option_map (λ (e : Event _). e.content) next ≡ Some c.in-Some-next_content.content.now =
     rw (← c.self.view_is) (sym c.next_content.ensures ∙ rw c.in-Some-next_content.is refl) in
@@ -75,19 +92,20 @@ returns-then-is_entered-clause-step g c =
     let answered : c.in_ok-outcome.outcome ≡ outcome_of callbacks machine event = rw (c.in_ok-outcome.ensures, ← c.self.view_is) refl in
     let call : is_entered callbacks machine.state (outcome_of callbacks machine event) ≡ true =
     rw (← answered) (rw (← c.self.view_is) (sym c.is_entered.ensures ∙ c.if-is_entered.true)) in
-    meets_same turn_takes_memory turn_without_memory _ _ _ (turn_enters callbacks machine c.args.now event ended early there call)
+    turn_does (callbacks_of g.M.Module g.M.State.PartialEq.eq) c.args.self.now c.enter.new.self c.args.now c.enter.result c.enter.ensures.unchanged_module
+    (meets_same turn_takes_memory turn_without_memory _ _ _ (turn_enters callbacks machine c.args.now event ended early there call)
     (c.enter.ensures.step (entered_by callbacks machine.state (handled_with callbacks.same_state event.number event.kind machine.state machine.data (outcome_of callbacks machine event)))
-    (ap (λ outcome. entered_by callbacks machine.state (handled_with callbacks.same_state event.number event.kind machine.state machine.data outcome)) (sym answered)))
+    (ap (λ outcome. entered_by callbacks machine.state (handled_with callbacks.same_state event.number event.kind machine.state machine.data outcome)) (sym answered))))
 
 -- with none
-pub returns-else-is_entered-clause-step : goal.returns-else-is_entered-clause-step
-returns-else-is_entered-clause-step g c =
+pub returns-else-is_entered-clause-does : goal.returns-else-is_entered-clause-does
+returns-else-is_entered-clause-does g c =
     let callbacks = callbacks_of g.M.Module g.M.State.PartialEq.eq c.args.self.now.module_ in
     let machine = c.args.self.now.machine in
     let next = next_event_of machine in
     let event : Event _ = record { number = c.in-Some-next_event.number; kind = c.in-Some-next_event.kind; content = c.in-Some-next_content.content.now } in
     let ended : machine.ended ≡ None = rw (← c.self.view_is) c.in_default.is in
-    let early : c.args.now < 2 ^ 63 = omega (arith, c.if-now-ge-LIMIT.false) in
+    let early : c.args.now < 2 ^ 63 = omega (arith, c.if-now-ge-MOMENT_LIMIT.false) in
     let named : option_map name_of_event next ≡ Some (c.in-Some-next_event.number, c.in-Some-next_event.kind) = rw (← c.self.view_is) (sym c.next_event.ensures ∙ c.in-Some-next_event.is) in
     let content : option_map (λ (e : Event _). e.content) next ≡ Some c.in-Some-next_content.content.now =
     rw (← c.self.view_is) (sym c.next_content.ensures ∙ rw c.in-Some-next_content.is refl) in
@@ -95,14 +113,15 @@ returns-else-is_entered-clause-step g c =
     let answered : c.in_ok-outcome.outcome ≡ outcome_of callbacks machine event = rw (c.in_ok-outcome.ensures, ← c.self.view_is) refl in
     let none : is_entered callbacks machine.state (outcome_of callbacks machine event) ≡ false =
     rw (← answered) (rw (← c.self.view_is) (sym c.is_entered.ensures ∙ c.if-is_entered.false)) in
-    meets_same turn_takes_memory turn_without_memory _ _ _ (turn_concludes callbacks machine c.args.now event ended early there none)
+    turn_does (callbacks_of g.M.Module g.M.State.PartialEq.eq) c.args.self.now c.conclude.new.self c.args.now c.conclude.result c.conclude.ensures.unchanged_module
+    (meets_same turn_takes_memory turn_without_memory _ _ _ (turn_concludes callbacks machine c.args.now event ended early there none)
     (c.conclude.ensures.step (handled_with callbacks.same_state event.number event.kind machine.state machine.data (outcome_of callbacks machine event))
-    (ap (λ outcome. handled_with callbacks.same_state event.number event.kind machine.state machine.data outcome) (sym answered)))
+    (ap (λ outcome. handled_with callbacks.same_state event.number event.kind machine.state machine.data outcome) (sym answered))))
 
 -- an idle turn
 pub invariant_of-self : goal.invariant_of-self
 invariant_of-self g c =
     let old = c.self.inside in
-    let early : c.args.now < 2 ^ 63 = omega (arith, c.if-now-ge-LIMIT.false) in
+    let early : c.args.now < 2 ^ 63 = omega (arith, c.if-now-ge-MOMENT_LIMIT.false) in
     rw c.max-self-inside.ensures
     (lawful_moment (machine_of old.id old.state old.data old.agenda.schedule old.requests old.latest old.ended) c.args.now early c.self.invariant)

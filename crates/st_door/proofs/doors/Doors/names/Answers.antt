@@ -1,6 +1,6 @@
 use Rattle.std.proofs.Common.{◌<◌, length, ◌∙◌, arith, codes}
 use Rattle.st_door.proofs.PrintingLemmas.{names-more}
-use Rattle.st_door.proofs.SettlingLemmas.{no_door}
+use Rattle.st_door.proofs.IdleLemmas.{no_door}
 use Rattle.st_door.proofs.doors.Doors.names.Goals as goal
 
 -- one more name stands in the line

@@ -1,5 +1,5 @@
 use Rattle.std.proofs.Common.{◌≡◌, ◌<◌, ◌^◌, length, ◌∙◌, arith, rules}
-use Rattle.st_door.proofs.SettlingLemmas.{no_door}
+use Rattle.st_door.proofs.IdleLemmas.{no_door}
 use Rattle.st_door.proofs.TickingLemmas.{labels-so_far, within-so_far, ticked-more, expired-more, ticked-all, expired-all}
 use Rattle.st_door.proofs.doors.Doors.tick.Goals as goal
 

@@ -2,7 +2,7 @@ use Rattle.std.proofs.Common.{◌≡◌, ◌<◌, length, get_or, ap, refl}
 use Rattle.st_door.specs.Doors.{NamedDoor, door_collect_of}
 use Rattle.st_door.specs.Script.{ScriptState}
 use Rattle.st_door.proofs.ScriptStateLemmas.{kept-alike}
-use Rattle.st_door.proofs.SettlingLemmas.{no_door}
+use Rattle.st_door.proofs.IdleLemmas.{no_door}
 use Rattle.st_door.proofs.script.Script.collect.Goals as goal
 
 -- the door at the place is ready where it was

@@ -4,7 +4,7 @@ use Rattle.st_door.specs.declared.door_content.DoorContent.TheVariants.{Button}
 use Rattle.st_door.specs.Doors.{NamedDoor, press_of}
 use Rattle.st_door.specs.Script.{ScriptState}
 use Rattle.st_door.proofs.ScriptStateLemmas.{kept-set, id-post}
-use Rattle.st_door.proofs.SettlingLemmas.{no_door}
+use Rattle.st_door.proofs.IdleLemmas.{no_door}
 use Rattle.st_door.proofs.script.Script.press.Goals as goal
 
 pub widened-from-requires : goal.widened-from-requires

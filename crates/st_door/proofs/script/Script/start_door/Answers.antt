@@ -20,10 +20,10 @@ pub invariant_of-self-in-Ok-Running : goal.invariant_of-self-in-Ok-Running
 unfolding script_of
 invariant_of-self-in-Ok-Running c =
     let doors : c.self.inside.doors ≡ c.args.self.now.doors = ap (λ (script : ScriptState). script.doors) c.self.view_is in
-    let room : length c.self.inside.doors < 65536 = rw doors c.requires.room in
+    let reserved : length c.self.inside.doors < 65536 = rw doors c.requires.reserved in
     let state = started-state (script_of c) c.args.code c.in-Ok-Running.core c.in-Ok-Running._report (started c) in
     rw c.in_ok-push-in-Ok-Running.ensures.pushed
-    (kept-pushed c.self.inside.doors c.self.inside.from c.self.inside.until _ c.self.invariant room
+    (kept-pushed c.self.inside.doors c.self.inside.from c.self.inside.until _ c.self.invariant reserved
     (started-slot (script_of c) c.args.code c.in-Ok-Running.core c.in-Ok-Running._report c.self.invariant.numbered (started c)) state.1)
 
 pub returns-in-Ok-Running-clause-started : goal.returns-in-Ok-Running-clause-started

@@ -2,7 +2,7 @@ use Rattle.std.proofs.Common.{◌≡◌, ◌<◌, length, get_or, ap}
 use Rattle.st_door.specs.Doors.{NamedDoor, door_stop_of}
 use Rattle.st_door.specs.Script.{ScriptState}
 use Rattle.st_door.proofs.ScriptStateLemmas.{kept-resting, id-stop, rests-ended}
-use Rattle.st_door.proofs.SettlingLemmas.{no_door}
+use Rattle.st_door.proofs.IdleLemmas.{no_door}
 use Rattle.st_door.proofs.script.Script.stop.Goals as goal
 
 -- the door at the place rests from then on

@@ -9,11 +9,11 @@ less_room : (used more before after : ℕ) → more ≡ used + 1 → after ≡ b
 less_room used more before after longer same = omega (arith, longer, same)
 
 abbrev the_building : {T : Type 0} → List T → ℕ → Building T
-the_building items room = record { items = items; room = room }
+the_building items reserved = record { items = items; reserved = reserved }
 
 same_building : {T : Type 0} (old new : List T) (before after : ℕ) → new ≡ old → after ≡ before
     → the_building new after ≡ the_building old before
-same_building old new before after items room = rw (items, room) refl
+same_building old new before after items reserved = rw (items, reserved) refl
 
 pub invariant_of-self : goal.invariant_of-self
 invariant_of-self g c = (

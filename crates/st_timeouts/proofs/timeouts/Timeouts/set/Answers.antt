@@ -16,8 +16,8 @@ invariant_of-self g c =
       | then-is_none w ↦
           (let fewer = rw w.if-is_none.ensures at removed.length in
           let none = rw removed.content at w.if-is_none.ensures in
-          let room = room_left c.args.timer _ inside.ready none (rw (← c.self.view_is) at c.requires.room) in
-          let within : length after.items + 1 + (inside.ready - 1) ≤ length entries + inside.ready = omega (arith, fewer, room) in
+          let reserved = room_left c.args.timer _ inside.ready none (rw (← c.self.view_is) at c.requires.reserved) in
+          let within : length after.items + 1 + (inside.ready - 1) ≤ length entries + inside.ready = omega (arith, fewer, reserved) in
           rw (pushed.items, pushed.capacity, w.self-inside-is)
           (sound_pushed entries after.items _ inside.ready (inside.ready - 1) (vec_capacity inside.entries) (vec_capacity after) c.self.invariant removed.removed removed.capacity within))
       | else-is_none w ↦

@@ -1,7 +1,7 @@
 use Rattle.std.proofs.Common.{◌≡◌, ◌+◌, ◌-◌, ◌≤◌, length}
 use Rattle.st_door.specs.Doors.{RestsOutside, SameLabels, run_until_idle}
 use Rattle.st_door.specs.Script.{turn_limit}
-use Rattle.st_door.proofs.settling.run_until_idle.Given as goal
+use Rattle.st_door.proofs.until_idle.run_until_idle.Given as goal
 
 abbrev pub invariant-loop-first : goal.invariant-loop-first
 invariant-loop-first l = record {

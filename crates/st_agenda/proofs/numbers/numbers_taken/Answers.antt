@@ -1,7 +1,6 @@
 use Rattle.std.proofs.Common.{refl, sym, arith}
-use Rattle.st_agenda.proofs.LoopLemmas.{one_at_most}
-use Rattle.st_core.proofs.TransitionLemmas.{numbers_taken-append, more_settings}
-use Rattle.st_core.proofs.settings.numbers_taken.Goals as goal
+use Rattle.st_agenda.proofs.LoopLemmas.{numbers_taken-append, more_settings, one_at_most}
+use Rattle.st_agenda.proofs.numbers.numbers_taken.Goals as goal
 
 pub loop-index-preserved : goal.loop-index-preserved
 loop-index-preserved g c =

@@ -6,7 +6,7 @@ use st_events::Reason;
 ///
 /// Manual: `reply/2`; `call/2`, on a machine that dies before it replies.
 #[derive(Debug, Drop)]
-pub enum Held<C> {
+pub enum RequestState<C> {
     /// No reply has come.
     Open,
     /// The reply, until it is collected.

@@ -2,8 +2,8 @@ use Rattle.std.proofs.Common.{◌≡◌, ℕ, suc, ◌+◌, ◌-◌, ◌<◌, tr
 use Rattle.std.proofs.lemmas.List.{length-set}
 use Rattle.st_door.specs.Doors.{is_ready_door, turned_door, run_until_idle}
 use Rattle.st_door.specs.Script.{turn_limit}
-use Rattle.st_door.proofs.SettlingLemmas.{no_door, labels-more, labels-turned, rests-set, run-turned, run-rested, run-none}
-use Rattle.st_door.proofs.settling.run_until_idle.Goals as goal
+use Rattle.st_door.proofs.IdleLemmas.{no_door, labels-more, labels-turned, rests-set, run-turned, run-rested, run-none}
+use Rattle.st_door.proofs.until_idle.run_until_idle.Goals as goal
 
 -- the first door that may be ready was, and had a turn
 pub loop-first-preserved-then-is_ready_at : goal.loop-first-preserved-then-is_ready_at

@@ -5,7 +5,7 @@ use st_events::Refusal;
 
 /// What a line of a script brings about.
 #[derive(Debug, Drop)]
-pub enum Reply {
+pub enum Effect {
     /// Nothing is printed.
     Silent,
     /// This is printed, line feed included.

@@ -1,17 +1,24 @@
 -- Turns until the doors rest.
 use Rattle.std.proofs.Common.{◌≡◌, ℕ, zero, suc, ◌<◌, ◌≤◌, ◌≢◌, Bool, true, false, nat_lt, List, [], ◌∷◌, length, get_or, set, map, refl, ap, ◌∙◌, arith, inl, inr, ◌^◌, Option, Some, None}
+use Rattle.std.specs.Prelude.{Result, Ok, Err}
 use Rattle.std.specs.List.{list_any}
 use Rattle.std.proofs.Math.Path.{fun_ext}
 use Rattle.std.proofs.lemmas.Bool.{cases_Bool, cases_lt}
 use Rattle.std.proofs.lemmas.List.{get_or-set_other, length-set}
 use Rattle.st_core.specs.Choice.{next_event_of}
 use Rattle.st_core.specs.Callbacks.{Called, callbacks_of, called_of}
+use Rattle.st_core.specs.declared.answer.Answer.{Answer}
+use Rattle.st_core.specs.declared.answer.Answer.TheVariants as answer
+use Rattle.st_core.specs.declared.command.Command.TheVariants as command
+use Rattle.st_core.specs.declared.turned.Turned.{Turned}
+use Rattle.st_core.specs.Run.{Does}
 use Rattle.st_core.specs.Stop.{unless_ended}
-use Rattle.st_core.specs.Transition.{turn_of, turn_running, transition_of, with_moment, settled, went_on, has_numbers}
+use Rattle.st_core.specs.Transition.{turn_of, turn_running, transition_of, with_moment, concluded, left_by, went_on, has_numbers}
 use Rattle.st_core.specs.Start.{first_state}
 use Rattle.st_events.specs.declared.event.Event.{Event}
 use Rattle.st_events.specs.declared.machine_id.MachineId.{MachineId}
 use Rattle.st_events.specs.declared.refusal.Refusal.{Refusal}
+use Rattle.st_events.specs.declared.refusal.Refusal.TheVariants.{NoMemory}
 use Rattle.st_door.specs.contracts.door.DoorModule.TheImpl.{ghosts}
 use Rattle.st_door.specs.contracts.door_state.DoorStatePartialEq.TheImpl.{eq-value}
 use Rattle.st_door.specs.declared.door.Door.{Door}
@@ -20,6 +27,7 @@ use Rattle.st_door.specs.declared.door_data.DoorData.{DoorData}
 use Rattle.st_door.specs.declared.door_state.DoorState.{DoorState}
 use Rattle.st_door.specs.declared.door_state.DoorState.TheVariants.{Locked, Open}
 use Rattle.st_door.specs.Door.{is_same_state}
+use Rattle.st_door.specs.Entries.{DoorCore}
 use Rattle.st_door.specs.Doors.{NamedDoor, DoorMachine, IsFirst, door_callbacks, door_named, is_ready_door, turned_door, run_until_idle, RestsOutside, SameLabels}
 use Rattle.st_door.proofs.DoorLemmas.{IsFirst-changed}
 
@@ -37,6 +45,16 @@ same-states Open Open = refl
 -- the callbacks that the bound gives for a door are those of the definition
 pub given-callbacks : (door : Door) → callbacks_of ghosts eq-value.it door ≡ door_callbacks
 given-callbacks door = ap (λ same_state. record door_callbacks { same_state = same_state }) (fun_ext (λ one. fun_ext (λ other. same-states one other)))
+
+-- a turn that answered `Ok` left what its definition says
+pub turn-ok : (old new : DoorCore) (moment : ℕ) (turned : Result (Turned DoorState) Refusal) (value : Turned DoorState) → turned ≡ Ok value
+    → Does (callbacks_of ghosts eq-value.it) old (command.Turn moment) (answer.Turn turned) new
+    → new.machine ≡ (turn_of door_callbacks old.machine moment).1
+turn-ok old new moment turned value ok does = elim does [
+  | inl done ↦ ap (λ (core : DoorCore). core.machine) done.1
+      ∙ ap (λ callbacks. (turn_of callbacks old.machine moment).1) (given-callbacks old.module_)
+  | inr none ↦ let refused : answer.Turn turned ≡ answer.Turn (Err NoMemory) = none.1 in cc
+]
 
 -- what the callbacks of a door come to
 abbrev DoorCalled : Type 0
@@ -73,30 +91,36 @@ pub id-unless : {A : Type 0} (end : Option (ℕ × ℕ)) (refused : Refusal → 
 id-unless None refused machine done kept = kept
 id-unless (Some end) refused machine done kept = refl
 
--- a turn keeps the machine's id, whether it goes on or ends
-id-went_on : (old machine : DoorMachine) (number : ℕ) (called : DoorCalled) → old.id ≡ machine.id → (went_on old machine number called).1.id ≡ machine.id
-id-went_on old machine number called same = elim (cases_Bool (has_numbers machine called.actions)) [
+-- a turn keeps the machine's id, whether it goes on, ends or is refused
+id-went_on : (machine : DoorMachine) (number : ℕ) (called : DoorCalled) → (went_on machine number called).1.id ≡ machine.id
+id-went_on machine number called = elim (cases_Bool (has_numbers machine called.actions)) [
   | inl enough ↦ rw enough refl
-  | inr none ↦ rw none same
+  | inr none ↦ rw none refl
 ]
 
-id-settled : (old machine : DoorMachine) (number : ℕ) (called : DoorCalled) (reason : Option ℕ) → old.id ≡ machine.id
-    → (settled door_callbacks old machine number called reason).1.id ≡ machine.id
-id-settled old machine number called None same = id-went_on old machine number called same
-id-settled old machine number called (Some reason) same = refl
+id-concluded : (machine : DoorMachine) (number : ℕ) (called : DoorCalled) (reason : Option ℕ)
+    → (concluded door_callbacks machine number called reason).1.id ≡ machine.id
+id-concluded machine number called None = id-went_on machine number called
+id-concluded machine number called (Some reason) = refl
 
-id-transition : (old machine : DoorMachine) (next : Option (Event DoorContent)) → old.id ≡ machine.id
-    → (transition_of door_callbacks old machine next).1.id ≡ machine.id
-id-transition old machine None same = refl
-id-transition old machine (Some event) same =
+id-transition : (machine : DoorMachine) (next : Option (Event DoorContent)) → (transition_of door_callbacks machine next).1.id ≡ machine.id
+id-transition machine None = refl
+id-transition machine (Some event) =
     let called = called_of door_callbacks machine event in
-    id-settled old machine event.number called called.reason same
+    id-concluded machine event.number called called.reason
+
+id-left : {A : Type 0} (answer : Result A Refusal) (old new : DoorMachine) → new.id ≡ old.id → (left_by answer old new).id ≡ old.id
+id-left (Ok answer) old new same = same
+id-left (Err refusal) old new same = refl
 
 id-running : (machine : DoorMachine) (moment : ℕ) → (turn_running door_callbacks machine moment).1.id ≡ machine.id
-id-running machine moment = elim (cases_Bool (nat_lt moment (2 ^ 63))) [
-  | inl early ↦ rw early (id-transition machine (with_moment machine moment) (next_event_of (with_moment machine moment)) refl)
-  | inr late ↦ rw late refl
-]
+id-running machine moment =
+    let at : DoorMachine = with_moment machine moment in
+    let done = transition_of door_callbacks at (next_event_of at) in
+    elim (cases_Bool (nat_lt moment (2 ^ 63))) [
+      | inl early ↦ rw early (id-left done.0 machine done.1 (id-transition at (next_event_of at)))
+      | inr late ↦ rw late refl
+    ]
 
 pub id-turn : (machine : DoorMachine) (moment : ℕ) → (turn_of door_callbacks machine moment).1.id ≡ machine.id
 id-turn machine moment = id-unless machine.ended _ machine (turn_running door_callbacks machine moment) (id-running machine moment)
