@@ -20,7 +20,7 @@ use Rattle.st_events.specs.Timers.{same_timer}
 use Rattle.st_events.proofs.ComparedLemmas.{timers_same}
 use Rattle.st_actions.specs.declared.planned.Planned.{Planned}
 use Rattle.st_actions.specs.Plan.{replies_of, inserts_of, postpone_or, postpone_of, is_set, sets, settings_of, plan_of}
-use Rattle.st_actions.specs.Joined.{as_action, as_actions, enter_plan_of, requested, remaining_of, joined_of}
+use Rattle.st_actions.specs.Joined.{as_action, as_actions, enter_plan_of, is_set_by, remaining_of, joined_of}
 
 -- what was last is the first in the other order
 pub last_is_first : {X : Type 0} (old new : List X) (x : X) → old ≡ new ++ x ∷ [] → reverse old ≡ x ∷ reverse new
@@ -79,27 +79,27 @@ pub sets-reverse : {C : Type 0} (timer : Timer) (actions : List (Action C)) → 
 sets-reverse {C} timer actions = sym (list_any-IsPermutation (λ (action : Action C). is_set timer action) actions (reverse actions) (IsPermutation-reverse actions))
 
 module _ {C : Type 0} (timer : Timer) (time : Time) (content : C) where
-  -- a request goes over, since no later action sets its timer
-  pub request_over : (old new : List (Setting C)) (actions : List (Action C)) (all : List (Setting C)) → sets timer actions ≡ false
+  -- a setting goes over, since no later action sets its timer
+  pub setting_over : (old new : List (Setting C)) (actions : List (Action C)) (all : List (Setting C)) → sets timer actions ≡ false
       → new ≡ old ++ record { timer = timer; time = time; content = content } ∷ []
       → old ++ settings_of (Set timer time content ∷ actions) ≡ all → new ++ settings_of actions ≡ all
-  request_over old new actions all none same whole =
+  setting_over old new actions all none same whole =
       goes_over old new (settings_of actions) all (record { timer = timer; time = time; content = content }) same (rw none at whole)
 
   -- a later action sets its timer
-  pub request_later : (old : List (Setting C)) (actions : List (Action C)) (all : List (Setting C)) → sets timer actions ≡ true
+  pub setting_later : (old : List (Setting C)) (actions : List (Action C)) (all : List (Setting C)) → sets timer actions ≡ true
       → old ++ settings_of (Set timer time content ∷ actions) ≡ all → old ++ settings_of actions ≡ all
-  request_later old actions all later whole = rw later at whole
+  setting_later old actions all later whole = rw later at whole
 
 abbrev planned_as : {C : Type 0} → List (Tag × C) → Bool → List (Insert C) → List (Setting C) → Planned C
-planned_as replies postpone inserts requests =
-    record { replies = replies; postpone = postpone; inserts = inserts; requests = requests }
+planned_as replies postpone inserts settings =
+    record { replies = replies; postpone = postpone; inserts = inserts; requests = settings }
 
-pub planned_whole : {C : Type 0} (actions : List (Action C)) (replies : List (Tag × C)) (postpone : Bool) (inserts : List (Insert C)) (requests : List (Setting C))
-    → replies ≡ replies_of actions → postpone ≡ postpone_of actions → inserts ≡ inserts_of actions → requests ≡ settings_of actions
-    → planned_as replies postpone inserts requests ≡ plan_of actions
-planned_whole actions replies postpone inserts requests same_replies same_postpone same_inserts same_requests =
-    rw (same_replies, same_postpone, same_inserts, same_requests) refl
+pub planned_whole : {C : Type 0} (actions : List (Action C)) (replies : List (Tag × C)) (postpone : Bool) (inserts : List (Insert C)) (settings : List (Setting C))
+    → replies ≡ replies_of actions → postpone ≡ postpone_of actions → inserts ≡ inserts_of actions → settings ≡ settings_of actions
+    → planned_as replies postpone inserts settings ≡ plan_of actions
+planned_whole actions replies postpone inserts settings same_replies same_postpone same_inserts same_settings =
+    rw (same_replies, same_postpone, same_inserts, same_settings) refl
 
 -- ---- the actions of an enter call
 module _ {C : Type 0} where
@@ -117,12 +117,12 @@ module _ {C : Type 0} where
   enter_inserts_nothing (enter.Set timer time content ∷ actions) = enter_inserts_nothing actions
   enter_inserts_nothing (enter.Hibernate ∷ actions) = enter_inserts_nothing actions
 
-  pub enter_planned_whole : (actions : List (EnterAction C)) (replies : List (Tag × C)) (inserts : List (Insert C)) (requests : List (Setting C))
-      → replies ≡ replies_of (as_actions actions) → inserts ≡ [] → requests ≡ settings_of (as_actions actions)
-      → planned_as replies false inserts requests ≡ enter_plan_of actions
-  enter_planned_whole actions replies inserts requests same_replies none same_requests =
-      planned_whole (as_actions actions) replies false inserts requests same_replies (sym (enter_postpones_nothing false actions))
-      (none ∙ sym (enter_inserts_nothing actions)) same_requests
+  pub enter_planned_whole : (actions : List (EnterAction C)) (replies : List (Tag × C)) (inserts : List (Insert C)) (settings : List (Setting C))
+      → replies ≡ replies_of (as_actions actions) → inserts ≡ [] → settings ≡ settings_of (as_actions actions)
+      → planned_as replies false inserts settings ≡ enter_plan_of actions
+  enter_planned_whole actions replies inserts settings same_replies none same_settings =
+      planned_whole (as_actions actions) replies false inserts settings same_replies (sym (enter_postpones_nothing false actions))
+      (none ∙ sym (enter_inserts_nothing actions)) same_settings
 
   -- one of them sets a timer where one of the actions that they are does
   sets-as_actions : (timer : Timer) (actions : List (EnterAction C))
@@ -163,46 +163,46 @@ module _ {C : Type 0} where
   postpone-append given (Set timer time content ∷ first) second = postpone-append given first second
   postpone-append given (Hibernate ∷ first) second = postpone-append given first second
 
-  -- a request of a timer stands where one of the actions sets it
-  requested_once : (timer other : Timer) (time : Time) (content : C) (actions : List (Action C)) (later same : Bool)
+  -- a setting of a timer stands where one of the actions sets it
+  set_once : (timer other : Timer) (time : Time) (content : C) (actions : List (Action C)) (later same : Bool)
       → sets other actions ≡ later → same_timer timer other ≡ same
-      → requested timer (settings_of actions) ≡ sets timer actions
-      → requested timer (if later then settings_of actions else record { timer = other; time = time; content = content } ∷ settings_of actions)
+      → is_set_by timer (settings_of actions) ≡ sets timer actions
+      → is_set_by timer (if later then settings_of actions else record { timer = other; time = time; content = content } ∷ settings_of actions)
       ≡ (same || sets timer actions)
-  requested_once timer other time content actions true true later same known =
+  set_once timer other time content actions true true later same known =
       known ∙ (ap (λ (t : Timer). sets t actions) (timers_same timer other same) ∙ later)
-  requested_once timer other time content actions true false later same known = known
-  requested_once timer other time content actions false same_bool later same known = rw (same, known) refl
+  set_once timer other time content actions true false later same known = known
+  set_once timer other time content actions false same_bool later same known = rw (same, known) refl
 
-  requested-settings_of : (timer : Timer) (actions : List (Action C)) → requested timer (settings_of actions) ≡ sets timer actions
-  requested-settings_of timer [] = refl
-  requested-settings_of timer (Reply tag content ∷ actions) = requested-settings_of timer actions
-  requested-settings_of timer (Postpone last ∷ actions) = requested-settings_of timer actions
-  requested-settings_of timer (NextEvent kind content ∷ actions) = requested-settings_of timer actions
-  requested-settings_of timer (Set other time content ∷ actions) =
-      requested_once timer other time content actions (sets other actions) (same_timer timer other) refl refl (requested-settings_of timer actions)
-  requested-settings_of timer (Hibernate ∷ actions) = requested-settings_of timer actions
+  is_set_by-settings_of : (timer : Timer) (actions : List (Action C)) → is_set_by timer (settings_of actions) ≡ sets timer actions
+  is_set_by-settings_of timer [] = refl
+  is_set_by-settings_of timer (Reply tag content ∷ actions) = is_set_by-settings_of timer actions
+  is_set_by-settings_of timer (Postpone last ∷ actions) = is_set_by-settings_of timer actions
+  is_set_by-settings_of timer (NextEvent kind content ∷ actions) = is_set_by-settings_of timer actions
+  is_set_by-settings_of timer (Set other time content ∷ actions) =
+      set_once timer other time content actions (sets other actions) (same_timer timer other) refl refl (is_set_by-settings_of timer actions)
+  is_set_by-settings_of timer (Hibernate ∷ actions) = is_set_by-settings_of timer actions
 
-  -- a request more in front of both
-  request_first : (request : Setting C) (rest later whole : List (Setting C)) (in_rest in_later : Bool)
-      → requested request.timer later ≡ in_later
+  -- a setting more in front of both
+  setting_first : (setting : Setting C) (rest later whole : List (Setting C)) (in_rest in_later : Bool)
+      → is_set_by setting.timer later ≡ in_later
       → whole ≡ remaining_of rest later ++ later
-      → (if in_rest || in_later then whole else request ∷ whole)
-      ≡ remaining_of (if in_rest then rest else request ∷ rest) later ++ later
-  request_first request rest later whole true in_later asked same = same
-  request_first request rest later whole false true asked same = rw asked same
-  request_first request rest later whole false false asked same = rw asked (ap (λ (requests : List (Setting C)). request ∷ requests) same)
+      → (if in_rest || in_later then whole else setting ∷ whole)
+      ≡ remaining_of (if in_rest then rest else setting ∷ rest) later ++ later
+  setting_first setting rest later whole true in_later asked same = same
+  setting_first setting rest later whole false true asked same = rw asked same
+  setting_first setting rest later whole false false asked same = rw asked (ap (λ (settings : List (Setting C)). setting ∷ settings) same)
 
-  requests-append : (first second : List (Action C)) → settings_of (first ++ second) ≡ remaining_of (settings_of first) (settings_of second) ++ settings_of second
-  requests-append [] second = refl
-  requests-append (Reply tag content ∷ first) second = requests-append first second
-  requests-append (Postpone last ∷ first) second = requests-append first second
-  requests-append (NextEvent kind content ∷ first) second = requests-append first second
-  requests-append (Set timer time content ∷ first) second =
+  settings-append : (first second : List (Action C)) → settings_of (first ++ second) ≡ remaining_of (settings_of first) (settings_of second) ++ settings_of second
+  settings-append [] second = refl
+  settings-append (Reply tag content ∷ first) second = settings-append first second
+  settings-append (Postpone last ∷ first) second = settings-append first second
+  settings-append (NextEvent kind content ∷ first) second = settings-append first second
+  settings-append (Set timer time content ∷ first) second =
       let either = list_any-append (λ (action : Action C). is_set timer action) first second in
-      rw either (request_first (record { timer = timer; time = time; content = content }) (settings_of first) (settings_of second) (settings_of (first ++ second))
-      (sets timer first) (sets timer second) (requested-settings_of timer second) (requests-append first second))
-  requests-append (Hibernate ∷ first) second = requests-append first second
+      rw either (setting_first (record { timer = timer; time = time; content = content }) (settings_of first) (settings_of second) (settings_of (first ++ second))
+      (sets timer first) (sets timer second) (is_set_by-settings_of timer second) (settings-append first second))
+  settings-append (Hibernate ∷ first) second = settings-append first second
 
   -- what an event's actions ask for, joined with what the enter call's ask for, is what both lists ask for
   pub joined_plans : (actions : List (Action C)) (enter_actions : List (EnterAction C))
@@ -214,10 +214,10 @@ module _ {C : Type 0} where
       (sym (replies-append actions later))
       (sym (postpone-append false actions later ∙ enter_postpones_nothing (postpone_of actions) enter_actions))
       (sym (inserts-append actions later))
-      (sym (requests-append actions later))
+      (sym (settings-append actions later))
 
-pub joined_whole : {C : Type 0} (first second : Planned C) (replies : List (Tag × C)) (inserts : List (Insert C)) (requests : List (Setting C))
+pub joined_whole : {C : Type 0} (first second : Planned C) (replies : List (Tag × C)) (inserts : List (Insert C)) (settings : List (Setting C))
     → replies ≡ first.replies ++ second.replies → inserts ≡ first.inserts ++ second.inserts
-    → requests ≡ remaining_of first.requests second.requests ++ second.requests
-    → planned_as replies first.postpone inserts requests ≡ joined_of first second
-joined_whole first second replies inserts requests same_replies same_inserts same_requests = rw (same_replies, same_inserts, same_requests) refl
+    → settings ≡ remaining_of first.requests second.requests ++ second.requests
+    → planned_as replies first.postpone inserts settings ≡ joined_of first second
+joined_whole first second replies inserts settings same_replies same_inserts same_settings = rw (same_replies, same_inserts, same_settings) refl

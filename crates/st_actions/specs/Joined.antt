@@ -27,23 +27,23 @@ as_actions {C} actions = map (λ (action : EnterAction C). as_action action) act
 abbrev pub enter_plan_of : {C : Type 0} → List (EnterAction C) → Planned C
 enter_plan_of actions = plan_of (as_actions actions)
 
--- whether a request sets a timer
-abbrev pub is_request : {C : Type 0} → Timer → Setting C → Bool
-is_request timer request = same_timer timer request.timer
+-- whether a setting sets a timer
+abbrev pub is_setting_of : {C : Type 0} → Timer → Setting C → Bool
+is_setting_of timer setting = same_timer timer setting.timer
 
--- whether one of the requests does
-abbrev pub requested : {C : Type 0} → Timer → List (Setting C) → Bool
-requested {C} timer requests = list_any (λ (request : Setting C). is_request timer request) requests
+-- whether a timer is set by one of the settings
+abbrev pub is_set_by : {C : Type 0} → Timer → List (Setting C) → Bool
+is_set_by {C} timer settings = list_any (λ (setting : Setting C). is_setting_of timer setting) settings
 
--- the requests whose timers the later ones leave alone, in their order
+-- the settings whose timers the later ones leave alone, in their order
 abbrev pub remaining_of : {C : Type 0} → List (Setting C) → List (Setting C) → List (Setting C)
 remaining_of [] later = []
-remaining_of (request ∷ requests) later =
-    if requested request.timer later
-    then remaining_of requests later
-    else request ∷ remaining_of requests later
+remaining_of (setting ∷ settings) later =
+    if is_set_by setting.timer later
+    then remaining_of settings later
+    else setting ∷ remaining_of settings later
 
--- all that two lists ask for: the first decides whether the event is postponed, and of a timer's requests
+-- all that two lists ask for: the first decides whether the event is postponed, and of a timer's settings
 -- the second list's
 abbrev pub joined_of : {C : Type 0} → Planned C → Planned C → Planned C
 joined_of first second = record {
@@ -58,7 +58,7 @@ abbrev pub AreShort : {C : Type 0} → Planned C → Planned C → Type 0
 AreShort first second =
     (length first.replies + length second.replies ≤ 4) × (length first.inserts + length second.inserts ≤ 4) × (length first.requests + length second.requests ≤ 4)
 
--- a list in the making with more elements at its end, and room for so many fewer
+-- a list in the making with more elements at its end, and reserved for so many fewer
 abbrev pub with_elements : {T : Type 0} → Building T → List T → Building T
 with_elements old elements =
     record { items = old.items ++ elements; reserved = old.reserved - length elements }

@@ -51,7 +51,7 @@ is_set timer _ = false
 abbrev pub sets : {C : Type 0} → Timer → List (Action C) → Bool
 sets {C} timer actions = list_any (λ (action : Action C). is_set timer action) actions
 
--- the timers to be set: of each its last request, in the order of these
+-- the timers to be set: of each its last setting, in the order of these
 abbrev pub settings_of : {C : Type 0} → List (Action C) → List (Setting C)
 settings_of [] = []
 settings_of (Reply tag content ∷ actions) = settings_of actions

@@ -30,7 +30,7 @@ pub fn plan_enter<C: Drop>(
     let Ok(mut replies) = SmallListBuilder::with_reserved(alloc, count) else {
         return Err(AllocFailed { value: actions });
     };
-    let Ok(mut requests) = SmallListBuilder::with_reserved(alloc, count) else {
+    let Ok(mut settings) = SmallListBuilder::with_reserved(alloc, count) else {
         return Err(AllocFailed { value: actions });
     };
     actions.reverse();
@@ -39,7 +39,7 @@ pub fn plan_enter<C: Drop>(
             EnterAction::Reply(tag, content) => replies.push((tag, content)),
             EnterAction::Set(timer, time, content) => {
                 if !sets(&actions, timer) {
-                    requests.push(Setting {
+                    settings.push(Setting {
                         timer,
                         time,
                         content,
@@ -51,11 +51,11 @@ pub fn plan_enter<C: Drop>(
     }
     let replies = replies.finish();
     let inserts = Inserts::new(alloc);
-    let requests = requests.finish();
+    let settings = settings.finish();
     Ok(Planned {
         replies,
         postpone: false,
         inserts,
-        requests,
+        requests: settings,
     })
 }

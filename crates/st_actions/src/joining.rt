@@ -29,17 +29,17 @@ pub fn join<C: Drop>(
     ensures inline { AreShort first second → IsOk result }
     ensures value_returned { IfErr result (λ failed. failed.value ≡ (first, second)) }
 {
-    let Ok(mut replies) = room_for(alloc, &first.replies, &second.replies) else {
+    let Ok(mut replies) = reserved_for(alloc, &first.replies, &second.replies) else {
         return Err(AllocFailed {
             value: (first, second),
         });
     };
-    let Ok(mut inserts) = room_for(alloc, &first.inserts, &second.inserts) else {
+    let Ok(mut inserts) = reserved_for(alloc, &first.inserts, &second.inserts) else {
         return Err(AllocFailed {
             value: (first, second),
         });
     };
-    let Ok(mut requests) = room_for(alloc, &first.requests, &second.requests) else {
+    let Ok(mut settings) = reserved_for(alloc, &first.requests, &second.requests) else {
         return Err(AllocFailed {
             value: (first, second),
         });
@@ -49,21 +49,22 @@ pub fn join<C: Drop>(
     move_all(second.replies, &mut replies);
     move_all(first.inserts, &mut inserts);
     move_all(second.inserts, &mut inserts);
-    move_remaining(first.requests, &second.requests, &mut requests);
-    move_all(second.requests, &mut requests);
+    move_remaining(first.requests, &second.requests, &mut settings);
+    move_all(second.requests, &mut settings);
     let replies = replies.finish();
     let inserts = inserts.finish();
-    let requests = requests.finish();
+    let settings = settings.finish();
     Ok(Planned {
         replies,
         postpone,
         inserts,
-        requests,
+        requests: settings,
     })
 }
 
-/// Room for the elements of two lists. For up to four this takes no memory.
-fn room_for<T: Drop>(
+/// A list in the making, reserved so that the elements of two lists can come in. For up to four this takes
+/// no memory.
+fn reserved_for<T: Drop>(
     alloc: Global,
     first: &SmallList<T>,
     second: &SmallList<T>,
@@ -90,20 +91,20 @@ fn move_all<T: Drop>(mut elements: SmallList<T>, onto: &mut SmallListBuilder<T>)
     }
 }
 
-/// Moves the requests whose timers no later one sets to the end of a list in the making, in their order.
+/// Moves the settings whose timers no later one sets to the end of a list in the making, in their order.
 fn move_remaining<C: Drop>(
-    mut requests: Settings<C>,
+    mut settings: Settings<C>,
     later: &Settings<C>,
     onto: &mut SmallListBuilder<Setting<C>>,
 )
     requires settings_fit { SettingsFit C.row }
-    requires reserved { length requests ≤ onto.old.reserved }
-    ensures moved { onto.new ≡ with_elements onto.old (remaining_of requests later.now) }
+    requires reserved { length settings ≤ onto.old.reserved }
+    ensures moved { onto.new ≡ with_elements onto.old (remaining_of settings later.now) }
 {
-    requests.reverse();
-    while let Some(request) = requests.pop() {
-        if !sets(later, request.timer) {
-            onto.push(request);
+    settings.reverse();
+    while let Some(setting) = settings.pop() {
+        if !sets(later, setting.timer) {
+            onto.push(setting);
         }
     }
 }

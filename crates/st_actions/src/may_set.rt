@@ -1,10 +1,10 @@
-//! What may set a timer: actions, and requests.
+//! What may set a timer: actions, and settings.
 ghost use Rattle.std.specs.Prelude.{◌≡◌, Bool, slice_get};
 ghost use Rattle.std.specs.List.{list_any};
 ghost use Rattle.std.specs.Option.{option_to_list};
 ghost use Rattle.st_events.specs.declared.timer.Timer.{Timer};
 ghost use Rattle.st_actions.specs.Plan.{is_set};
-ghost use Rattle.st_actions.specs.Joined.{as_action, is_request};
+ghost use Rattle.st_actions.specs.Joined.{as_action, is_setting_of};
 
 use st_events::{Action, EnterAction, Setting, SmallList, Timer};
 
@@ -44,7 +44,7 @@ impl<C> MaySet for EnterAction<C> {
 }
 
 impl<C> MaySet for Setting<C> {
-    ghost sets_it = { λ timer request. is_request timer request };
+    ghost sets_it = { λ timer setting. is_setting_of timer setting };
 
     fn is_set(&self, timer: Timer) -> bool {
         timer == self.timer

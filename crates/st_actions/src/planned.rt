@@ -14,6 +14,6 @@ pub struct Planned<C> {
     pub postpone: bool,
     /// In the order in which they are handled.
     pub inserts: Inserts<C>,
-    /// Of each timer its last request, in the order of these.
+    /// Of each timer its last setting, in the order of these.
     pub requests: Settings<C>,
 }

@@ -33,7 +33,7 @@ pub fn plan<C: Drop>(
     let Ok(mut inserts) = SmallListBuilder::with_reserved(alloc, count) else {
         return Err(AllocFailed { value: actions });
     };
-    let Ok(mut requests) = SmallListBuilder::with_reserved(alloc, count) else {
+    let Ok(mut settings) = SmallListBuilder::with_reserved(alloc, count) else {
         return Err(AllocFailed { value: actions });
     };
     let mut postpone = false;
@@ -45,7 +45,7 @@ pub fn plan<C: Drop>(
             Action::NextEvent(kind, content) => inserts.push(Insert { kind, content }),
             Action::Set(timer, time, content) => {
                 if !sets(&actions, timer) {
-                    requests.push(Setting {
+                    settings.push(Setting {
                         timer,
                         time,
                         content,
@@ -57,11 +57,11 @@ pub fn plan<C: Drop>(
     }
     let replies = replies.finish();
     let inserts = inserts.finish();
-    let requests = requests.finish();
+    let settings = settings.finish();
     Ok(Planned {
         replies,
         postpone,
         inserts,
-        requests,
+        requests: settings,
     })
 }

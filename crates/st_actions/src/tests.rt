@@ -255,7 +255,7 @@ fn inserts(rt: &impl Abort, planned: &Planned<u64>, wanted: &[(Kind, u64)]) {
 }
 
 /// Looks that these timers are to be set, and no others.
-fn requests(rt: &impl Abort, planned: &Planned<u64>, wanted: &[(Timer, Time, u64)]) {
+fn settings(rt: &impl Abort, planned: &Planned<u64>, wanted: &[(Timer, Time, u64)]) {
     assert_eq!(rt; planned.requests.len(), wanted.len());
     for (index, (timer, time, content)) in wanted.iter().enumerate() {
         let setting = planned.requests.get(index).expect(rt, "there are so many");
@@ -272,7 +272,7 @@ fn each_call_answers(rt: HostRuntime) {
     replies(&rt, &nothing, &[]);
     assert!(rt; !nothing.postpone);
     inserts(&rt, &nothing, &[]);
-    requests(&rt, &nothing, &[]);
+    settings(&rt, &nothing, &[]);
 
     // The last postpone decides.
     assert!(rt; planned(&rt, rt.alloc(), &['p']).postpone);
@@ -314,9 +314,9 @@ fn each_call_answers(rt: HostRuntime) {
 }
 
 #[test]
-fn the_last_request_of_each_timer_decides(rt: HostRuntime) {
+fn the_last_setting_of_each_timer_decides(rt: HostRuntime) {
     let both = planned(&rt, rt.alloc(), &['1', '2']);
-    requests(
+    settings(
         &rt,
         &both,
         &[
@@ -327,7 +327,7 @@ fn the_last_request_of_each_timer_decides(rt: HostRuntime) {
 
     // It stands where the last one stood, also where it stops the timer.
     let again = planned(&rt, rt.alloc(), &['1', '2', '9']);
-    requests(
+    settings(
         &rt,
         &again,
         &[
@@ -337,7 +337,7 @@ fn the_last_request_of_each_timer_decides(rt: HostRuntime) {
     );
     let stopped = planned(&rt, rt.alloc(), &['9', 'e', '0', 'x', 'p', 'e']);
     assert!(rt; stopped.postpone);
-    requests(
+    settings(
         &rt,
         &stopped,
         &[
@@ -360,7 +360,7 @@ fn refused_memory_changes_nothing(rt: HostRuntime) {
         &nine,
         &[(Kind::Internal, 30), (Kind::Timeout(Timer::State), 40)],
     );
-    requests(
+    settings(
         &rt,
         &nine,
         &[
@@ -377,11 +377,11 @@ fn an_enter_call_replies_and_sets_timers(rt: HostRuntime) {
     replies(&rt, &nothing, &[]);
     assert!(rt; !nothing.postpone);
     inserts(&rt, &nothing, &[]);
-    requests(&rt, &nothing, &[]);
+    settings(&rt, &nothing, &[]);
 
     let four = entered(&rt, rt.alloc(), &['x', 'h', 'r', 'e']);
     replies(&rt, &four, &[(tag(1), 10)]);
-    requests(
+    settings(
         &rt,
         &four,
         &[
@@ -390,12 +390,12 @@ fn an_enter_call_replies_and_sets_timers(rt: HostRuntime) {
         ],
     );
 
-    // Of a timer's requests the last decides, and stands where it stood.
+    // Of a timer's settings the last decides, and stands where it stood.
     let six = entered(&rt, rt.alloc(), &['s', '1', 'h', 'r', '2', '9']);
     replies(&rt, &six, &[(tag(2), 20), (tag(1), 10)]);
     assert!(rt; !six.postpone);
     inserts(&rt, &six, &[]);
-    requests(
+    settings(
         &rt,
         &six,
         &[
@@ -407,7 +407,7 @@ fn an_enter_call_replies_and_sets_timers(rt: HostRuntime) {
 }
 
 #[test]
-fn an_enter_calls_requests_replace_the_events(rt: HostRuntime) {
+fn an_enter_calls_settings_replace_the_events(rt: HostRuntime) {
     let event = ['r', 'p', 'i', '1', 'e'];
     let enter = ['s', '0', 'h'];
     let copies = event_and_enter(&rt, rt.alloc(), &event, &enter);
@@ -420,7 +420,7 @@ fn an_enter_calls_requests_replace_the_events(rt: HostRuntime) {
     replies(&rt, &both, &[(tag(1), 10), (tag(2), 20)]);
     assert!(rt; both.postpone);
     inserts(&rt, &both, &[(Kind::Internal, 30)]);
-    requests(
+    settings(
         &rt,
         &both,
         &[
@@ -480,7 +480,7 @@ fn a_refused_join_changes_nothing(rt: HostRuntime) {
             (Kind::Internal, 30),
         ],
     );
-    requests(
+    settings(
         &rt,
         &both,
         &[

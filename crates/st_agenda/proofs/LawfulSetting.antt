@@ -599,7 +599,7 @@ module _ {C : Type 0} where
       let one : Running C = record { timer = timer; number = s.next_number; due = due_after time now; content = content } in
       begun_live s one n ∙ same_more n s.next_number (times n (live_numbers s)) (λ e. omega (arith, e, less))
 
-  -- ---- a request is done
+  -- ---- a timer is set or stopped
   lawful_set : (latest now : ℕ) (s : Schedule C) (setting : Setting C) → s.next_number + number_taken setting.time ≤ 2 ^ 63 → IsLawfulSchedule latest s
       → IsLawfulSchedule latest (set_in now s setting)
   lawful_set latest now s setting reserved law =
@@ -617,7 +617,7 @@ module _ {C : Type 0} where
   set_live now s setting n less =
       rw (begun_old now (cancelled_in s setting.timer) setting.timer setting.time setting.content n less) (cancelled_live s setting.timer n)
 
-  -- ---- requests are done in their order
+  -- ---- timers are set or stopped, in the order of the settings
   pub set_all_waiting : (now : ℕ) (s : Schedule C) (settings : List (Setting C)) → waiting_numbers (all_set_in now s settings).pending ≡ waiting_numbers s.pending
   set_all_waiting now s [] = refl
   set_all_waiting now s (setting ∷ settings) = set_all_waiting now (set_in now s setting) settings ∙ set_waiting now s setting

@@ -21,13 +21,13 @@ module _ {C : Type 0} where
     pub reserved : length (due_of now agenda.schedule) ≤ agenda.staged
     pub all : with_all_expired (due_of now agenda.schedule) agenda.schedule ≡ with_all_expired (due_of now old) old
 
-  -- some requests are done; those that are left are to be done
+  -- some settings are done; those that are left are to be done
   pub record SetSoFar (now : ℕ) (old : Schedule C) (settings : List (Setting C)) (agenda : Agenda C) (left : List (Setting C)) : Type 0 where
     pub all : all_set_in now agenda.schedule (reverse left) ≡ all_set_in now old settings
     pub reserved : length left ≤ agenda.reserved
     pub numbers : agenda.schedule.next_number + numbers_taken (reverse left) ≤ 2 ^ 63
 
--- requests take no more numbers than there are
+-- a setting takes one number at most
 pub one_at_most : (time : Time) → number_taken time ≤ 1
 one_at_most Infinity = omega arith
 one_at_most (After time) = omega arith

@@ -37,7 +37,7 @@ one_insert = record { kind = Internal; content = 20 }
 abbrev schedule : List (Item ℕ) → List ℕ → List (Running ℕ) → ℕ → Schedule ℕ
 schedule pending postponed running next = record { pending = pending; postponed = postponed; running = running; next_number = next }
 
--- ---- two time-outs of no length: the first that was requested comes, and it cancels the event time-out
+-- ---- two time-outs of no length: the first that was set comes, and it cancels the event time-out
 zero_set : settled_in 0 (schedule (Posted (cast 1) ∷ []) [] [] 2) 1 false false [] (set timer.State (After 0) ∷ set timer.Event (After 0) ∷ [])
     ≡ schedule [] [] (runs timer.State 2 Zero ∷ runs timer.Event 3 Zero ∷ []) 4
 zero_set = refl
@@ -99,7 +99,7 @@ state_kept : settled_in 5 (schedule (Posted (cast 2) ∷ Expiry timer.State ∷ 
     ≡ schedule (Expiry timer.State ∷ []) [] (runs timer.State 1 (At 5) ∷ []) 3
 state_kept = refl
 
--- one that the same actions request runs
+-- one that the same actions set runs
 state_requested : settled_in 5 (schedule (Posted (cast 2) ∷ []) [] (runs timer.State 1 (At 9) ∷ []) 3) 2 false true [] (set timer.State (After 7) ∷ [])
     ≡ schedule [] [] (runs timer.State 3 (At 12) ∷ []) 4
 state_requested = refl

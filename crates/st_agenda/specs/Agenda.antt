@@ -197,11 +197,11 @@ module _ {C : Type 0} where
     next_number = schedule.next_number + 1;
   }
 
-  -- a request is done at a moment
+  -- a timer is set or stopped at a moment
   abbrev pub set_in : ℕ → Schedule C → Setting C → Schedule C
   set_in now schedule setting = begun_in now (cancelled_in schedule setting.timer) setting.timer setting.time setting.content
 
-  -- requests are done in their order
+  -- timers are set or stopped, in the order of the settings
   abbrev pub all_set_in : ℕ → Schedule C → List (Setting C) → Schedule C
   all_set_in now schedule [] = schedule
   all_set_in now schedule (setting ∷ settings) = all_set_in now (set_in now schedule setting) settings

@@ -141,7 +141,7 @@ impl<C> Agenda<C> {
         inserts <= left && numbers_taken(settings) as u64 <= left - inserts
     }
 
-    /// The running time-outs in the order of their requests: timer, number of the event, when it is due.
+    /// The running time-outs in the order in which they were set: timer, number of the event, when it is due.
     ///
     /// Where memory is wanted and there is none, nothing is listed. Manual: `timeout_action()`.
     pub fn timers(&self) -> Result<PlainList<(Timer, u64, Due)>, AllocError>
@@ -181,7 +181,7 @@ impl<C: Drop> Agenda<C> {
         pushed
     }
 
-    /// Makes room, so that `count` events can come in without memory.
+    /// Reserves so that `count` events can come in without memory.
     ///
     /// Where memory is wanted and there is none, nothing changes. Ours: docs/DECISIONS.md, Choices in the code.
     pub fn stage(&mut self, count: usize) -> Result<(), AllocError>
@@ -192,7 +192,7 @@ impl<C: Drop> Agenda<C> {
         self.pending.stage(count)
     }
 
-    /// Makes room, so that `count` timers can be set without memory.
+    /// Reserves so that `count` timers can be set without memory.
     ///
     /// Where memory is wanted and there is none, nothing changes. Ours: docs/DECISIONS.md, Choices in the code.
     pub fn reserve(&mut self, count: usize) -> Result<(), AllocError>
@@ -203,7 +203,7 @@ impl<C: Drop> Agenda<C> {
         self.timeouts.reserve(count)
     }
 
-    /// Makes room for what a transition may need: so many inserted events and the event of a time-out
+    /// Reserves for what a transition may need: so many inserted events and the event of a time-out
     /// that is taken up, and so many timers.
     ///
     /// Where memory is wanted and there is none, nothing that waits or runs changes. Ours:

@@ -145,7 +145,7 @@ impl<C: Drop> Pending<C> {
         }
     }
 
-    /// Makes room, so that `count` slots can come in without memory.
+    /// Reserves so that `count` slots can come in without memory.
     pub(crate) fn stage(&mut self, count: usize) -> Result<(), AllocError>
         ensures staged { OnOk result (self.new ≡ record self.old { staged = max self.old.staged count }) }
 

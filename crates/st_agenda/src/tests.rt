@@ -84,8 +84,8 @@ fn push(rt: &impl Abort, agenda: &mut Agenda<u64>, content: u64, number: u64) {
     }
 }
 
-/// Makes room for inserted events and timers. Where memory was refused, nothing has changed, and it is
-/// made again.
+/// Reserves for inserted events and timers. Where memory was refused, nothing has changed, and the call
+/// is made again.
 fn reserve_for(rt: &impl Abort, agenda: &mut Agenda<u64>, inserts: usize, timers: usize)
     requires { inserts ≤ 100 }
     ensures staged { inserts + 1 ≤ agenda.new.staged }
@@ -257,7 +257,7 @@ fn events_come_in_their_order(rt: HostRuntime) {
     tell_refusals(rt);
 }
 
-/// Two time-outs of no length: the first one that was requested comes, and the event time-out is
+/// Two time-outs of no length: the first one that was set comes, and the event time-out is
 /// cancelled by it.
 #[test]
 fn a_zero_timeout_comes_before_what_was_not_received(rt: HostRuntime) {

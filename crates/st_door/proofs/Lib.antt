@@ -3,9 +3,9 @@ pub mod PieceLemmas
 pub mod StreamLemmas
 pub mod WordLemmas
 pub mod DoorLemmas
+pub mod ToldLemmas
 pub mod PrintingLemmas
 pub mod ScriptStateLemmas
 pub mod IdleLemmas
-pub mod LengthLemmas
 pub mod TickingLemmas
 pub mod ScriptLemmas

@@ -1,36 +1,36 @@
 -- What a script keeps of its doors, and what a line makes of them.
-use Rattle.std.proofs.Common.{◌≡◌, ℕ, zero, suc, ◌+◌, ◌<◌, ◌≤◌, ◌^◌, ◌≢◌, nat_eq, Bool, true, false, nat_lt, List, [], ◌∷◌, ◌++◌, length, get_or, set, Option, Some, None, Ok, ◌⊎◌, refl, ap, sym, ◌∙◌, arith, inl, inr, bytes_eq, length-append, lt-ltb}
+use Rattle.std.proofs.Common.{◌≡◌, ℕ, zero, suc, ◌+◌, ◌<◌, ◌≤◌, ◌^◌, ◌≢◌, nat_eq, Bool, true, false, nat_lt, List, [], ◌∷◌, ◌++◌, length, get_or, set, Option, Some, None, Result, Ok, Err, refl, ap, sym, ◌∙◌, arith, inl, inr, bytes_eq, length-append, lt-ltb}
 use Rattle.std.specs.List.{list_any, find}
 use Rattle.std.proofs.lemmas.Bool.{cases_Bool, cases_lt}
 use Rattle.std.proofs.lemmas.Bool.Decides.{eqb_tells}
-use Rattle.std.proofs.lemmas.List.{set-get_or, length-set, map-append, get_or-set_same, get_or-set_other, get_or_append_left}
+use Rattle.std.proofs.lemmas.List.{set-get_or, length-set, map-append, get_or-set_other, get_or_append_left}
 use Rattle.std.proofs.Math.Seq.{get_or-append_seam}
 use Rattle.std.proofs.lemmas.Slice.Eq.{bytes_eq-Decides}
+use Rattle.st_events.specs.declared.machine_id.MachineId.{MachineId}
 use Rattle.st_events.specs.declared.refusal.Refusal.{Refusal}
 use Rattle.st_events.specs.declared.refusal.Refusal.TheVariants.{AlreadyStarted}
-use Rattle.st_core.specs.declared.entry.Entry.{Entry}
-use Rattle.st_core.specs.declared.entry.Entry.TheVariants.{Cast}
-use Rattle.st_core.specs.Post.{post_of, post_running}
-use Rattle.st_core.specs.Stop.{stop_of, stop_running}
+use Rattle.st_events.specs.declared.tag.Tag.{Tag}
+use Rattle.st_core.specs.declared.answer.Answer.TheVariants as answer
+use Rattle.st_core.specs.declared.command.Command.{Command}
+use Rattle.st_core.specs.declared.command.Command.TheVariants as command
 use Rattle.st_core.specs.Start.{first_state, start_of}
 use Rattle.st_core.specs.Choice.{is_ready_of}
 use Rattle.st_core.specs.declared.report.Report.{Report}
 use Rattle.st_core.specs.declared.start.Start.TheVariants.{Running}
-use Rattle.st_events.specs.declared.machine_id.MachineId.{MachineId}
 use Rattle.st_door.specs.Door.{init_of}
 use Rattle.st_door.specs.Entries.{DoorCore}
-use Rattle.st_door.specs.declared.door_state.DoorState.{DoorState}
 use Rattle.st_door.specs.declared.door_content.DoorContent.{DoorContent}
-use Rattle.st_door.specs.declared.door_content.DoorContent.TheVariants.{Button}
+use Rattle.st_door.specs.declared.door_state.DoorState.{DoorState}
 use Rattle.st_door.specs.declared.door_state.DoorState.TheVariants.{Locked}
 use Rattle.st_door.specs.declared.line.Line.TheVariants as line
 use Rattle.st_door.specs.declared.effect.Effect.{Effect}
 use Rattle.st_door.specs.declared.effect.Effect.TheVariants.{Printed, Refuses}
-use Rattle.st_door.specs.Doors.{NamedDoor, DoorMachine, IsFirst, IsKept, SameLabels, door_limit, door_named, door_of, has_name, is_ready_door, slots_of, least_from, free_slot_of, press_of, pressed_door, refusal_of, door_callbacks, door_stop_of, ended_door, stop_refusal_of, upward}
-use Rattle.st_door.specs.Printing.{status_of}
-use Rattle.st_door.specs.Script.{ScriptState, door_start_of, next_id_of, the_door, named_status_of, rested_of, step_of, with_start}
+use Rattle.st_door.specs.Doors.{NamedDoor, DoorMachine, IsFirst, IsKept, SameLabels, asks, door_callbacks, door_limit, door_named, door_of, free_slot_of, has_name, is_ready_door, least_from, length_in, next_tag_of, refusal_in, slots_of, told_door, told_of, upward}
+use Rattle.st_door.specs.Printing.{length_text, status_of}
+use Rattle.st_door.specs.Script.{ScriptState, commanded_of, door_start_of, effect_of, length_collected, length_finished, named_status_of, next_id_of, printing, rested_of, status_finished, step_of, the_door, told_script, with_start}
 use Rattle.st_door.proofs.DoorLemmas.{IsFirst-within, IsFirst-changed, IsFirst-found, IsFirst-map, IsFirst-of_map}
-use Rattle.st_door.proofs.IdleLemmas.{no_door, labels-set, labels-more, id-unless}
+use Rattle.st_door.proofs.IdleLemmas.{no_door, labels-set, labels-told, labels-more}
+use Rattle.st_door.proofs.ToldLemmas.{told-refused, tagged-next}
 
 -- ---- the least free place
 any-upward : (more first slot : ℕ) → first ≤ slot → slot < first + more → list_any (λ taken. nat_eq taken slot) (upward first more) ≡ true
@@ -98,42 +98,6 @@ kept-set doors from until place low high machine kept within same below above bo
       ]));
 }
 
--- a door gets another machine of the same id that is ready where the earlier one was
-pub kept-alike : (doors : List NamedDoor) (from until place : ℕ) (machine : DoorMachine) → IsKept doors from until → place < length doors
-    → machine.id ≡ (get_or doors place no_door).machine.id → is_ready_of machine ≡ is_ready_door (get_or doors place no_door)
-    → IsKept (set doors place (door_named (get_or doors place no_door).name machine)) from until
-kept-alike doors from until place machine kept within same alike = record {
-  ordered = kept.ordered;
-  within = rw length-set kept.within;
-  few = rw length-set kept.few;
-  numbered = (labels-set doors place no_door machine within same).slots ∙ (kept.numbered ∙ ap (upward 0) (sym (length-set doors place _)));
-  resting = λ k d less outside.
-      let there : k < length doors = omega (arith, less, length-set {A = NamedDoor}) in
-      elim (eqb_tells k place) [
-        | inl here ↦
-            let rests : is_ready_door (get_or doors place no_door) ≡ false = kept.resting place no_door within (rw here.1 at outside) in
-            rw (here.1, get_or-set_same doors place _ d within) (alike ∙ rests)
-        | inr other ↦ let ne : k ≢ place = other.1 in rw get_or-set_other (kept.resting k d there outside)
-      ];
-}
-
--- a door gets another machine of the same id that rests
-pub kept-resting : (doors : List NamedDoor) (from until place : ℕ) (machine : DoorMachine) → IsKept doors from until → place < length doors
-    → machine.id ≡ (get_or doors place no_door).machine.id → is_ready_of machine ≡ false
-    → IsKept (set doors place (door_named (get_or doors place no_door).name machine)) from until
-kept-resting doors from until place machine kept within same rests = record {
-  ordered = kept.ordered;
-  within = rw length-set kept.within;
-  few = rw length-set kept.few;
-  numbered = (labels-set doors place no_door machine within same).slots ∙ (kept.numbered ∙ ap (upward 0) (sym (length-set doors place _)));
-  resting = λ k d less outside.
-      let there : k < length doors = omega (arith, less, length-set {A = NamedDoor}) in
-      elim (eqb_tells k place) [
-        | inl here ↦ rw (here.1, get_or-set_same doors place _ d within) rests
-        | inr other ↦ let ne : k ≢ place = other.1 in rw get_or-set_other (kept.resting k d there outside)
-      ];
-}
-
 -- ---- the place of a name
 -- the place is found by the names alone
 pub IsFirst-labels : (name : List ℕ) (old new : List NamedDoor) (place : ℕ) → SameLabels old new → IsFirst (has_name name) old place → IsFirst (has_name name) new place
@@ -154,111 +118,93 @@ pub named-status : (name : List ℕ) (script : ScriptState) (place : ℕ) (d : N
     → named_status_of script name ≡ status_of (get_or script.doors place d)
 named-status name script place d first = rw (IsFirst-found (has_name name) script.doors place d first) refl
 
--- ---- buttons
--- a machine runs, or it has ended
-pub cases_ended : (ended : Option (ℕ × ℕ)) → (ended ≡ None) ⊎ ((end : ℕ × ℕ) × (ended ≡ Some end))
-cases_ended None = inl refl
-cases_ended (Some end) = inr (end, refl)
+-- ---- commands
+-- the script with the door at a place told a command
+abbrev pub told_at : ScriptState → Command DoorContent → ℕ → ScriptState
+told_at script command place = record script { doors = set script.doors place (told_door command (get_or script.doors place no_door)) }
 
--- a refused post leaves the machine as it was
-pub post-refused : (machine : DoorMachine) (entry : Entry) (content : DoorContent) (refusal : Refusal)
-    → refusal_of (post_of machine entry content).0 ≡ Some refusal → (post_of machine entry content).1 ≡ machine
-post-refused machine entry content refusal refused = elim (cases_ended machine.ended) [
-  | inl runs ↦ elim (cases_Bool (nat_lt machine.schedule.next_number (2 ^ 63))) [
-    | inl reserved ↦ let none = rw (runs, reserved) at refused in cc
-    | inr full ↦ rw (runs, full) refl
-  ]
-  | inr end ↦ rw end.1 refl
-]
-
--- and so it leaves the door
-pressed-refused : (digit : ℕ) (door : NamedDoor) (refusal : Refusal) → refusal_of (press_of digit door).0 ≡ Some refusal → pressed_door digit door ≡ door
-pressed-refused digit door refusal refused = ap (door_named door.name) (post-refused door.machine Cast (Button digit) refusal refused)
-
-pub button-refused : (script : ScriptState) (name : List ℕ) (digit place : ℕ) (refusal : Refusal) → IsFirst (has_name name) script.doors place
-    → Some refusal ≡ refusal_of (press_of digit (get_or script.doors place no_door)).0
-    → step_of script (line.Button name digit) ≡ (Refuses refusal, script)
-button-refused script name digit place refusal first refused =
+-- a command that is refused
+pub told_script-refused : (script : ScriptState) (name : List ℕ) (command : Command DoorContent) (place : ℕ) (refusal : Refusal) → IsFirst (has_name name) script.doors place
+    → Some refusal ≡ refusal_in (told_of command (get_or script.doors place no_door)).0
+    → told_script script name command (door_of name script.doors) ≡ Err refusal
+told_script-refused script name command place refusal first refused =
     rw (IsFirst-found (has_name name) script.doors place no_door first, ← refused) refl
 
-pub button-refused_doors : (doors : List NamedDoor) (digit place : ℕ) (refusal : Refusal)
-    → Some refusal ≡ refusal_of (press_of digit (get_or doors place no_door)).0
-    → set doors place (pressed_door digit (get_or doors place no_door)) ≡ doors
-button-refused_doors doors digit place refusal refused =
-    ap (set doors place) (pressed-refused digit (get_or doors place no_door) refusal (sym refused)) ∙ set-get_or doors place no_door
+-- it leaves the script as it was
+pub told_at-refused : (script : ScriptState) (command : Command DoorContent) (place : ℕ) (refusal : Refusal)
+    → Some refusal ≡ refusal_in (told_of command (get_or script.doors place no_door)).0
+    → told_at script command place ≡ script
+told_at-refused script command place refusal refused =
+    let door : NamedDoor = get_or script.doors place no_door in
+    ap (λ (machine : DoorMachine). record script { doors = set script.doors place (door_named door.name machine) }) (told-refused door.machine command refusal (sym refused))
+    ∙ ap (λ (doors : List NamedDoor). record script { doors = doors }) (set-get_or script.doors place no_door)
 
--- the script with a button pressed at a place
-abbrev pub pressed_script : ScriptState → ℕ → ℕ → ScriptState
-pressed_script script digit place = record script { doors = set script.doors place (pressed_door digit (get_or script.doors place no_door)) }
-
-pub button-done : (script : ScriptState) (name : List ℕ) (digit place : ℕ) → IsFirst (has_name name) script.doors place
-    → None ≡ refusal_of (press_of digit (get_or script.doors place no_door)).0
-    → step_of script (line.Button name digit)
-    ≡ (Printed (named_status_of (rested_of (pressed_script script digit place)) name), rested_of (pressed_script script digit place))
-button-done script name digit place first accepted =
-    let machine = (press_of digit (get_or script.doors place no_door)).1 in
+-- a command that is accepted is done at its door
+pub told_script-accepted : (script : ScriptState) (name : List ℕ) (command : Command DoorContent) (place : ℕ) → IsFirst (has_name name) script.doors place
+    → None ≡ refusal_in (told_of command (get_or script.doors place no_door)).0
+    → told_script script name command (door_of name script.doors) ≡ Ok (told_at script command place)
+told_script-accepted script name command place first accepted =
+    let machine = (told_of command (get_or script.doors place no_door)).1 in
     rw (
       IsFirst-found (has_name name) script.doors place no_door first,
       ← accepted,
       IsFirst-changed (has_name name) (λ (door : NamedDoor). door_named door.name machine) script.doors place no_door first,
     ) refl
 
--- a post keeps the machine's id
-id-post_running : (machine : DoorMachine) (entry : Entry) (content : DoorContent) → (post_running machine entry content).1.id ≡ machine.id
-id-post_running machine entry content = elim (cases_Bool (nat_lt machine.schedule.next_number (2 ^ 63))) [
-  | inl reserved ↦ rw reserved refl
-  | inr full ↦ rw full refl
-]
+-- the name has its place still, once a door was told a command and the doors rest
+pub first-told : (script told idle : ScriptState) (name : List ℕ) (command : Command DoorContent) (place : ℕ) → IsFirst (has_name name) script.doors place
+    → told ≡ told_at script command place → SameLabels told.doors idle.doors → IsFirst (has_name name) idle.doors place
+first-told script told idle name command place first is_told rests =
+    let within : place < length script.doors = IsFirst-within (has_name name) script.doors place first in
+    let labels : SameLabels script.doors told.doors = rw is_told (labels-told script.doors place no_door command within) in
+    IsFirst-labels name script.doors idle.doors place (labels-more script.doors told.doors idle.doors labels rests) first
 
-pub id-post : (machine : DoorMachine) (entry : Entry) (content : DoorContent) → (post_of machine entry content).1.id ≡ machine.id
-id-post machine entry content = id-unless machine.ended _ machine (post_running machine entry content) (id-post_running machine entry content)
+-- what a command comes to that is refused
+pub command-refused : (script : ScriptState) (name : List ℕ) (command : Command DoorContent) (place : ℕ) (refusal : Refusal) → IsFirst (has_name name) script.doors place
+    → Some refusal ≡ refusal_in (told_of command (get_or script.doors place no_door)).0
+    → (finish : ScriptState → List ℕ × ScriptState)
+    → effect_of script finish (told_script script name command (door_of name script.doors)) ≡ (Refuses refusal, script)
+command-refused script name command place refusal first refused finish =
+    ap (effect_of script finish) (told_script-refused script name command place refusal first refused)
 
--- ---- stops
--- a refused stop leaves the door as it was
-ended-refused : (reason : ℕ) (door : NamedDoor) (refusal : Refusal) → stop_refusal_of (door_stop_of reason door).0 ≡ Some refusal → ended_door reason door ≡ door
-ended-refused reason door refusal refused = elim (cases_ended door.machine.ended) [
-  | inl runs ↦ let none = rw runs at refused in cc
-  | inr end ↦ rw end.1 refl
-]
+-- and one that is accepted
+pub command-done : (script : ScriptState) (name : List ℕ) (command : Command DoorContent) (place : ℕ) → IsFirst (has_name name) script.doors place
+    → None ≡ refusal_in (told_of command (get_or script.doors place no_door)).0
+    → commanded_of script name command
+    ≡ (Printed (named_status_of (rested_of (told_at script command place)) name), rested_of (told_at script command place))
+command-done script name command place first accepted =
+    ap (effect_of script (status_finished name)) (told_script-accepted script name command place first accepted)
 
-pub stop-refused : (script : ScriptState) (name : List ℕ) (reason place : ℕ) (refusal : Refusal) → IsFirst (has_name name) script.doors place
-    → Some refusal ≡ stop_refusal_of (door_stop_of reason (get_or script.doors place no_door)).0
-    → step_of script (line.Stop name reason) ≡ (Refuses refusal, script)
-stop-refused script name reason place refusal first refused =
-    rw (IsFirst-found (has_name name) script.doors place no_door first, ← refused) refl
+-- ---- lengths
+-- what is printed of the reply to the call of a tag, and the script after it, with the door at a place
+abbrev pub length_at : ScriptState → List ℕ → ℕ → Tag → List ℕ × ScriptState
+length_at script name place tag = (length_text name (length_in (told_of (command.Collect tag) (get_or script.doors place no_door)).0), told_at script (command.Collect tag) place)
 
-pub stop-refused_doors : (doors : List NamedDoor) (reason place : ℕ) (refusal : Refusal)
-    → Some refusal ≡ stop_refusal_of (door_stop_of reason (get_or doors place no_door)).0
-    → set doors place (ended_door reason (get_or doors place no_door)) ≡ doors
-stop-refused_doors doors reason place refusal refused =
-    ap (set doors place) (ended-refused reason (get_or doors place no_door) refusal (sym refused)) ∙ set-get_or doors place no_door
-
--- the script with the door at a place stopped
-abbrev pub ended_script : ScriptState → ℕ → ℕ → ScriptState
-ended_script script reason place = record script { doors = set script.doors place (ended_door reason (get_or script.doors place no_door)) }
-
-pub stop-done : (script : ScriptState) (name : List ℕ) (reason place : ℕ) → IsFirst (has_name name) script.doors place
-    → None ≡ stop_refusal_of (door_stop_of reason (get_or script.doors place no_door)).0
-    → step_of script (line.Stop name reason)
-    ≡ (Printed (named_status_of (rested_of (ended_script script reason place)) name), rested_of (ended_script script reason place))
-stop-done script name reason place first accepted =
-    let machine = (door_stop_of reason (get_or script.doors place no_door)).1 in
+-- the door of a name stands at its place
+collected-there : (script : ScriptState) (name : List ℕ) (place : ℕ) (tag : Tag) → IsFirst (has_name name) script.doors place
+    → length_collected script name tag (door_of name script.doors) ≡ length_at script name place tag
+collected-there script name place tag first =
+    let machine = (told_of (command.Collect tag) (get_or script.doors place no_door)).1 in
     rw (
       IsFirst-found (has_name name) script.doors place no_door first,
-      ← accepted,
       IsFirst-changed (has_name name) (λ (door : NamedDoor). door_named door.name machine) script.doors place no_door first,
     ) refl
 
--- a stop keeps the machine's id
-pub id-stop : (machine : DoorMachine) (reason : ℕ) → (stop_of door_callbacks machine reason).1.id ≡ machine.id
-id-stop machine reason = id-unless machine.ended _ machine (stop_running door_callbacks machine reason) refl
-
--- after it the door rests
-pub rests-ended : (machine : DoorMachine) (reason : ℕ) → is_ready_of (stop_of door_callbacks machine reason).1 ≡ false
-rests-ended machine reason = elim (cases_ended machine.ended) [
-  | inl runs ↦ rw runs refl
-  | inr end ↦ rw end.1 refl
-]
+-- what a line comes to that asks for a length
+pub length-done : (script idle : ScriptState) (name : List ℕ) (place : ℕ) (tag : Tag) → IsFirst (has_name name) script.doors place
+    → answer.Post (Ok tag.request) ≡ (told_of asks (get_or script.doors place no_door)).0
+    → tag.machine ≡ (get_or script.doors place no_door).machine.id
+    → idle ≡ rested_of (told_at script asks place) → IsFirst (has_name name) idle.doors place
+    → step_of script (line.Length name) ≡ printing (length_at idle name place tag)
+length-done script idle name place tag first accepted asked rested there =
+    let door : NamedDoor = get_or script.doors place no_door in
+    let next : next_tag_of door ≡ tag = tagged-next door.machine tag accepted asked in
+    ap (λ (acted : Result ScriptState Refusal). effect_of script (length_finished name (door_of name script.doors)) acted)
+    (told_script-accepted script name asks place first (ap refusal_in accepted))
+    ∙ (ap (λ (found : Option NamedDoor). printing (length_finished name found (rested_of (told_at script asks place)))) (IsFirst-found (has_name name) script.doors place no_door first)
+    ∙ (ap (λ (s : ScriptState). printing (length_collected s name (next_tag_of door) (door_of name s.doors))) (sym rested)
+    ∙ (ap (λ (t : Tag). printing (length_collected idle name t (door_of name idle.doors))) next
+    ∙ ap printing (collected-there idle name place tag there))))
 
 -- ---- shows
 pub show-done : (script : ScriptState) (name : List ℕ) (place : ℕ) → IsFirst (has_name name) script.doors place
@@ -335,27 +281,3 @@ idle-effect script idle name place said effect rested done first says =
 pub idle-script : (script idle : ScriptState) (name : List ℕ) (said : Effect × ScriptState)
     → idle ≡ rested_of script → said ≡ (Printed (named_status_of (rested_of script) name), rested_of script) → idle ≡ said.1
 idle-script script idle name said rested done = rested ∙ sym (ap (λ (s : Effect × ScriptState). s.1) done)
-
--- the doors with a button pressed at a place have the same labels
-pub labels-pressed : (doors : List NamedDoor) (digit place : ℕ) → place < length doors → SameLabels doors (set doors place (pressed_door digit (get_or doors place no_door)))
-labels-pressed doors digit place within = labels-set doors place no_door _ within (id-post (get_or doors place no_door).machine Cast (Button digit))
-
--- the name has its place still, once a button was pressed and the doors rest
-pub first-pressed : (script pressed idle : ScriptState) (name : List ℕ) (digit place : ℕ) → IsFirst (has_name name) script.doors place
-    → pressed ≡ pressed_script script digit place → SameLabels pressed.doors idle.doors → IsFirst (has_name name) idle.doors place
-first-pressed script pressed idle name digit place first is_pressed rests =
-    let within : place < length script.doors = IsFirst-within (has_name name) script.doors place first in
-    let labels : SameLabels script.doors pressed.doors = rw is_pressed (labels-pressed script.doors digit place within) in
-    IsFirst-labels name script.doors idle.doors place (labels-more script.doors pressed.doors idle.doors labels rests) first
-
--- the doors with the one at a place stopped have the same labels
-pub labels-ended : (doors : List NamedDoor) (reason place : ℕ) → place < length doors → SameLabels doors (set doors place (ended_door reason (get_or doors place no_door)))
-labels-ended doors reason place within = labels-set doors place no_door _ within (id-stop (get_or doors place no_door).machine reason)
-
--- the name has its place still, once the door was stopped and the doors rest
-pub first-ended : (script ended idle : ScriptState) (name : List ℕ) (reason place : ℕ) → IsFirst (has_name name) script.doors place
-    → ended ≡ ended_script script reason place → SameLabels ended.doors idle.doors → IsFirst (has_name name) idle.doors place
-first-ended script ended idle name reason place first is_ended rests =
-    let within : place < length script.doors = IsFirst-within (has_name name) script.doors place first in
-    let labels : SameLabels script.doors ended.doors = rw is_ended (labels-ended script.doors reason place within) in
-    IsFirst-labels name script.doors idle.doors place (labels-more script.doors ended.doors idle.doors labels rests) first

@@ -1,11 +1,10 @@
 -- Every door is ticked, one after another.
-use Rattle.std.proofs.Common.{◌≡◌, ℕ, zero, suc, ◌+◌, ◌<◌, ◌^◌, ◌∙◌, nat_lt, List, [], ◌∷◌, length, get_or, set, map, refl, ap, sym, arith, inl, inr}
+use Rattle.std.proofs.Common.{◌≡◌, ℕ, zero, suc, ◌+◌, ◌<◌, ◌∙◌, List, [], ◌∷◌, length, get_or, set, map, refl, ap, sym, arith}
 use Rattle.std.specs.List.{sum_by}
-use Rattle.std.proofs.lemmas.Bool.{cases_Bool}
 use Rattle.std.proofs.lemmas.List.Sums.{sum_by-cons}
-use Rattle.st_core.specs.Tick.{tick_of, tick_running}
-use Rattle.st_door.specs.Doors.{NamedDoor, DoorMachine, SameLabels, ticked_door, ticked_doors, expired_of, all_expired_of}
-use Rattle.st_door.proofs.IdleLemmas.{id-unless}
+use Rattle.st_core.specs.declared.command.Command.TheVariants as command
+use Rattle.st_door.specs.Doors.{NamedDoor, SameLabels, told_door, ticked_doors, expired_of, all_expired_of}
+use Rattle.st_door.proofs.ToldLemmas.{id-told}
 
 -- so many elements from the front are changed
 abbrev pub changed_front : {X : Type 0} → (X → X) → ℕ → List X → List X
@@ -69,54 +68,44 @@ module _ {X : Type 0} where
 suc-is-more : (n : ℕ) → suc n ≡ n + 1
 suc-is-more n = omega arith
 
--- a tick keeps the machine's id
-id-tick_running : (machine : DoorMachine) (moment : ℕ) → (tick_running machine moment).1.id ≡ machine.id
-id-tick_running machine moment = elim (cases_Bool (nat_lt moment (2 ^ 63))) [
-  | inl early ↦ rw early refl
-  | inr late ↦ rw late refl
-]
-
-pub id-tick : (machine : DoorMachine) (moment : ℕ) → (tick_of machine moment).1.id ≡ machine.id
-id-tick machine moment = id-unless machine.ended _ machine (tick_running machine moment) (id-tick_running machine moment)
-
 -- doors that were ticked have the labels that they had
-pub labels-ticked : (moment place : ℕ) (doors : List NamedDoor) → SameLabels doors (changed_front (ticked_door moment) place doors)
+pub labels-ticked : (moment place : ℕ) (doors : List NamedDoor) → SameLabels doors (changed_front (told_door (command.Tick moment)) place doors)
 labels-ticked moment place doors = record {
-  names = map-changed (λ (door : NamedDoor). door.name) (ticked_door moment) place doors (λ door. refl);
-  slots = map-changed (λ (door : NamedDoor). door.machine.id.slot) (ticked_door moment) place doors (λ door. ap (λ id. id.slot) (id-tick door.machine moment));
+  names = map-changed (λ (door : NamedDoor). door.name) (told_door (command.Tick moment)) place doors (λ door. refl);
+  slots = map-changed (λ (door : NamedDoor). door.machine.id.slot) (told_door (command.Tick moment)) place doors (λ door. ap (λ id. id.slot) (id-told door.machine (command.Tick moment)));
 }
 
 module _ (moment place : ℕ) (old doors : List NamedDoor) where
   -- doors of which so many were ticked have the labels that they had
-  pub labels-so_far : doors ≡ changed_front (ticked_door moment) place old → SameLabels old doors
+  pub labels-so_far : doors ≡ changed_front (told_door (command.Tick moment)) place old → SameLabels old doors
   labels-so_far ticked = rw ticked (labels-ticked moment place old)
 
   -- the next door is one of theirs
-  pub within-so_far : doors ≡ changed_front (ticked_door moment) place old → place < length old → place < length doors
-  within-so_far ticked less = rw (ticked, length-changed (ticked_door moment) place old) less
+  pub within-so_far : doors ≡ changed_front (told_door (command.Tick moment)) place old → place < length old → place < length doors
+  within-so_far ticked less = rw (ticked, length-changed (told_door (command.Tick moment)) place old) less
 
   -- one door more is ticked
-  pub ticked-more : (after : List NamedDoor) (d : NamedDoor) → doors ≡ changed_front (ticked_door moment) place old → place < length old
-      → after ≡ set doors place (ticked_door moment (get_or doors place d)) → after ≡ changed_front (ticked_door moment) (place + 1) old
+  pub ticked-more : (after : List NamedDoor) (d : NamedDoor) → doors ≡ changed_front (told_door (command.Tick moment)) place old → place < length old
+      → after ≡ set doors place (told_door (command.Tick moment) (get_or doors place d)) → after ≡ changed_front (told_door (command.Tick moment)) (place + 1) old
   ticked-more after d ticked less set_is =
       set_is
-      ∙ (ap (λ (t : List NamedDoor). set t place (ticked_door moment (get_or t place d))) ticked
-      ∙ (ap (λ (door : NamedDoor). set (changed_front (ticked_door moment) place old) place (ticked_door moment door)) (changed-next (ticked_door moment) place old d)
-      ∙ (changed-more (ticked_door moment) place old d less ∙ ap (λ (n : ℕ). changed_front (ticked_door moment) n old) (suc-is-more place))))
+      ∙ (ap (λ (t : List NamedDoor). set t place (told_door (command.Tick moment) (get_or t place d))) ticked
+      ∙ (ap (λ (door : NamedDoor). set (changed_front (told_door (command.Tick moment)) place old) place (told_door (command.Tick moment) door)) (changed-next (told_door (command.Tick moment)) place old d)
+      ∙ (changed-more (told_door (command.Tick moment)) place old d less ∙ ap (λ (n : ℕ). changed_front (told_door (command.Tick moment)) n old) (suc-is-more place))))
 
   -- and its time-outs are counted
-  pub expired-more : (expired count : ℕ) (d : NamedDoor) → doors ≡ changed_front (ticked_door moment) place old → place < length old
+  pub expired-more : (expired count : ℕ) (d : NamedDoor) → doors ≡ changed_front (told_door (command.Tick moment)) place old → place < length old
       → expired ≡ front_sum (expired_of moment) place old → count ≡ expired_of moment (get_or doors place d)
       → expired + count ≡ front_sum (expired_of moment) (place + 1) old
   expired-more expired count d ticked less counted count_is =
       let same : count ≡ expired_of moment (get_or old place d) =
-      count_is ∙ (ap (λ (t : List NamedDoor). expired_of moment (get_or t place d)) ticked ∙ ap (expired_of moment) (changed-next (ticked_door moment) place old d)) in
+      count_is ∙ (ap (λ (t : List NamedDoor). expired_of moment (get_or t place d)) ticked ∙ ap (expired_of moment) (changed-next (told_door (command.Tick moment)) place old d)) in
       rw (counted, same) (sum-more (expired_of moment) place old d less ∙ ap (λ (n : ℕ). front_sum (expired_of moment) n old) (suc-is-more place))
 
 -- all doors were ticked
-pub ticked-all : (moment place : ℕ) (old doors : List NamedDoor) → doors ≡ changed_front (ticked_door moment) place old → place ≡ length old
+pub ticked-all : (moment place : ℕ) (old doors : List NamedDoor) → doors ≡ changed_front (told_door (command.Tick moment)) place old → place ≡ length old
     → doors ≡ ticked_doors moment old
-ticked-all moment place old doors ticked all = rw (ticked, all) (changed-all (ticked_door moment) old)
+ticked-all moment place old doors ticked all = rw (ticked, all) (changed-all (told_door (command.Tick moment)) old)
 
 -- and counted
 pub expired-all : (moment place expired : ℕ) (old : List NamedDoor) → expired ≡ front_sum (expired_of moment) place old → place ≡ length old

@@ -4,16 +4,16 @@ use Rattle.std.specs.List.{list_any, sum_by}
 use Rattle.st_core.specs.MachineState.{MachineState}
 use Rattle.st_core.specs.Callbacks.{Callbacks}
 use Rattle.st_core.specs.Choice.{is_ready_of}
-use Rattle.st_core.specs.Post.{post_of, next_tag}
-use Rattle.st_core.specs.Replies.{collect_of}
-use Rattle.st_core.specs.Stop.{stop_of}
-use Rattle.st_core.specs.Tick.{tick_of}
-use Rattle.st_core.specs.Transition.{turn_of}
+use Rattle.st_core.specs.Post.{next_tag}
+use Rattle.st_core.specs.Run.{step_of}
+use Rattle.st_core.specs.declared.answer.Answer.{Answer}
+use Rattle.st_core.specs.declared.answer.Answer.TheVariants as answer
+use Rattle.st_core.specs.declared.command.Command.{Command}
+use Rattle.st_core.specs.declared.command.Command.TheVariants as command
 use Rattle.st_core.specs.declared.entry.Entry.TheVariants.{Call, Cast}
 use Rattle.st_door.specs.declared.door_content.DoorContent.TheVariants.{Button, CodeLength, Length, Nothing}
 use Rattle.st_requests.specs.declared.collected.Collected.{Collected}
 use Rattle.st_requests.specs.declared.collected.Collected.TheVariants.{Waiting, Reply, Stopped, Gone}
-use Rattle.st_events.specs.declared.machine_id.MachineId.{MachineId}
 use Rattle.st_events.specs.declared.refusal.Refusal.{Refusal}
 use Rattle.st_events.specs.declared.refused.Refused.{Refused}
 use Rattle.st_events.specs.declared.tag.Tag.{Tag}
@@ -25,6 +25,10 @@ use Rattle.st_door.specs.Door.{handle_of, enters, enter_of, terminate_of, is_sam
 -- the machine state of a door
 abbrev pub DoorMachine : Type 0
 DoorMachine = MachineState DoorState DoorData DoorContent
+
+-- what a door answers to a command
+abbrev pub DoorAnswer : Type 0
+DoorAnswer = Answer DoorState DoorContent
 
 -- a door's machine under its name
 pub record NamedDoor : Type 0 where
@@ -76,95 +80,89 @@ names_of doors = map (λ door. door.name) doors
 abbrev pub is_ready_door : NamedDoor → Bool
 is_ready_door door = is_ready_of door.machine
 
--- the door after one turn
-abbrev pub turned_door : ℕ → NamedDoor → NamedDoor
-turned_door moment door = door_named door.name (turn_of door_callbacks door.machine moment).1
+-- the door is told a command: what it answers, and the machine after it
+abbrev pub told_of : Command DoorContent → NamedDoor → DoorAnswer × DoorMachine
+told_of command door = step_of door_callbacks door.machine command
+
+-- the door after it
+abbrev pub told_door : Command DoorContent → NamedDoor → NamedDoor
+told_door command door = door_named door.name (told_of command door).1
+
+-- why a call is refused, if it is
+abbrev pub refusal_by : {A : Type 0} → Result A Refusal → Option Refusal
+refusal_by (Ok done) = None
+refusal_by (Err refusal) = Some refusal
 
 -- why a post is refused, if it is
-abbrev pub refusal_of : Result ℕ (Refused DoorContent) → Option Refusal
-refusal_of (Ok number) = None
-refusal_of (Err refused) = Some refused.refusal
+abbrev pub post_refusal_by : Result ℕ (Refused DoorContent) → Option Refusal
+post_refusal_by (Ok number) = None
+post_refusal_by (Err refused) = Some refused.refusal
 
--- a button is pressed at the door: what the post answers, and the machine after it
-abbrev pub press_of : ℕ → NamedDoor → Result ℕ (Refused DoorContent) × DoorMachine
-press_of digit door = post_of door.machine Cast (Button digit)
+-- why a command is refused, if it is
+abbrev pub refusal_in : DoorAnswer → Option Refusal
+refusal_in (answer.Post posted) = post_refusal_by posted
+refusal_in (answer.Tick ticked) = refusal_by ticked
+refusal_in (answer.Turn turned) = refusal_by turned
+refusal_in (answer.Reply taken) = None
+refusal_in (answer.Collect collected) = None
+refusal_in (answer.Stop stopped) = refusal_by stopped
 
--- the door after it
-abbrev pub pressed_door : ℕ → NamedDoor → NamedDoor
-pressed_door digit door = door_named door.name (press_of digit door).1
+-- how many time-outs expire at a tick: none where it is refused, as that of an ended door is
+abbrev pub count_by : Result ℕ Refusal → ℕ
+count_by (Ok count) = count
+count_by (Err refusal) = 0
 
--- the door is asked how long its code is: what the post of the call answers, and the machine after it
-abbrev pub ask_of : NamedDoor → Result ℕ (Refused DoorContent) × DoorMachine
-ask_of door = post_of door.machine Call CodeLength
+-- how many time-outs expire at a command: at none but a tick do any
+abbrev pub count_in : DoorAnswer → ℕ
+count_in (answer.Tick ticked) = count_by ticked
+count_in (answer.Post posted) = 0
+count_in (answer.Turn turned) = 0
+count_in (answer.Reply taken) = 0
+count_in (answer.Collect collected) = 0
+count_in (answer.Stop stopped) = 0
 
--- the door after it
-abbrev pub asked_door : NamedDoor → NamedDoor
-asked_door door = door_named door.name (ask_of door).1
+-- the length that content says, if it says one
+abbrev pub length_of : DoorContent → Option ℕ
+length_of (Length digits) = Some digits
+length_of (Button digit) = None
+length_of CodeLength = None
+length_of Nothing = None
 
--- the tag of a call to a machine of this id, by what its post answers, or why it is refused
-abbrev pub tag_of : MachineId → Result ℕ (Refused DoorContent) → Result Tag Refusal
-tag_of id (Ok number) = Ok (record { machine = id; request = number })
-tag_of id (Err refused) = Err refused.refusal
+-- the length that was collected; it is none where there was no reply
+abbrev pub collected_length : Collected DoorContent → Option ℕ
+collected_length (Reply content) = length_of content
+collected_length Waiting = None
+collected_length (Stopped reason) = None
+collected_length Gone = None
+
+-- the length that a command brought: none but a collect brings one
+abbrev pub length_in : DoorAnswer → Option ℕ
+length_in (answer.Collect collected) = collected_length collected
+length_in (answer.Post posted) = None
+length_in (answer.Tick ticked) = None
+length_in (answer.Turn turned) = None
+length_in (answer.Reply taken) = None
+length_in (answer.Stop stopped) = None
+
+-- a button is pressed
+abbrev pub presses : ℕ → Command DoorContent
+presses digit = command.Post Cast (Button digit)
+
+-- a door is asked how long its code is
+abbrev pub asks : Command DoorContent
+asks = command.Post Call CodeLength
 
 -- the tag that a call of the door gets
 abbrev pub next_tag_of : NamedDoor → Tag
 next_tag_of door = next_tag door.machine
 
--- the reply to the call of a tag is collected at the door: what comes, and the machine after it
-abbrev pub door_collect_of : Tag → NamedDoor → Collected DoorContent × DoorMachine
-door_collect_of tag door = collect_of door.machine tag
-
--- the door after it
-abbrev pub collected_door : Tag → NamedDoor → NamedDoor
-collected_door tag door = door_named door.name (door_collect_of tag door).1
-
--- the length that a reply says, if it says one
-abbrev pub length_in : DoorContent → Option ℕ
-length_in (Length digits) = Some digits
-length_in (Button digit) = None
-length_in CodeLength = None
-length_in Nothing = None
-
--- the length that was collected; it is none where there was no reply
-abbrev pub collected_length : Collected DoorContent → Option ℕ
-collected_length (Reply content) = length_in content
-collected_length Waiting = None
-collected_length (Stopped reason) = None
-collected_length Gone = None
-
--- why a stop is refused, if it is
-abbrev pub stop_refusal_of : Result ℕ Refusal → Option Refusal
-stop_refusal_of (Ok word) = None
-stop_refusal_of (Err refusal) = Some refusal
-
--- the door is stopped for a reason: what the stop answers, and the machine after it
-abbrev pub door_stop_of : ℕ → NamedDoor → Result ℕ Refusal × DoorMachine
-door_stop_of reason door = stop_of door_callbacks door.machine reason
-
--- the door after it
-abbrev pub ended_door : ℕ → NamedDoor → NamedDoor
-ended_door reason door = door_named door.name (door_stop_of reason door).1
-
--- how many time-outs expire at a tick: none where it is refused, as that of an ended door is
-abbrev pub count_of : Result ℕ Refusal → ℕ
-count_of (Ok count) = count
-count_of (Err refusal) = 0
-
--- the door is ticked at a moment: what the tick answers, and the machine after it
-abbrev pub door_tick_of : ℕ → NamedDoor → Result ℕ Refusal × DoorMachine
-door_tick_of moment door = tick_of door.machine moment
-
--- the door after it; one that has ended stays as it is
-abbrev pub ticked_door : ℕ → NamedDoor → NamedDoor
-ticked_door moment door = door_named door.name (door_tick_of moment door).1
-
--- how many of its time-outs expire at it
+-- how many time-outs of the door expire at a tick
 abbrev pub expired_of : ℕ → NamedDoor → ℕ
-expired_of moment door = count_of (door_tick_of moment door).0
+expired_of moment door = count_in (told_of (command.Tick moment) door).0
 
--- the doors, each ticked at a moment
+-- the doors, each ticked at a moment; one that has ended stays as it is
 abbrev pub ticked_doors : ℕ → List NamedDoor → List NamedDoor
-ticked_doors moment doors = map (ticked_door moment) doors
+ticked_doors moment doors = map (told_door (command.Tick moment)) doors
 
 -- how many time-outs of the doors expire at it
 abbrev pub all_expired_of : ℕ → List NamedDoor → ℕ
@@ -175,7 +173,7 @@ unfoldable pub run_until_idle : ℕ → ℕ → List NamedDoor → List NamedDoo
 run_until_idle zero moment doors = doors
 run_until_idle (suc turns) moment doors =
     elim (list_any is_ready_door doors) [
-      | true ↦ run_until_idle turns moment (change_first is_ready_door (turned_door moment) doors)
+      | true ↦ run_until_idle turns moment (change_first is_ready_door (told_door (command.Turn moment)) doors)
       | false ↦ doors
     ]
 

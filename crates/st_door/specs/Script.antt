@@ -8,6 +8,8 @@ use Rattle.st_events.specs.declared.refusal.Refusal.{Refusal}
 use Rattle.st_events.specs.declared.refusal.Refusal.TheVariants.{AlreadyStarted, Moment, NoSuchName, Full}
 use Rattle.st_events.specs.declared.refused.Refused.{Refused}
 use Rattle.st_events.specs.declared.tag.Tag.{Tag}
+use Rattle.st_core.specs.declared.command.Command.{Command}
+use Rattle.st_core.specs.declared.command.Command.TheVariants as command
 use Rattle.st_core.specs.declared.start.Start.{Start}
 use Rattle.st_core.specs.declared.start.Start.TheVariants.{Running, Ignored, Stopped}
 use Rattle.st_core.specs.Start.{start_of}
@@ -20,7 +22,7 @@ use Rattle.st_door.specs.declared.line.Line.TheVariants as line
 use Rattle.st_door.specs.declared.effect.Effect.{Effect}
 use Rattle.st_door.specs.declared.effect.Effect.TheVariants.{Silent, Printed, Refuses, Malformed}
 use Rattle.st_door.specs.Door.{init_of}
-use Rattle.st_door.specs.Doors.{NamedDoor, DoorMachine, door_callbacks, door_limit, door_of, with_machine, free_slot_of, run_until_idle, press_of, refusal_of, ask_of, next_tag_of, door_collect_of, collected_length, door_stop_of, stop_refusal_of, all_expired_of, ticked_doors}
+use Rattle.st_door.specs.Doors.{NamedDoor, DoorMachine, door_callbacks, door_limit, door_of, with_machine, free_slot_of, run_until_idle, told_of, presses, asks, refusal_in, length_in, next_tag_of, all_expired_of, ticked_doors}
 use Rattle.st_door.specs.Grammar.{line_of}
 use Rattle.st_door.specs.Lines.{lines}
 use Rattle.st_door.specs.Printing.{status_of, names_text, expired_text, length_text, refused_text, malformed_text}
@@ -74,26 +76,15 @@ new_door script name code None =
     then with_start script name (door_start_of script code)
     else Err Full
 
--- what comes of a call of the door of a name, by its refusal and the machine after it
-abbrev pub with_call : ScriptState → List ℕ → Option Refusal → DoorMachine → Result ScriptState Refusal
-with_call script name None machine = Ok (record script { doors = with_machine name machine script.doors })
-with_call script name (Some refusal) machine = Err refusal
+-- what comes of a command to the door of a name, by its refusal and the machine after it
+abbrev pub with_told : ScriptState → List ℕ → Option Refusal → DoorMachine → Result ScriptState Refusal
+with_told script name None machine = Ok (record script { doors = with_machine name machine script.doors })
+with_told script name (Some refusal) machine = Err refusal
 
--- `button`: a name that is not registered is refused, then as the post is
-abbrev pub pressed_button : ScriptState → List ℕ → ℕ → Option NamedDoor → Result ScriptState Refusal
-pressed_button script name digit None = Err NoSuchName
-pressed_button script name digit (Some door) = with_call script name (refusal_of (press_of digit door).0) (press_of digit door).1
-
--- `stop`: a name that is not registered is refused, then as the stop is
-abbrev pub stopped_door : ScriptState → List ℕ → ℕ → Option NamedDoor → Result ScriptState Refusal
-stopped_door script name reason None = Err NoSuchName
-stopped_door script name reason (Some door) =
-    with_call script name (stop_refusal_of (door_stop_of reason door).0) (door_stop_of reason door).1
-
--- `length`: a name that is not registered is refused, then as the post of the call is
-abbrev pub asked_length : ScriptState → List ℕ → Option NamedDoor → Result ScriptState Refusal
-asked_length script name None = Err NoSuchName
-asked_length script name (Some door) = with_call script name (refusal_of (ask_of door).0) (ask_of door).1
+-- `button`, `stop` and `length`: a name that is not registered is refused, then as the command is
+abbrev pub told_script : ScriptState → List ℕ → Command DoorContent → Option NamedDoor → Result ScriptState Refusal
+told_script script name command None = Err NoSuchName
+told_script script name command (Some door) = with_told script name (refusal_in (told_of command door).0) (told_of command door).1
 
 -- `show`: a name that is not registered is refused
 abbrev pub shown_door : ScriptState → Option NamedDoor → Result ScriptState Refusal
@@ -114,11 +105,11 @@ abbrev pub acted_of : ScriptState → Line → Result ScriptState Refusal
 acted_of script line.Blank = Ok script
 acted_of script line.Malformed = Ok script
 acted_of script (line.New name code) = new_door script name code (door_of name script.doors)
-acted_of script (line.Button name digit) = pressed_button script name digit (door_of name script.doors)
+acted_of script (line.Button name digit) = told_script script name (presses digit) (door_of name script.doors)
 acted_of script (line.Show name) = shown_door script (door_of name script.doors)
 acted_of script (line.At moment) = passed_to script moment
-acted_of script (line.Stop name reason) = stopped_door script name reason (door_of name script.doors)
-acted_of script (line.Length name) = asked_length script name (door_of name script.doors)
+acted_of script (line.Stop name reason) = told_script script name (command.Stop reason) (door_of name script.doors)
+acted_of script (line.Length name) = told_script script name asks (door_of name script.doors)
 acted_of script line.Names = Ok script
 
 -- the script once its doors rest
@@ -133,49 +124,57 @@ named_status_of script name = option_map_or status_of (door_of name script.doors
 abbrev pub length_collected : ScriptState → List ℕ → Tag → Option NamedDoor → List ℕ × ScriptState
 length_collected script name tag None = ([], script)
 length_collected script name tag (Some door) = (
-  length_text name (collected_length (door_collect_of tag door).0),
-  record script { doors = with_machine name (door_collect_of tag door).1 script.doors },
+  length_text name (length_in (told_of (command.Collect tag) door).0),
+  record script { doors = with_machine name (told_of (command.Collect tag) door).1 script.doors },
 )
 
 -- how `length` finishes, by the door as it was before the line, which gave the call its tag
-abbrev pub length_finished : ScriptState → List ℕ → Option NamedDoor → List ℕ × ScriptState
-length_finished script name None = ([], script)
-length_finished script name (Some asked) = length_collected script name (next_tag_of asked) (door_of name script.doors)
+abbrev pub length_finished : List ℕ → Option NamedDoor → ScriptState → List ℕ × ScriptState
+length_finished name None script = ([], script)
+length_finished name (Some asked) script = length_collected script name (next_tag_of asked) (door_of name script.doors)
+
+-- the status of the door of a name is printed
+abbrev pub status_finished : List ℕ → ScriptState → List ℕ × ScriptState
+status_finished name script = (named_status_of script name, script)
 
 -- how a line finishes that was not refused, by the script before it and the script once the doors rest:
 -- what it prints, and the script after it. `at` counts the time-outs of the doors as they were before it,
 -- `length` collects the reply to its call; no other changes anything more
-abbrev pub finished_of : ScriptState → ScriptState → Line → List ℕ × ScriptState
-finished_of before script line.Blank = ([], script)
-finished_of before script line.Malformed = ([], script)
-finished_of before script (line.New name code) = (named_status_of script name, script)
-finished_of before script (line.Button name digit) = (named_status_of script name, script)
-finished_of before script (line.Show name) = (named_status_of script name, script)
-finished_of before script (line.At moment) = (expired_text script.moment (all_expired_of script.moment before.doors), script)
-finished_of before script (line.Stop name reason) = (named_status_of script name, script)
-finished_of before script (line.Length name) = length_finished script name (door_of name before.doors)
-finished_of before script line.Names = (names_text script.doors, script)
+abbrev pub finished_of : ScriptState → Line → ScriptState → List ℕ × ScriptState
+finished_of before line.Blank = λ script. ([], script)
+finished_of before line.Malformed = λ script. ([], script)
+finished_of before (line.New name code) = status_finished name
+finished_of before (line.Button name digit) = status_finished name
+finished_of before (line.Show name) = status_finished name
+finished_of before (line.At moment) = λ script. (expired_text script.moment (all_expired_of script.moment before.doors), script)
+finished_of before (line.Stop name reason) = status_finished name
+finished_of before (line.Length name) = length_finished name (door_of name before.doors)
+finished_of before line.Names = λ script. (names_text script.doors, script)
 
 -- a line that has finished prints its text
 abbrev pub printing : List ℕ × ScriptState → Effect × ScriptState
 printing finished = (Printed finished.0, finished.1)
 
 -- a line that is refused changes nothing; else the doors run until they rest, and then it finishes and prints
-abbrev pub effect_of : ScriptState → Line → Result ScriptState Refusal → Effect × ScriptState
-effect_of script said (Err refusal) = (Refuses refusal, script)
-effect_of script said (Ok acted) = printing (finished_of script (rested_of acted) said)
+abbrev pub effect_of : ScriptState → (ScriptState → List ℕ × ScriptState) → Result ScriptState Refusal → Effect × ScriptState
+effect_of script finish (Err refusal) = (Refuses refusal, script)
+effect_of script finish (Ok acted) = printing (finish (rested_of acted))
+
+-- the door of a name is told a command, and its status is printed
+abbrev pub commanded_of : ScriptState → List ℕ → Command DoorContent → Effect × ScriptState
+commanded_of script name command = effect_of script (status_finished name) (told_script script name command (door_of name script.doors))
 
 -- what a line brings about, and the script after it; a line that says nothing does nothing
 abbrev pub step_of : ScriptState → Line → Effect × ScriptState
 step_of script line.Blank = (Silent, script)
 step_of script line.Malformed = (Malformed, script)
-step_of script (line.New name code) = effect_of script (line.New name code) (acted_of script (line.New name code))
-step_of script (line.Button name digit) = effect_of script (line.Button name digit) (acted_of script (line.Button name digit))
-step_of script (line.Show name) = effect_of script (line.Show name) (acted_of script (line.Show name))
-step_of script (line.At moment) = effect_of script (line.At moment) (acted_of script (line.At moment))
-step_of script (line.Stop name reason) = effect_of script (line.Stop name reason) (acted_of script (line.Stop name reason))
-step_of script (line.Length name) = effect_of script (line.Length name) (acted_of script (line.Length name))
-step_of script line.Names = effect_of script line.Names (acted_of script line.Names)
+step_of script (line.New name code) = effect_of script (finished_of script (line.New name code)) (acted_of script (line.New name code))
+step_of script (line.Button name digit) = effect_of script (finished_of script (line.Button name digit)) (acted_of script (line.Button name digit))
+step_of script (line.Show name) = effect_of script (finished_of script (line.Show name)) (acted_of script (line.Show name))
+step_of script (line.At moment) = effect_of script (finished_of script (line.At moment)) (acted_of script (line.At moment))
+step_of script (line.Stop name reason) = effect_of script (finished_of script (line.Stop name reason)) (acted_of script (line.Stop name reason))
+step_of script (line.Length name) = effect_of script (finished_of script (line.Length name)) (acted_of script (line.Length name))
+step_of script line.Names = effect_of script (finished_of script line.Names) (acted_of script line.Names)
 
 -- what the line of a number prints
 abbrev pub printed_of : ℕ → Effect → List ℕ

@@ -1,20 +1,15 @@
 //! The doors of a script, by name, in order of registration.
 ghost use Rattle.std.specs.Prelude.{◌≡◌, ◌<◌, ◌≤◌, [], ◌∷◌, ◌++◌, None, IfOk, OnOk, OnErr, IfSome, IfNone, length, slice_set, slice_index_or, string_bytes};
-ghost use Rattle.st_core.specs.Post.{post_of};
-ghost use Rattle.st_core.specs.Replies.{collect_of};
-ghost use Rattle.st_core.specs.Stop.{stop_of};
-ghost use Rattle.st_core.specs.Tick.{tick_of};
-ghost use Rattle.st_core.specs.Transition.{turn_of};
-ghost use Rattle.st_core.specs.declared.entry.Entry.TheVariants.{Call, Cast};
-ghost use Rattle.st_door.specs.declared.door_content.DoorContent.TheVariants.{Button, CodeLength};
-ghost use Rattle.st_door.specs.Doors.{NamedDoor, door_named, IsFirst, has_name, door_of, is_ready_door, turned_door, press_of, pressed_door, refusal_of, ask_of, asked_door, tag_of, door_collect_of, collected_door, length_in, collected_length, door_stop_of, ended_door, stop_refusal_of, door_callbacks, count_of, expired_of, ticked_door, all_expired_of, ticked_doors, SameLabels, door_limit};
+ghost use Rattle.st_core.specs.Run.{step_of};
+ghost use Rattle.st_door.specs.Doors.{NamedDoor, door_named, IsFirst, has_name, door_of, is_ready_door, told_of, told_door, door_callbacks, all_expired_of, ticked_doors, SameLabels, door_limit};
 ghost use Rattle.st_door.specs.Printing.{status_of, names_text};
 
+use crate::answers::{DoorAnswer, count_in, refusal_in};
 use crate::printing::{ended_status, status};
 use crate::{Door, DoorContent};
 use indexmap::IndexMap;
-use st_core::{Collected, Core, Entry};
-use st_events::{MachineId, Reason, Refusal, Tag};
+use st_core::{Command, Core};
+use st_events::{MachineId, Refusal};
 use std::alloc::{AllocError, Global};
 use std::marker::Model;
 
@@ -96,67 +91,21 @@ impl Doors {
         self.entry_at(place).1.is_ready()
     }
 
-    /// Gives the door at a place a turn. Where memory is wanted and there is none, the doors stay.
-    pub(crate) fn turn_at(&mut self, place: usize, moment: u64) -> Result<(), AllocError>
-        requires { place < length self.old }
-        ensures turned { OnOk result ((d : NamedDoor) → self.new ≡ slice_set self.old place (turned_door moment (slice_index_or self.old place d))) }
-
-        ensures unchanged { OnErr result (self.new ≡ self.old) }
-    {
-        let (_, core) = self.entries.pair_mut(place);
-        turn(core, moment)
-    }
-
-    /// Presses a button at the door at a place, and answers why that is refused, if it is.
-    pub(crate) fn press_at(
+    /// Tells the door at a place a command, and answers its answer. Where memory is wanted and there is
+    /// none, the doors stay.
+    pub(crate) fn tell_at(
         &mut self,
         place: usize,
-        digit: u8,
-    ) -> Result<Option<Refusal>, AllocError>
+        command: Command<DoorContent>,
+    ) -> Result<DoorAnswer, AllocError>
         requires { place < length self.old }
-        ensures refusal { IfOk result (λ refusal. (d : NamedDoor) → refusal ≡ refusal_of (press_of digit (slice_index_or self.old place d)).0) }
-        ensures pressed { OnOk result ((d : NamedDoor) → self.new ≡ slice_set self.old place (pressed_door digit (slice_index_or self.old place d))) }
+        ensures answer { IfOk result (λ answer. (d : NamedDoor) → answer ≡ (told_of command (slice_index_or self.old place d)).0) }
+        ensures told { OnOk result ((d : NamedDoor) → self.new ≡ slice_set self.old place (told_door command (slice_index_or self.old place d))) }
 
         ensures unchanged { OnErr result (self.new ≡ self.old) }
     {
         let (_, core) = self.entries.pair_mut(place);
-        press(core, digit)
-    }
-
-    /// Asks the door at a place how long its code is, and answers the tag of the call, or why that is
-    /// refused.
-    pub(crate) fn ask_at(&mut self, place: usize) -> Result<Result<Tag, Refusal>, AllocError>
-        requires { place < length self.old }
-        ensures answer { IfOk result (λ answer. (d : NamedDoor) → answer ≡ tag_of (slice_index_or self.old place d).machine.id (ask_of (slice_index_or self.old place d)).0) }
-        ensures asked { OnOk result ((d : NamedDoor) → self.new ≡ slice_set self.old place (asked_door (slice_index_or self.old place d))) }
-
-        ensures unchanged { OnErr result (self.new ≡ self.old) }
-    {
-        let (_, core) = self.entries.pair_mut(place);
-        ask(core)
-    }
-
-    /// Collects the reply to the call of a tag at the door at a place, and answers the length that it says.
-    pub(crate) fn collect_at(&mut self, place: usize, tag: Tag) -> Option<usize>
-        requires { place < length self.old }
-        ensures digits { (d : NamedDoor) → result ≡ collected_length (door_collect_of tag (slice_index_or self.old place d)).0 }
-        ensures collected { (d : NamedDoor) → self.new ≡ slice_set self.old place (collected_door tag (slice_index_or self.old place d)) }
-    {
-        let (_, core) = self.entries.pair_mut(place);
-        collect(core, tag)
-    }
-
-    /// Ticks the door at a place, and answers how many of its time-outs expire. One that has ended is not
-    /// ticked. Where memory is wanted and there is none, the doors stay.
-    fn tick_at(&mut self, place: usize, moment: u64) -> Result<u64, AllocError>
-        requires { place < length self.old }
-        ensures count { IfOk result (λ count. (d : NamedDoor) → count ≡ expired_of moment (slice_index_or self.old place d)) }
-        ensures ticked { OnOk result ((d : NamedDoor) → self.new ≡ slice_set self.old place (ticked_door moment (slice_index_or self.old place d))) }
-
-        ensures unchanged { OnErr result (self.new ≡ self.old) }
-    {
-        let (_, core) = self.entries.pair_mut(place);
-        tick(core, moment)
+        tell(core, command)
     }
 
     /// Ticks each door, in order of registration, and answers how many time-outs expire.
@@ -170,19 +119,10 @@ impl Doors {
     {
         let mut expired = 0;
         for place in 0..self.len() {
-            expired += u128::from(self.tick_at(place, moment)?);
+            let answer = self.tell_at(place, Command::Tick(moment))?;
+            expired += u128::from(count_in(&answer));
         }
         Ok(expired)
-    }
-
-    /// Stops the door at a place for a reason, and answers why that is refused, if it is.
-    pub(crate) fn stop_at(&mut self, place: usize, reason: Reason) -> Option<Refusal>
-        requires { place < length self.old }
-        ensures refusal { (d : NamedDoor) → result ≡ stop_refusal_of (door_stop_of reason (slice_index_or self.old place d)).0 }
-        ensures ended { (d : NamedDoor) → self.new ≡ slice_set self.old place (ended_door reason (slice_index_or self.old place d)) }
-    {
-        let (_, core) = self.entries.pair_mut(place);
-        stop(core, reason)
     }
 
     /// The line of the names, in order of registration.
@@ -218,97 +158,17 @@ impl Doors {
     }
 }
 
-/// Gives a door a turn. Where memory is wanted and there is none, the door stays.
-fn turn(core: &mut Core<Door>, moment: u64) -> Result<(), AllocError>
-    ensures turned { OnOk result (core.new.machine ≡ (turn_of door_callbacks core.old.machine moment).1) }
+/// Tells a door a command, and answers its answer. Where memory is wanted and there is none, the door
+/// stays.
+fn tell(core: &mut Core<Door>, command: Command<DoorContent>) -> Result<DoorAnswer, AllocError>
+    ensures answer { IfOk result (λ answer. answer ≡ (step_of door_callbacks core.old.machine command).0) }
+    ensures told { OnOk result (core.new.machine ≡ (step_of door_callbacks core.old.machine command).1) }
 
     ensures unchanged { OnErr result (core.new ≡ core.old) }
 {
-    match core.turn(moment) {
-        Ok(_turned) => Ok(()),
-        Err(Refusal::NoMemory) => Err(AllocError),
-        Err(_) => Ok(()),
-    }
-}
-
-/// Presses a button at a door, and answers why that is refused, if it is.
-fn press(core: &mut Core<Door>, digit: u8) -> Result<Option<Refusal>, AllocError>
-    ensures refusal { IfOk result (λ refusal. refusal ≡ refusal_of (post_of core.old.machine Cast (Button digit)).0) }
-    ensures pressed { OnOk result (core.new.machine ≡ (post_of core.old.machine Cast (Button digit)).1) }
-
-    ensures unchanged { OnErr result (core.new ≡ core.old) }
-{
-    match core.post(Entry::Cast, DoorContent::Button(digit)) {
-        Ok(_number) => Ok(None),
-        Err(refused) => match refused.refusal {
-            Refusal::NoMemory => Err(AllocError),
-            refusal => Ok(Some(refusal)),
-        },
-    }
-}
-
-/// Asks a door how long its code is, and answers the tag of the call, or why that is refused.
-fn ask(core: &mut Core<Door>) -> Result<Result<Tag, Refusal>, AllocError>
-    ensures answer { IfOk result (λ answer. answer ≡ tag_of core.old.machine.id (post_of core.old.machine Call CodeLength).0) }
-    ensures asked { OnOk result (core.new.machine ≡ (post_of core.old.machine Call CodeLength).1) }
-
-    ensures unchanged { OnErr result (core.new ≡ core.old) }
-{
-    let machine = core.id();
-    match core.post(Entry::Call, DoorContent::CodeLength) {
-        Ok(request) => Ok(Ok(Tag { machine, request })),
-        Err(refused) => match refused.refusal {
-            Refusal::NoMemory => Err(AllocError),
-            refusal => Ok(Err(refusal)),
-        },
-    }
-}
-
-/// The length that a reply says, if it says one.
-fn length_in(content: DoorContent) -> Option<usize>
-    ensures { result ≡ length_in content }
-{
-    match content {
-        DoorContent::Length(digits) => Some(digits),
-        _ => None,
-    }
-}
-
-/// Collects the reply to the call of a tag at a door, and answers the length that it says.
-fn collect(core: &mut Core<Door>, tag: Tag) -> Option<usize>
-    ensures digits { result ≡ collected_length (collect_of core.old.machine tag).0 }
-    ensures collected { core.new.machine ≡ (collect_of core.old.machine tag).1 }
-{
-    match core.collect(tag) {
-        Collected::Waiting => None,
-        Collected::Reply(content) => length_in(content),
-        Collected::Stopped(_reason) => None,
-        Collected::Gone => None,
-    }
-}
-
-/// Ticks a door, and answers how many of its time-outs expire. One that has ended is not ticked. Where
-/// memory is wanted and there is none, the door stays.
-fn tick(core: &mut Core<Door>, moment: u64) -> Result<u64, AllocError>
-    ensures count { IfOk result (λ count. count ≡ count_of (tick_of core.old.machine moment).0) }
-    ensures ticked { OnOk result (core.new.machine ≡ (tick_of core.old.machine moment).1) }
-
-    ensures unchanged { OnErr result (core.new ≡ core.old) }
-{
-    match core.tick(moment) {
-        Ok(count) => Ok(count),
-        Err(Refusal::NoMemory) => Err(AllocError),
-        Err(_) => Ok(0),
-    }
-}
-
-/// Stops a door for a reason, and answers why that is refused, if it is.
-fn stop(core: &mut Core<Door>, reason: Reason) -> Option<Refusal>
-    ensures refusal { result ≡ stop_refusal_of (stop_of door_callbacks core.old.machine reason).0 }
-    ensures ended { core.new.machine ≡ (stop_of door_callbacks core.old.machine reason).1 }
-{
-    match core.stop(reason) {
-        Ok(_word) => None,
-        Err(refusal) => Some(refusal),
+    let answer = core.step(command);
+    match refusal_in(&answer) {
+        Some(Refusal::NoMemory) => Err(AllocError),
+        _ => Ok(answer),
     }
 }

@@ -2,6 +2,7 @@
 //! It knows nothing of threads.
 #![tactic(auto)]
 
+mod answers;
 mod counted;
 mod digits;
 mod door;

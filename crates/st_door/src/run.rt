@@ -5,12 +5,12 @@ ghost use Rattle.st_door.specs.Script.{DoesSome, is_fault, output_of, status_of_
 ghost use Rattle.st_door.specs.ScriptFault.{IsOfInput, read_failures_after, write_failures_after};
 ghost use Rattle.st_door.specs.Streams.{AppendsFront, ConsumesMoreThan};
 
+use crate::effect::Effect;
 use crate::input::{INPUT_LIMIT, read_input};
 use crate::line::read_line;
 use crate::lines::{split_lines, without_return};
 use crate::output::write_output;
 use crate::printing::printed;
-use crate::effect::Effect;
 use crate::script::Script;
 use crate::{Mode, ScriptFault, Sink, Source};
 use std::alloc::Global;

@@ -1,20 +1,21 @@
 //! A script between two of its lines.
 ghost use Rattle.std.specs.Prelude.{◌≡◌, ◌≤◌, ◌<◌, ℕ, None, Ok, Err, IfOk, OnOk, IfNone, IfSome, length, slice_index_or, slice_set};
-ghost use Rattle.st_door.specs.Doors.{NamedDoor, SameLabels, door_limit, door_of, refusal_of, press_of, pressed_door, stop_refusal_of, door_stop_of, ended_door, ask_of, asked_door, tag_of, door_collect_of, collected_door, collected_length, all_expired_of};
+ghost use Rattle.st_door.specs.Doors.{NamedDoor, SameLabels, door_limit, door_of, told_of, told_door, all_expired_of};
 ghost use Rattle.st_door.specs.Printing.{status_of};
-ghost use Rattle.st_door.specs.Script.{first_script_state, step_of, with_start, door_start_of, ticked_script, rested_of};
+ghost use Rattle.st_door.specs.Script.{first_script_state, step_of, commanded_of, with_start, door_start_of, ticked_script, rested_of};
 ghost use Rattle.st_door.specs.declared.effect.Effect.TheVariants.{Printed};
 ghost use Rattle.st_door.specs.declared.line.Line.TheVariants as line;
 
+use crate::answers::{DoorAnswer, length_in, refusal_in};
 use crate::doors::Doors;
+use crate::effect::Effect;
 use crate::line::Line;
 use crate::printing::{code_length, expired};
-use crate::effect::Effect;
-use crate::until_idle::run_until_idle;
 use crate::text::Text;
-use crate::{Digits, Door};
-use st_core::{Core, MOMENT_LIMIT, Start};
-use st_events::{MachineId, Reason, Refusal, Tag};
+use crate::until_idle::run_until_idle;
+use crate::{Digits, Door, DoorContent};
+use st_core::{Answer, Command, Core, Entry, MOMENT_LIMIT, Start};
+use st_events::{MachineId, Refusal, Tag};
 use std::alloc::{AllocError, Global};
 use std::marker::Model;
 
@@ -67,10 +68,15 @@ impl Script {
             Line::Blank => Ok(Effect::Silent),
             Line::Malformed => Ok(Effect::Malformed),
             Line::New { name, code } => self.obey_new(name, code),
-            Line::Button { name, digit } => self.obey_button(name.as_str(), digit),
+            Line::Button { name, digit } => {
+                let command = Command::Post(Entry::Cast, DoorContent::Button(digit));
+                self.obey_command(name.as_str(), command)
+            }
             Line::Show { name } => self.obey_show(name.as_str()),
             Line::At { moment } => self.obey_at(moment),
-            Line::Stop { name, reason } => self.obey_stop(name.as_str(), reason),
+            Line::Stop { name, reason } => {
+                self.obey_command(name.as_str(), Command::Stop(reason))
+            }
             Line::Length { name } => self.obey_length(name.as_str()),
             Line::Names => self.obey_names(),
         }
@@ -96,15 +102,20 @@ impl Script {
         self.status_effect(place)
     }
 
-    /// Presses a button of the door of a name, and answers its status.
-    fn obey_button(&mut self, name: &str, digit: u8) -> Result<Effect, AllocError>
-        ensures effect { IfOk result (λ effect. effect ≡ (step_of self.old (line.Button name.now digit)).0) }
-        ensures script { OnOk result (self.new ≡ (step_of self.old (line.Button name.now digit)).1) }
+    /// Tells the door of a name a command, and answers its status.
+    fn obey_command(
+        &mut self,
+        name: &str,
+        command: Command<DoorContent>,
+    ) -> Result<Effect, AllocError>
+        ensures effect { IfOk result (λ effect. effect ≡ (commanded_of self.old name.now command).0) }
+        ensures script { OnOk result (self.new ≡ (commanded_of self.old name.now command).1) }
     {
         let Some(place) = self.doors.place_of(name) else {
             return Ok(Effect::Refuses(Refusal::NoSuchName));
         };
-        if let Some(refusal) = self.press(place, digit)? {
+        let answer = self.tell(place, command)?;
+        if let Some(refusal) = refusal_in(&answer) {
             return Ok(Effect::Refuses(refusal));
         }
         self.run_until_idle()?;
@@ -138,21 +149,6 @@ impl Script {
         Ok(Effect::Printed(Text::from(text)))
     }
 
-    /// Stops the door of a name for a reason, and answers its status.
-    fn obey_stop(&mut self, name: &str, reason: Reason) -> Result<Effect, AllocError>
-        ensures effect { IfOk result (λ effect. effect ≡ (step_of self.old (line.Stop name.now reason)).0) }
-        ensures script { OnOk result (self.new ≡ (step_of self.old (line.Stop name.now reason)).1) }
-    {
-        let Some(place) = self.doors.place_of(name) else {
-            return Ok(Effect::Refuses(Refusal::NoSuchName));
-        };
-        if let Some(refusal) = self.stop(place, reason) {
-            return Ok(Effect::Refuses(refusal));
-        }
-        self.run_until_idle()?;
-        self.status_effect(place)
-    }
-
     /// Asks the door of a name how long its code is, and answers what it replies.
     fn obey_length(&mut self, name: &str) -> Result<Effect, AllocError>
         ensures effect { IfOk result (λ effect. effect ≡ (step_of self.old (line.Length name.now)).0) }
@@ -161,12 +157,18 @@ impl Script {
         let Some(place) = self.doors.place_of(name) else {
             return Ok(Effect::Refuses(Refusal::NoSuchName));
         };
-        let tag = match self.ask(place)? {
-            Ok(tag) => tag,
-            Err(refusal) => return Ok(Effect::Refuses(refusal)),
+        let machine = self.doors.id_at(place);
+        let asks = Command::Post(Entry::Call, DoorContent::CodeLength);
+        let Answer::Post(posted) = self.tell(place, asks)? else {
+            unreachable!()
+        };
+        let request = match posted {
+            Ok(number) => number,
+            Err(refused) => return Ok(Effect::Refuses(refused.refusal)),
         };
         self.run_until_idle()?;
-        let digits = self.collect(place, tag);
+        let collected = self.tell(place, Command::Collect(Tag { machine, request }))?;
+        let digits = length_in(&collected);
         let text = code_length(self.alloc, name, digits)?;
         Ok(Effect::Printed(Text::from(text)))
     }
@@ -206,50 +208,21 @@ impl Script {
         }
     }
 
-    /// Presses a button of the door at a place, and answers why that is refused, if it is.
-    fn press(&mut self, place: usize, digit: u8) -> Result<Option<Refusal>, AllocError>
+    /// Tells the door at a place a command, and answers its answer. From then on the door may be ready.
+    fn tell(
+        &mut self,
+        place: usize,
+        command: Command<DoorContent>,
+    ) -> Result<DoorAnswer, AllocError>
         requires { place < length self.old.doors }
-        ensures refusal { IfOk result (λ refusal. (d : NamedDoor) → refusal ≡ refusal_of (press_of digit (slice_index_or self.old.doors place d)).0) }
-        ensures pressed { OnOk result ((d : NamedDoor) → self.new ≡ record self.old { doors = slice_set self.old.doors place (pressed_door digit (slice_index_or self.old.doors place d)) }) }
+        ensures answer { IfOk result (λ answer. (d : NamedDoor) → answer ≡ (told_of command (slice_index_or self.old.doors place d)).0) }
+        ensures told { OnOk result ((d : NamedDoor) → self.new ≡ record self.old { doors = slice_set self.old.doors place (told_door command (slice_index_or self.old.doors place d)) }) }
     {
-        let refusal = self.doors.press_at(place, digit)?;
-        let (from, until) = widened(self.from, self.until, place);
-        self.from = from;
-        self.until = until;
-        Ok(refusal)
-    }
-
-    /// Asks the door at a place how long its code is, and answers the tag of the call, or why that is
-    /// refused.
-    fn ask(&mut self, place: usize) -> Result<Result<Tag, Refusal>, AllocError>
-        requires { place < length self.old.doors }
-        ensures answer { IfOk result (λ answer. (d : NamedDoor) → answer ≡ tag_of (slice_index_or self.old.doors place d).machine.id (ask_of (slice_index_or self.old.doors place d)).0) }
-        ensures asked { OnOk result ((d : NamedDoor) → self.new ≡ record self.old { doors = slice_set self.old.doors place (asked_door (slice_index_or self.old.doors place d)) }) }
-    {
-        let answer = self.doors.ask_at(place)?;
+        let answer = self.doors.tell_at(place, command)?;
         let (from, until) = widened(self.from, self.until, place);
         self.from = from;
         self.until = until;
         Ok(answer)
-    }
-
-    /// Collects the reply to the call of a tag at the door at a place, and answers the length that it says.
-    fn collect(&mut self, place: usize, tag: Tag) -> Option<usize>
-        requires { place < length self.old.doors }
-        ensures digits { (d : NamedDoor) → result ≡ collected_length (door_collect_of tag (slice_index_or self.old.doors place d)).0 }
-        ensures collected { (d : NamedDoor) → self.new ≡ record self.old { doors = slice_set self.old.doors place (collected_door tag (slice_index_or self.old.doors place d)) } }
-    {
-        self.doors.collect_at(place, tag)
-    }
-
-    /// Stops the door at a place for a reason, and answers why that is refused, if it is. From then on
-    /// the door rests.
-    fn stop(&mut self, place: usize, reason: Reason) -> Option<Refusal>
-        requires { place < length self.old.doors }
-        ensures refusal { (d : NamedDoor) → result ≡ stop_refusal_of (door_stop_of reason (slice_index_or self.old.doors place d)).0 }
-        ensures ended { (d : NamedDoor) → self.new ≡ record self.old { doors = slice_set self.old.doors place (ended_door reason (slice_index_or self.old.doors place d)) } }
-    {
-        self.doors.stop_at(place, reason)
     }
 
     /// Goes to a moment and ticks each door at it, and answers how many time-outs expire. From then on any

@@ -7,12 +7,12 @@ use smallvec::SmallVec;
 use std::alloc::{AllocError, Global};
 use std::marker::Model;
 
-/// A list in the making, for which the room is got first: after that no call can fail.
+/// A list in the making, for which memory is reserved first: after that no call can fail.
 ///
 /// Ours: docs/DECISIONS.md, Small vectors want a blank element.
 #[derive(Debug, Drop)]
 pub struct SmallListBuilder<T> {
-    // Each is `Some`, as in the list that they become. The room is the capacity that is left.
+    // Each is `Some`, as in the list that they become. Reserved is the capacity that is left.
     elements: SmallVec<Option<T>, 4>,
 }
 
@@ -30,7 +30,7 @@ impl<T> Model for SmallListBuilder<T> {
 }
 
 impl<T: Drop> SmallListBuilder<T> {
-    /// No element yet, and room for so many, at least four. For up to four this takes no memory. Where
+    /// No element yet, and places reserved for so many, at least four. For up to four this takes no memory. Where
     /// memory is wanted and there is none, there is no list.
     pub fn with_reserved(alloc: Global, count: usize) -> Result<SmallListBuilder<T>, AllocError>
         ensures reserved { IfOk result (λ builder. builder ≡ record { items = []; reserved = max 4 count }) }
@@ -42,7 +42,7 @@ impl<T: Drop> SmallListBuilder<T> {
         })
     }
 
-    /// Adds an element at the end, in room that was got before. It cannot fail.
+    /// Adds an element at the end, in a place that was reserved. It cannot fail.
     pub fn push(&mut self, element: T)
         requires { 0 < self.old.reserved }
         ensures pushed { self.new ≡ with_element self.old element }

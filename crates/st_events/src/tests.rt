@@ -37,16 +37,19 @@ fn text_of(rt: &impl Abort, alloc: Global, refusal: Refusal) -> String {
     }
 }
 
-/// Room for so many numbers. Where memory was refused, it is got again.
+/// A list in the making, reserved for so many numbers. Where memory was refused, it is asked for again.
 fn room_for(rt: &impl Abort, alloc: Global, count: usize) -> SmallListBuilder<u64>
     ensures { result ≡ record { items = []; reserved = max 4 count } }
 {
     match SmallListBuilder::with_reserved(alloc, count) {
         Ok(builder) => builder,
         Err(_) => {
-            // Room for four lies in the list itself.
+            // Four lie in the list itself.
             assert!(rt; count > 4);
-            SmallListBuilder::with_reserved(alloc, count).expect(rt, "one allocation alone is refused")
+            SmallListBuilder::with_reserved(alloc, count).expect(
+                rt,
+                "one allocation alone is refused",
+            )
         }
     }
 }

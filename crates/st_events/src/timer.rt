@@ -9,6 +9,6 @@ pub enum Timer {
     Event,
     /// That of the state: a state change cancels it. Manual: `state_timeout()`.
     State,
-    /// One of this name: nothing but a request cancels it. Manual: `generic_timeout()`.
+    /// One of this name: nothing but a setting of it cancels it. Manual: `generic_timeout()`.
     Named(u32),
 }

@@ -18,7 +18,7 @@ pub struct EventQueue<E> {
     list: Vec<E>,
     // How many events stand before the cursor.
     at: usize,
-    // How many nodes are ready: the list has room for so many events more.
+    // How many nodes are ready: for so many events more the list has memory.
     ready: usize,
 }
 

@@ -124,7 +124,7 @@ fn a_staged_event_takes_no_memory(rt: HostRuntime) {
     // A smaller count makes no node and takes none away.
     stage(&rt, &mut queue, 1);
     assert_eq!(rt; queue.staged(), 3);
-    // Each push that takes memory keeps the room of the three.
+    // Each push that takes memory keeps the three nodes.
     for event in ['a', 'b', 'c', 'd', 'e', 'f'] {
         push(&rt, &mut queue, event);
         assert_eq!(rt; queue.staged(), 3);

@@ -5,7 +5,7 @@ use Rattle.st_requests.specs.declared.request.Request.{Request}
 use Rattle.st_requests.specs.Requests.{with_answers, taken_by}
 
 module _ {C : Type 0} where
-  -- some replies are done; those that are left are to be done, and there is room for their tags
+  -- some replies are done; those that are left are to be done, and for their tags memory is reserved
   pub record AnsweredSoFar (old : List (Request C)) (replies : List (Tag × C)) (before : List Tag) (requests : List (Request C)) (listed : List Tag) (capacity : ℕ)
       (left : List (Tag × C)) : Type 0 where
     pub all : with_answers requests (reverse left) ≡ with_answers old replies

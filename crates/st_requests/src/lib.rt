@@ -3,14 +3,14 @@
 #![tactic(auto)]
 
 mod collected;
-mod request_state;
 mod request;
+mod request_state;
 mod requests;
 #[cfg(test)]
 mod tests;
 
 pub use collected::Collected;
-pub use request_state::RequestState;
 pub use request::Request;
+pub use request_state::RequestState;
 pub use requests::Requests;
 pub use st_events::{Reason, Replies, Tag};

@@ -3,7 +3,7 @@ ghost use Rattle.std.specs.Prelude.{◌≡◌, ◌+◌, ◌≤◌, ◌++◌, [],
 ghost use Rattle.st_events.specs.Rows.{RepliesFit};
 ghost use Rattle.st_requests.specs.Requests.{is_for, held_for, reply_of, with_answer, with_answers, taken_by, is_open, collected_of, without_kept, without_request, closed_by};
 
-use crate::{Collected, RequestState, Request};
+use crate::{Collected, Request, RequestState};
 use st_events::{Reason, Replies, Tag};
 use std::alloc::{AllocError, Global};
 use std::marker::Model;
@@ -106,7 +106,7 @@ impl<C: Drop> Requests<C> {
     }
 
     /// Answers requests, each as `answer` does, in the order of the replies, and adds the tags whose
-    /// request was open to a list, in room that was got before. It takes no memory.
+    /// request was open to a list, in memory that was reserved. It takes none.
     ///
     /// Where a request is not open when its reply comes, the content is let go, its tag is not listed,
     /// and what is held for it stays.

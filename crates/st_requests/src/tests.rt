@@ -38,7 +38,7 @@ fn open(rt: &impl Abort, requests: &mut Requests<u32>, tag: Tag)
     }
 }
 
-/// Room for so many tags. Where memory was refused, it is got again.
+/// A list that is reserved for so many tags. Where memory was refused, it is asked for again.
 fn room_for(rt: &impl Abort, alloc: Global, count: usize) -> Vec<Tag>
     ensures empty { result.items ≡ [] }
     ensures room { vec_capacity result ≡ count }

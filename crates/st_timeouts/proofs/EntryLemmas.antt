@@ -140,7 +140,7 @@ module _ {C : Type 0} where
   room_if None reserved h (inr k) = k
   room_if (Some one) reserved h k = cc
 
-  -- where a timer that is set did not run, there is room
+  -- where a timer that is set did not run, one more is reserved for
   pub room_left : (timer : Timer) (listed : List (Listed C)) (reserved : ℕ) → is_some (content_of timer listed) ≡ false
       → (runs timer listed ≡ true) ⊎ (0 < reserved) → 0 < reserved
   room_left timer listed reserved h k = room_if (running_of timer (all_of listed)) reserved h k

@@ -46,7 +46,7 @@ module _ {C : Type 0} where
   is_before_any one None = true
   is_before_any one (Some other) = is_before one other
 
-  -- what is kept: each timer once, and room for so many more
+  -- what is kept: each timer once, and memory for so many more
   pub record IsSound (entries : List (Entry C)) (ready capacity : ℕ) : Type 0 where
     pub one_each : OneEach (all_of (map listed_of entries))
     pub fits : length entries + ready ≤ capacity

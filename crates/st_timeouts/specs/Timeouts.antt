@@ -10,7 +10,7 @@ pub record Listed (C : Type 0) : Type 0 where
   pub running : Running C
   pub expired : Bool
 
--- the running time-outs in the order of their requests, and for how many more there is room
+-- the running time-outs in the order in which they were set, and how many more are reserved for
 pub record Timeouts (C : Type 0) : Type 0 where
   pub listed : List (Listed C)
   pub reserved : ℕ

@@ -45,7 +45,7 @@ fn readable(rt: &impl Abort, timeouts: &Timeouts<char>) -> Seen {
     }
 }
 
-/// Makes room. A call that finds no memory changes nothing that can be read, and is made again.
+/// Reserves for so many. A call that finds no memory changes nothing that can be read, and is made again.
 fn reserve_for(rt: &impl Abort, timeouts: &mut Timeouts<char>, count: usize)
     ensures { count ≤ timeouts.new.reserved }
 {
@@ -61,7 +61,7 @@ fn reserve_for(rt: &impl Abort, timeouts: &mut Timeouts<char>, count: usize)
     }
 }
 
-/// Sets a timer, and makes room for it before.
+/// Sets a timer, and reserves for it before.
 fn set(
     rt: &impl Abort,
     timeouts: &mut Timeouts<char>,

@@ -1,4 +1,4 @@
-//! The running time-outs: in the order of their requests, searched for what is due.
+//! The running time-outs: in the order in which they were set, searched for what is due.
 ghost use Rattle.std.specs.Prelude.{◌≡◌, ◌+◌, ◌<◌, ◌≤◌, ◌^◌, ◌⊎◌, true, [], length, map, max, is_some, option_copied, position, count_by, Some, if◌then◌else◌, IsOk, IfOk, IfSome, OnOk, OnErr};
 ghost use Rattle.std.specs.Option.{option_map};
 ghost use Rattle.std.specs.List.{find};
@@ -13,7 +13,7 @@ use st_events::{PlainList, Timer};
 use std::alloc::{AllocError, Global};
 use std::marker::Model;
 
-/// The running time-outs of one machine, each timer at most once, in the order of their requests.
+/// The running time-outs of one machine, each timer at most once, in the order in which they were set.
 ///
 /// Only `reserve` and `list` take memory: a `set` uses the place of the timer's old time-out, or one
 /// that was reserved.
@@ -40,7 +40,7 @@ impl<C> Model for Timeouts<C> {
 }
 
 impl<C> Timeouts<C> {
-    /// No time-out, and no room. It takes no memory.
+    /// No time-out, and none reserved for. It takes no memory.
     ///
     /// Manual: `timeout_action()`.
     pub fn new(alloc: Global) -> Timeouts<C>
@@ -118,8 +118,8 @@ impl<C> Timeouts<C> {
         self.content(timer, number).is_some()
     }
 
-    /// The running time-outs in the order of their requests: timer, number of the event, and when it is due.
-    /// Where memory is wanted and there is none, nothing is listed.
+    /// The running time-outs in the order in which they were set: timer, number of the event, and when it is
+    /// due. Where memory is wanted and there is none, nothing is listed.
     ///
     /// Manual: `timeout_action()`; ours: docs/TRANSITIONS.md, Time-outs.
     pub fn list(&self) -> Result<PlainList<(Timer, u64, Due)>, AllocError>
@@ -131,7 +131,7 @@ impl<C> Timeouts<C> {
 }
 
 impl<C: Drop> Timeouts<C> {
-    /// Makes room, so that `count` time-outs can be set that do not run. Where there is so much, it
+    /// Reserves so that `count` time-outs can be set that do not run. Where so much is reserved, it
     /// takes no memory. Where memory is wanted and there is none, nothing changes.
     ///
     /// Ours: docs/DECISIONS.md, Choices in the code.
@@ -149,7 +149,7 @@ impl<C: Drop> Timeouts<C> {
     }
 
     /// Sets a timer at a moment, for so many milliseconds: it is due that long after the moment, or at once
-    /// where there are none. It goes last in the order of requests. The timer's old time-out runs no more,
+    /// where there are none. It goes behind all others. The timer's old time-out runs no more,
     /// and its content comes back.
     ///
     /// Manual: `event_timeout()`, `state_timeout()`, `generic_timeout()`.

@@ -2,7 +2,7 @@ use Rattle.std.proofs.Common.{◌≡◌, false, true, ◌∷◌, arith, refl, sy
 use Rattle.std.proofs.lemmas.List.{reverse-reverse, length-reverse}
 use Rattle.st_actions.specs.Plan.{sets}
 use Rattle.st_actions.specs.Joined.{as_actions}
-use Rattle.st_actions.proofs.PlanLemmas.{last_is_first, one_fewer, goes_over, all_taken, enter_sets-reverse, request_over, request_later, enter_planned_whole}
+use Rattle.st_actions.proofs.PlanLemmas.{last_is_first, one_fewer, goes_over, all_taken, enter_sets-reverse, setting_over, setting_later, enter_planned_whole}
 use Rattle.st_actions.proofs.enter_planning.plan_enter.Goals as goal
 
 pub loop-action-init : goal.loop-action-init
@@ -11,14 +11,14 @@ loop-action-init g c =
     let back = reverse-reverse c.args.actions in
     let as_long = ap length turned ∙ length-reverse c.args.actions in
     let replies = ap (λ b. b.items) c.in-Ok.ensures.reserved in
-    let requests = ap (λ b. b.items) c.in-Ok-with_reserved.ensures.reserved in
-    let reply_room = ap (λ b. b.reserved) c.in-Ok.ensures.reserved in
-    let request_room = ap (λ b. b.reserved) c.in-Ok-with_reserved.ensures.reserved in
+    let settings = ap (λ b. b.items) c.in-Ok-with_reserved.ensures.reserved in
+    let replies_reserved = ap (λ b. b.reserved) c.in-Ok.ensures.reserved in
+    let settings_reserved = ap (λ b. b.reserved) c.in-Ok-with_reserved.ensures.reserved in
     record {
       replies = rw (replies, turned, back) refl;
-      requests = rw (requests, turned, back) refl;
-      reserved_for_replies = omega (arith, as_long, reply_room, c.len-count.ensures.length);
-      reserved_for_settings = omega (arith, as_long, request_room, c.len-count.ensures.length);
+      settings = rw (settings, turned, back) refl;
+      reserved_for_replies = omega (arith, as_long, replies_reserved, c.len-count.ensures.length);
+      reserved_for_settings = omega (arith, as_long, settings_reserved, c.len-count.ensures.length);
     }
 
 pub loop-action-smaller-in-Reply : goal.loop-action-smaller-in-Reply
@@ -46,7 +46,7 @@ loop-action-preserved-in-Reply g c =
     let reserved = ap (λ b. b.reserved) c.push.ensures.pushed in
     record {
       replies = goes_over _ _ _ _ (c.in-Reply.tag, c.in-Reply.content) (ap (λ b. b.items) c.push.ensures.pushed) (rw next at kept.replies);
-      requests = rw next at kept.requests;
+      settings = rw next at kept.settings;
       reserved_for_replies = omega (arith, fewer, reserved, kept.reserved_for_replies);
       reserved_for_settings = omega (arith, fewer, kept.reserved_for_settings);
     }
@@ -58,12 +58,12 @@ loop-action-preserved g c =
     let next = last_is_first _ _ _ c.in-Some.ensures.popped ∙ ap (λ action. action ∷ reverse c.pop.new.self) c.in-Hibernate.is in
     record {
       replies = rw next at kept.replies;
-      requests = rw next at kept.requests;
+      settings = rw next at kept.settings;
       reserved_for_replies = omega (arith, fewer, kept.reserved_for_replies);
       reserved_for_settings = omega (arith, fewer, kept.reserved_for_settings);
     }
 
--- the request is the last of its timer
+-- the setting is the last of its timer
 pub push-requires-then-not-sets : goal.push-requires-then-not-sets
 push-requires-then-not-sets g c =
     let fewer = one_fewer _ _ _ c.in-Some.ensures.popped in
@@ -79,13 +79,13 @@ loop-action-preserved-then-not-sets g c =
     let reserved = ap (λ b. b.reserved) c.push-then-not-sets.ensures.pushed in
     record {
       replies = rw next at kept.replies;
-      requests = request_over c.in-Set.timer c.in-Set.time c.in-Set.content _ _ (as_actions (reverse c.pop.new.self)) _ last
-          (ap (λ b. b.items) c.push-then-not-sets.ensures.pushed) (rw next at kept.requests);
+      settings = setting_over c.in-Set.timer c.in-Set.time c.in-Set.content _ _ (as_actions (reverse c.pop.new.self)) _ last
+          (ap (λ b. b.items) c.push-then-not-sets.ensures.pushed) (rw next at kept.settings);
       reserved_for_replies = omega (arith, fewer, kept.reserved_for_replies);
       reserved_for_settings = omega (arith, fewer, reserved, kept.reserved_for_settings);
     }
 
--- a later request of its timer decides
+-- a later setting of its timer decides
 pub loop-action-preserved-else-not-sets : goal.loop-action-preserved-else-not-sets
 loop-action-preserved-else-not-sets g c =
     let kept = c.loop-action.invariant in
@@ -95,7 +95,7 @@ loop-action-preserved-else-not-sets g c =
     enter_sets-reverse c.in-Set.timer c.pop.new.self ∙ (sym c.sets.ensures ∙ c.if-not-sets.false) in
     record {
       replies = rw next at kept.replies;
-      requests = request_later c.in-Set.timer c.in-Set.time c.in-Set.content _ (as_actions (reverse c.pop.new.self)) _ later (rw next at kept.requests);
+      settings = setting_later c.in-Set.timer c.in-Set.time c.in-Set.content _ (as_actions (reverse c.pop.new.self)) _ later (rw next at kept.settings);
       reserved_for_replies = omega (arith, fewer, kept.reserved_for_replies);
       reserved_for_settings = omega (arith, fewer, kept.reserved_for_settings);
     }
@@ -104,7 +104,7 @@ pub returns-clause-planned : goal.returns-clause-planned
 returns-clause-planned g c =
     let kept = c.loop-action.invariant in
     let empty = c.in_default-pop.ensures.end.0 refl in
-    enter_planned_whole c.args.actions c.finish-replies.result c.new-inserts.result c.finish-requests.result
+    enter_planned_whole c.args.actions c.finish-replies.result c.new-inserts.result c.finish-settings.result
     (c.finish-replies.ensures ∙ all_taken _ _ (rw empty at kept.replies))
     c.new-inserts.ensures
-    (c.finish-requests.ensures ∙ all_taken _ _ (rw empty at kept.requests))
+    (c.finish-settings.ensures ∙ all_taken _ _ (rw empty at kept.settings))

@@ -7,9 +7,9 @@ use Rattle.st_actions.proofs.enter_planning.plan_enter.Given as goal
 abbrev pub invariant-loop-action : goal.invariant-loop-action
 invariant-loop-action g l = record {
   replies : l.replies.items ++ replies_of (as_actions (reverse l.actions)) ≡ replies_of (as_actions l.fn.actions);
-  requests : l.requests.items ++ settings_of (as_actions (reverse l.actions)) ≡ settings_of (as_actions l.fn.actions);
+  settings : l.settings.items ++ settings_of (as_actions (reverse l.actions)) ≡ settings_of (as_actions l.fn.actions);
   reserved_for_replies : length l.actions ≤ l.replies.reserved;
-  reserved_for_settings : length l.actions ≤ l.requests.reserved;
+  reserved_for_settings : length l.actions ≤ l.settings.reserved;
 }
 
 abbrev pub decreases-loop-action : goal.decreases-loop-action

@@ -1,6 +1,6 @@
 use Rattle.std.proofs.Common.{arith, ap}
 use Rattle.st_actions.proofs.PlanLemmas.{joined_whole}
-use Rattle.st_actions.proofs.JoinLemmas.{room_behind, both_moved, no_more_remain}
+use Rattle.st_actions.proofs.JoinLemmas.{reserved_behind, both_moved, no_more_remain}
 use Rattle.st_actions.proofs.joining.join.Goals as goal
 
 pub move_all-requires : goal.move_all-requires
@@ -8,29 +8,29 @@ move_all-requires g c = (c.requires.replies_fit, omega (arith, ap (λ b. b.reser
 
 pub move_all-requires-2 : goal.move_all-requires-2
 move_all-requires-2 g c =
-    let reserved = room_behind _ _ _ _ _ c.in-Ok.ensures.reserved (omega arith) c.move_all.ensures.moved in
+    let reserved = reserved_behind _ _ _ _ _ c.in-Ok.ensures.reserved (omega arith) c.move_all.ensures.moved in
     (c.requires.replies_fit, omega (arith, reserved))
 
 pub move_all-requires-3 : goal.move_all-requires-3
-move_all-requires-3 g c = (c.requires.inserts_fit, omega (arith, ap (λ b. b.reserved) c.in-Ok-room_for.ensures.reserved))
+move_all-requires-3 g c = (c.requires.inserts_fit, omega (arith, ap (λ b. b.reserved) c.in-Ok-reserved_for.ensures.reserved))
 
 pub move_all-requires-4 : goal.move_all-requires-4
 move_all-requires-4 g c =
-    let reserved = room_behind _ _ _ _ _ c.in-Ok-room_for.ensures.reserved (omega arith) c.move_all-3.ensures.moved in
+    let reserved = reserved_behind _ _ _ _ _ c.in-Ok-reserved_for.ensures.reserved (omega arith) c.move_all-3.ensures.moved in
     (c.requires.inserts_fit, omega (arith, reserved))
 
 pub move_remaining-requires : goal.move_remaining-requires
-move_remaining-requires g c = (c.requires.settings_fit, omega (arith, ap (λ b. b.reserved) c.in-Ok-room_for-2.ensures.reserved))
+move_remaining-requires g c = (c.requires.settings_fit, omega (arith, ap (λ b. b.reserved) c.in-Ok-reserved_for-2.ensures.reserved))
 
 pub move_all-requires-5 : goal.move_all-requires-5
 move_all-requires-5 g c =
     let few = no_more_remain c.args.first.requests c.args.second.requests in
-    let reserved = room_behind _ _ _ _ _ c.in-Ok-room_for-2.ensures.reserved few c.move_remaining.ensures.moved in
+    let reserved = reserved_behind _ _ _ _ _ c.in-Ok-reserved_for-2.ensures.reserved few c.move_remaining.ensures.moved in
     (c.requires.settings_fit, omega (arith, reserved))
 
 pub returns-clause-joined : goal.returns-clause-joined
 returns-clause-joined g c =
-    joined_whole c.args.first c.args.second c.finish-replies.result c.finish-inserts.result c.finish-requests.result
+    joined_whole c.args.first c.args.second c.finish-replies.result c.finish-inserts.result c.finish-settings.result
     (both_moved _ _ _ _ _ _ _ c.in-Ok.ensures.reserved c.move_all.ensures.moved c.move_all-2.ensures.moved c.finish-replies.ensures)
-    (both_moved _ _ _ _ _ _ _ c.in-Ok-room_for.ensures.reserved c.move_all-3.ensures.moved c.move_all-4.ensures.moved c.finish-inserts.ensures)
-    (both_moved _ _ _ _ _ _ _ c.in-Ok-room_for-2.ensures.reserved c.move_remaining.ensures.moved c.move_all-5.ensures.moved c.finish-requests.ensures)
+    (both_moved _ _ _ _ _ _ _ c.in-Ok-reserved_for.ensures.reserved c.move_all-3.ensures.moved c.move_all-4.ensures.moved c.finish-inserts.ensures)
+    (both_moved _ _ _ _ _ _ _ c.in-Ok-reserved_for-2.ensures.reserved c.move_remaining.ensures.moved c.move_all-5.ensures.moved c.finish-settings.ensures)

@@ -1,7 +1,7 @@
 use Rattle.std.proofs.Common.{◌≡◌, true, false, ◌∷◌, arith, refl, sym, ap, ◌∙◌, length, reverse}
 use Rattle.std.proofs.lemmas.List.{reverse-reverse, length-reverse}
 use Rattle.st_actions.specs.Plan.{sets}
-use Rattle.st_actions.proofs.PlanLemmas.{last_is_first, one_fewer, goes_over, all_taken, sets-reverse, request_over, request_later, planned_whole}
+use Rattle.st_actions.proofs.PlanLemmas.{last_is_first, one_fewer, goes_over, all_taken, sets-reverse, setting_over, setting_later, planned_whole}
 use Rattle.st_actions.proofs.planning.plan.Goals as goal
 
 pub loop-action-init : goal.loop-action-init
@@ -11,18 +11,18 @@ loop-action-init g c =
     let as_long = ap length turned ∙ length-reverse c.args.actions in
     let replies = ap (λ b. b.items) c.in-Ok.ensures.reserved in
     let inserts = ap (λ b. b.items) c.in-Ok-with_reserved.ensures.reserved in
-    let reply_room = ap (λ b. b.reserved) c.in-Ok.ensures.reserved in
-    let insert_room = ap (λ b. b.reserved) c.in-Ok-with_reserved.ensures.reserved in
-    let requests = ap (λ b. b.items) c.in-Ok-with_reserved-2.ensures.reserved in
-    let request_room = ap (λ b. b.reserved) c.in-Ok-with_reserved-2.ensures.reserved in
+    let replies_reserved = ap (λ b. b.reserved) c.in-Ok.ensures.reserved in
+    let inserts_reserved = ap (λ b. b.reserved) c.in-Ok-with_reserved.ensures.reserved in
+    let settings = ap (λ b. b.items) c.in-Ok-with_reserved-2.ensures.reserved in
+    let settings_reserved = ap (λ b. b.reserved) c.in-Ok-with_reserved-2.ensures.reserved in
     record {
       replies = rw (replies, turned, back) refl;
       postpone = rw (turned, back) refl;
       inserts = rw (inserts, turned, back) refl;
-      requests = rw (requests, turned, back) refl;
-      reserved_for_replies = omega (arith, as_long, reply_room, c.len-count.ensures.length);
-      reserved_for_inserts = omega (arith, as_long, insert_room, c.len-count.ensures.length);
-      reserved_for_settings = omega (arith, as_long, request_room, c.len-count.ensures.length);
+      settings = rw (settings, turned, back) refl;
+      reserved_for_replies = omega (arith, as_long, replies_reserved, c.len-count.ensures.length);
+      reserved_for_inserts = omega (arith, as_long, inserts_reserved, c.len-count.ensures.length);
+      reserved_for_settings = omega (arith, as_long, settings_reserved, c.len-count.ensures.length);
     }
 
 pub loop-action-smaller-in-Reply : goal.loop-action-smaller-in-Reply
@@ -47,7 +47,7 @@ loop-action-preserved-in-Reply g c =
       replies = goes_over _ _ _ _ (c.in-Reply.tag, c.in-Reply.content) (ap (λ b. b.items) c.push.ensures.pushed) (rw next at kept.replies);
       postpone = rw next at kept.postpone;
       inserts = rw next at kept.inserts;
-      requests = rw next at kept.requests;
+      settings = rw next at kept.settings;
       reserved_for_replies = omega (arith, fewer, reserved, kept.reserved_for_replies);
       reserved_for_inserts = omega (arith, fewer, kept.reserved_for_inserts);
       reserved_for_settings = omega (arith, fewer, kept.reserved_for_settings);
@@ -62,7 +62,7 @@ loop-action-preserved-in-Postpone g c =
       replies = rw next at kept.replies;
       postpone = rw next at kept.postpone;
       inserts = rw next at kept.inserts;
-      requests = rw next at kept.requests;
+      settings = rw next at kept.settings;
       reserved_for_replies = omega (arith, fewer, kept.reserved_for_replies);
       reserved_for_inserts = omega (arith, fewer, kept.reserved_for_inserts);
       reserved_for_settings = omega (arith, fewer, kept.reserved_for_settings);
@@ -83,7 +83,7 @@ loop-action-preserved-in-NextEvent g c =
       replies = rw next at kept.replies;
       postpone = rw next at kept.postpone;
       inserts = goes_over _ _ _ _ _ (ap (λ b. b.items) c.push-in-NextEvent.ensures.pushed) (rw next at kept.inserts);
-      requests = rw next at kept.requests;
+      settings = rw next at kept.settings;
       reserved_for_replies = omega (arith, fewer, kept.reserved_for_replies);
       reserved_for_inserts = omega (arith, fewer, reserved, kept.reserved_for_inserts);
       reserved_for_settings = omega (arith, fewer, kept.reserved_for_settings);
@@ -98,13 +98,13 @@ loop-action-preserved g c =
       replies = rw next at kept.replies;
       postpone = rw next at kept.postpone;
       inserts = rw next at kept.inserts;
-      requests = rw next at kept.requests;
+      settings = rw next at kept.settings;
       reserved_for_replies = omega (arith, fewer, kept.reserved_for_replies);
       reserved_for_inserts = omega (arith, fewer, kept.reserved_for_inserts);
       reserved_for_settings = omega (arith, fewer, kept.reserved_for_settings);
     }
 
--- the request is the last of its timer
+-- the setting is the last of its timer
 pub push-requires-then-not-sets : goal.push-requires-then-not-sets
 push-requires-then-not-sets g c =
     let fewer = one_fewer _ _ _ c.in-Some.ensures.popped in
@@ -122,14 +122,14 @@ loop-action-preserved-then-not-sets g c =
       replies = rw next at kept.replies;
       postpone = rw next at kept.postpone;
       inserts = rw next at kept.inserts;
-      requests = request_over c.in-Set.timer c.in-Set.time c.in-Set.content _ _ (reverse c.pop.new.self) _ last
-          (ap (λ b. b.items) c.push-then-not-sets.ensures.pushed) (rw next at kept.requests);
+      settings = setting_over c.in-Set.timer c.in-Set.time c.in-Set.content _ _ (reverse c.pop.new.self) _ last
+          (ap (λ b. b.items) c.push-then-not-sets.ensures.pushed) (rw next at kept.settings);
       reserved_for_replies = omega (arith, fewer, kept.reserved_for_replies);
       reserved_for_inserts = omega (arith, fewer, kept.reserved_for_inserts);
       reserved_for_settings = omega (arith, fewer, reserved, kept.reserved_for_settings);
     }
 
--- a later request of its timer decides
+-- a later setting of its timer decides
 pub loop-action-preserved-else-not-sets : goal.loop-action-preserved-else-not-sets
 loop-action-preserved-else-not-sets g c =
     let kept = c.loop-action.invariant in
@@ -141,7 +141,7 @@ loop-action-preserved-else-not-sets g c =
       replies = rw next at kept.replies;
       postpone = rw next at kept.postpone;
       inserts = rw next at kept.inserts;
-      requests = request_later c.in-Set.timer c.in-Set.time c.in-Set.content _ (reverse c.pop.new.self) _ later (rw next at kept.requests);
+      settings = setting_later c.in-Set.timer c.in-Set.time c.in-Set.content _ (reverse c.pop.new.self) _ later (rw next at kept.settings);
       reserved_for_replies = omega (arith, fewer, kept.reserved_for_replies);
       reserved_for_inserts = omega (arith, fewer, kept.reserved_for_inserts);
       reserved_for_settings = omega (arith, fewer, kept.reserved_for_settings);
@@ -151,8 +151,8 @@ pub returns-clause-planned : goal.returns-clause-planned
 returns-clause-planned g c =
     let kept = c.loop-action.invariant in
     let empty = c.in_default-pop.ensures.end.0 refl in
-    planned_whole c.args.actions c.finish-replies.result c.loop-action.postpone c.finish-inserts.result c.finish-requests.result
+    planned_whole c.args.actions c.finish-replies.result c.loop-action.postpone c.finish-inserts.result c.finish-settings.result
     (c.finish-replies.ensures ∙ all_taken _ _ (rw empty at kept.replies))
     (rw empty at kept.postpone)
     (c.finish-inserts.ensures ∙ all_taken _ _ (rw empty at kept.inserts))
-    (c.finish-requests.ensures ∙ all_taken _ _ (rw empty at kept.requests))
+    (c.finish-settings.ensures ∙ all_taken _ _ (rw empty at kept.settings))

@@ -8,10 +8,10 @@ invariant-loop-action g l = record {
   replies : l.replies.items ++ replies_of (reverse l.actions) ≡ replies_of l.fn.actions;
   postpone : postpone_or l.postpone (reverse l.actions) ≡ postpone_of l.fn.actions;
   inserts : l.inserts.items ++ inserts_of (reverse l.actions) ≡ inserts_of l.fn.actions;
-  requests : l.requests.items ++ settings_of (reverse l.actions) ≡ settings_of l.fn.actions;
+  settings : l.settings.items ++ settings_of (reverse l.actions) ≡ settings_of l.fn.actions;
   reserved_for_replies : length l.actions ≤ l.replies.reserved;
   reserved_for_inserts : length l.actions ≤ l.inserts.reserved;
-  reserved_for_settings : length l.actions ≤ l.requests.reserved;
+  reserved_for_settings : length l.actions ≤ l.settings.reserved;
 }
 
 abbrev pub decreases-loop-action : goal.decreases-loop-action

@@ -1,8 +1,9 @@
 use Rattle.std.proofs.Common.{◌≡◌, ℕ, suc, ◌+◌, ◌-◌, ◌<◌, true, length, set, get_or, arith, ap, sym, ◌∙◌}
 use Rattle.std.proofs.lemmas.List.{length-set}
-use Rattle.st_door.specs.Doors.{is_ready_door, turned_door, run_until_idle}
+use Rattle.st_core.specs.declared.command.Command.TheVariants as command
+use Rattle.st_door.specs.Doors.{is_ready_door, told_door, run_until_idle}
 use Rattle.st_door.specs.Script.{turn_limit}
-use Rattle.st_door.proofs.IdleLemmas.{no_door, labels-more, labels-turned, rests-set, run-turned, run-rested, run-none}
+use Rattle.st_door.proofs.IdleLemmas.{no_door, labels-more, labels-told, rests-set, run-turned, run-rested, run-none}
 use Rattle.st_door.proofs.until_idle.run_until_idle.Goals as goal
 
 -- the first door that may be ready was, and had a turn
@@ -11,7 +12,7 @@ loop-first-preserved-then-is_ready_at c =
     let first : ℕ = c.loop-first.first in
     let doors = c.loop-first.doors in
     let invariant = c.loop-first.invariant in
-    let turned : c.turn_at.new.self ≡ set doors first (turned_door c.args.moment (get_or doors first no_door)) = c.in_ok-turn_at.ensures.turned no_door in
+    let turned : c.tell_at.new.self ≡ set doors first (told_door (command.Turn c.args.moment) (get_or doors first no_door)) = c.in_ok-tell_at.ensures.told no_door in
     let ready : is_ready_door (get_or doors first no_door) ≡ true = sym (c.is_ready_at.ensures no_door) ∙ c.if-is_ready_at.true in
     let low : first < c.args.until = omega arith in
     let within : first < length doors = omega (arith, invariant.within) in
@@ -22,7 +23,7 @@ loop-first-preserved-then-is_ready_at c =
       reached = invariant.reached;
       within = rw (turned, length-set) invariant.within;
       resting = rw turned (rests-set doors first c.args.until first _ (omega arith) low invariant.resting);
-      labels = rw turned (labels-more _ _ _ invariant.labels (labels-turned doors first c.args.moment no_door within));
+      labels = rw turned (labels-more _ _ _ invariant.labels (labels-told doors first no_door (command.Turn c.args.moment) within));
       rested = rw turned (sym (run-turned _ c.args.moment doors first c.args.until low within invariant.resting ready)
           ∙ (ap (λ (n : ℕ). run_until_idle n c.args.moment doors) left ∙ invariant.rested));
     }

@@ -1,27 +1,28 @@
-use Rattle.std.proofs.Common.{◌≡◌, ◌<◌, ◌^◌, length, ◌∙◌, arith, rules}
+use Rattle.std.proofs.Common.{◌≡◌, ◌<◌, ◌^◌, length, ap, ◌∙◌, arith, rules}
+use Rattle.st_door.specs.Doors.{count_in}
 use Rattle.st_door.proofs.IdleLemmas.{no_door}
 use Rattle.st_door.proofs.TickingLemmas.{labels-so_far, within-so_far, ticked-more, expired-more, ticked-all, expired-all}
 use Rattle.st_door.proofs.doors.Doors.tick.Goals as goal
 
-pub tick_at-requires : goal.tick_at-requires
-tick_at-requires c = within-so_far c.args.moment c.loop-place.place c.args.self.now c.loop-place.self c.loop-place.invariant.ticked (omega arith)
+pub tell_at-requires : goal.tell_at-requires
+tell_at-requires c = within-so_far c.args.moment c.loop-place.place c.args.self.now c.loop-place.self c.loop-place.invariant.ticked (omega arith)
 
 -- a tick found no memory, and left the doors as they were
-pub returns-in_err-tick_at-clause-same_labels : goal.returns-in_err-tick_at-clause-same_labels
-returns-in_err-tick_at-clause-same_labels c =
-    labels-so_far c.args.moment c.loop-place.place c.args.self.now c.tick_at.new.self (c.in_err-tick_at.ensures.unchanged ∙ c.loop-place.invariant.ticked)
+pub returns-in_err-answer-clause-same_labels : goal.returns-in_err-answer-clause-same_labels
+returns-in_err-answer-clause-same_labels c =
+    labels-so_far c.args.moment c.loop-place.place c.args.self.now c.tell_at.new.self (c.in_err-answer.ensures.unchanged ∙ c.loop-place.invariant.ticked)
 
 -- one door more was ticked
 pub loop-place-preserved : goal.loop-place-preserved
 loop-place-preserved c =
     let less : c.loop-place.place < length c.args.self.now = omega arith in
-    let count : c.from.result ≡ c.in_ok-tick_at.field-0 = search rules in
-    let small : c.from.result < 2 ^ 64 = search rules in
+    let count : c.from-expired.result ≡ c.count_in.result = search rules in
+    let small : c.from-expired.result < 2 ^ 64 = search rules in
     record {
-      ticked = ticked-more c.args.moment c.loop-place.place c.args.self.now c.loop-place.self c.tick_at.new.self no_door c.loop-place.invariant.ticked less
-          (c.in_ok-tick_at.ensures.ticked no_door);
-      counted = expired-more c.args.moment c.loop-place.place c.args.self.now c.loop-place.self c.loop-place.expired c.from.result no_door c.loop-place.invariant.ticked less
-          c.loop-place.invariant.counted (count ∙ c.in_ok-tick_at.ensures.count no_door);
+      ticked = ticked-more c.args.moment c.loop-place.place c.args.self.now c.loop-place.self c.tell_at.new.self no_door c.loop-place.invariant.ticked less
+          (c.in_ok-answer.ensures.told no_door);
+      counted = expired-more c.args.moment c.loop-place.place c.args.self.now c.loop-place.self c.loop-place.expired c.from-expired.result no_door c.loop-place.invariant.ticked less
+          c.loop-place.invariant.counted (count ∙ (c.count_in.ensures ∙ ap count_in (c.in_ok-answer.ensures.answer no_door)));
       bounded = omega (arith, small, c.loop-place.invariant.bounded);
     }
 

@@ -4,7 +4,7 @@ use Rattle.st_events.specs.Places.{present}
 use Rattle.st_events.proofs.PlacesLemmas.{present-more, full-more}
 use Rattle.st_events.proofs.small_list_builder.SmallListBuilder.push.Goals as goal
 
--- one place of the room is taken
+-- one of the reserved places is taken
 less_room : (used more before after : ℕ) → more ≡ used + 1 → after ≡ before → after - more ≡ before - used - 1
 less_room used more before after longer same = omega (arith, longer, same)
 

@@ -1,0 +1,2 @@
+-- The definitions of st_core computed on examples.
+pub mod WorkedExamples

@@ -1,0 +1,2 @@
+-- The module by which the worked examples and most tests run.
+pub mod WorkedTable

@@ -1,0 +1,145 @@
+//! What comes of a start, and copies by a module.
+use super::begin::{Begin, begun, start};
+use super::few::Few;
+use super::lamp::{Bulb, Lamp, Press};
+use super::machine::{Machine, timers_of};
+use super::seen::Seen;
+use super::shown::Shown::NotPosted;
+use super::table::Table;
+use super::table_machine::{at_rest, cast};
+use super::tell_refusals;
+use super::tested::does;
+use st_core::{Due, Module, Refusal, Start, Time, Timer};
+
+#[test]
+fn a_start_is_ignored_stopped_or_refused(rt: HostRuntime) {
+    let module = Table { number: 50 };
+    for first in [None, Some(7)] {
+        let begin = Begin {
+            module,
+            arg: 1,
+            now: 0,
+            first,
+            inserted: &[],
+            set: &[],
+        };
+        assert!(rt; matches!(start(&rt, rt.alloc(), &begin), Ok(Start::Ignored)));
+        let begin = Begin {
+            arg: 4,
+            now: 9_223_372_036_854_775_807,
+            ..begin
+        };
+        assert!(rt; matches!(start(&rt, rt.alloc(), &begin), Ok(Start::Stopped(4))));
+        for arg in [0, 4] {
+            let begin = Begin {
+                arg,
+                now: 9_223_372_036_854_775_808,
+                ..begin
+            };
+            match start(&rt, rt.alloc(), &begin) {
+                Err(refused) => {
+                    assert_eq!(rt; refused.refusal, Refusal::Moment);
+                    assert_eq!(rt; refused.value, module);
+                }
+                Ok(_) => panic!(rt; "a start at a moment out of range"),
+            }
+        }
+    }
+    tell_refusals(rt);
+}
+
+#[test]
+fn copies_are_equal(rt: HostRuntime) {
+    let table = Table { number: 50 };
+    assert_eq!(rt; table.copy_content(rt.alloc(), &3), Ok(3));
+    assert_eq!(rt; table.copy_data(rt.alloc(), &7), Ok(7));
+    let bulb = Bulb { left: 2 };
+    assert_eq!(rt;
+        Lamp.copy_content(rt.alloc(), &Press::Renew(bulb)),
+        Ok(Press::Renew(bulb))
+    );
+    assert_eq!(rt; Lamp.copy_data(rt.alloc(), &bulb), Ok(bulb));
+    tell_refusals(rt);
+}
+
+/// A start that inserts two events needs two numbers. Its moment is looked at first.
+#[test]
+fn inserts_of_a_start_need_numbers(rt: HostRuntime) {
+    let module = Table { number: 50 };
+    let begin = Begin {
+        module,
+        arg: 3,
+        now: 12,
+        first: Some(9_223_372_036_854_775_806),
+        inserted: &[9_223_372_036_854_775_806, 9_223_372_036_854_775_807],
+        set: &[],
+    };
+    let mut core = begun(&rt, rt.alloc(), &begin);
+    let seen = Seen {
+        is_ready: true,
+        waiting: 2,
+        ..at_rest(0, 7, 12)
+    };
+    assert_eq!(rt; core.see(), seen);
+    does(&rt, &mut core, cast(6), &NotPosted(Refusal::Exhausted, 6));
+    assert_eq!(rt; core.see(), seen);
+    for (now, refusal) in [
+        (12, Refusal::Exhausted),
+        (9_223_372_036_854_775_808, Refusal::Moment),
+    ] {
+        let begin = Begin {
+            now,
+            first: Some(9_223_372_036_854_775_807),
+            ..begin
+        };
+        match start(&rt, rt.alloc(), &begin) {
+            Err(refused) => {
+                assert_eq!(rt; refused.refusal, refusal);
+                assert_eq!(rt; refused.value, module);
+            }
+            Ok(_) => panic!(rt; "a start with too few numbers"),
+        }
+    }
+    tell_refusals(rt);
+}
+
+/// A start that sets three timers needs three numbers.
+#[test]
+fn time_outs_of_a_start_need_numbers(rt: HostRuntime) {
+    let module = Table { number: 50 };
+    let begin = Begin {
+        module,
+        arg: 7,
+        now: 12,
+        first: Some(9_223_372_036_854_775_806),
+        inserted: &[],
+        set: &[],
+    };
+    match start(&rt, rt.alloc(), &begin) {
+        Err(refused) => {
+            assert_eq!(rt; refused.refusal, Refusal::Exhausted);
+            assert_eq!(rt; refused.value, module);
+        }
+        Ok(_) => panic!(rt; "a start with too few numbers"),
+    }
+    let begin = Begin {
+        first: Some(9_223_372_036_854_775_805),
+        set: &[
+            (Timer::Named(1), Time::After(20)),
+            (Timer::Named(2), Time::After(10)),
+            (Timer::Named(3), Time::After(20)),
+        ],
+        ..begin
+    };
+    let core = begun(&rt, rt.alloc(), &begin);
+    assert_eq!(rt; core.see(), at_rest(0, 7, 12));
+    assert_eq!(rt;
+        timers_of(&rt, &core),
+        Few::of(&[
+            (Timer::Named(1), 9_223_372_036_854_775_805, Due::At(32)),
+            (Timer::Named(2), 9_223_372_036_854_775_806, Due::At(22)),
+            (Timer::Named(3), 9_223_372_036_854_775_807, Due::At(32)),
+        ])
+    );
+    tell_refusals(rt);
+}

@@ -1,0 +1,493 @@
+//! The module by a table: each content has its outcome, each argument its start.
+ghost use Rattle.std.specs.Prelude.{◌≡◌, true, [], ◌∷◌, IfOk, refl};
+ghost use Rattle.std.proofs.Common.{rules};
+ghost use Rattle.st_events.specs.declared.action.Action.TheVariants as action;
+ghost use Rattle.st_events.specs.declared.enter_action.EnterAction.TheVariants as enter_action;
+ghost use Rattle.st_events.specs.declared.time.Time.TheVariants as time;
+ghost use Rattle.st_events.specs.declared.timer.Timer.TheVariants as timer;
+ghost use Rattle.st_core_tests.specs.WorkedTable.{first_tag, second_tag, five_actions, two_inserts, three_settings, handled_by_replying, handled_by_entering, handled_by_setting, handled_anywhere, handled_at_first, handled_by_table, enters_by_table, entering_actions, five_enter_actions, changed_by_table, entered_by_table, begun_by_table};
+
+use st_core::{
+    Action, Actions, EnterAction, EnterActions, EnterOutcome, Init, Kind, MachineId, Module,
+    Outcome, Reason, Replies, Tag, Time, Timer,
+};
+use std::alloc::{AllocError, Global};
+
+/// The request to which the table replies.
+const TAG: Tag = Tag {
+    machine: MachineId { slot: 0, serial: 1 },
+    request: 1,
+};
+
+/// Another request to the same machine.
+const SECOND: Tag = Tag {
+    machine: MachineId { slot: 0, serial: 1 },
+    request: 2,
+};
+
+/// A request to another machine.
+const FOREIGN: Tag = Tag {
+    machine: MachineId { slot: 0, serial: 2 },
+    request: 1,
+};
+
+/// States, data and contents are numbers. The first state is 0, the first data 7, and `terminate`
+/// answers the data.
+///
+/// | Content | Outcome in the state 0 |
+/// |---|---|
+/// | 10 | keeps both, and is postponed |
+/// | 11 | leads to the state 1, is postponed, and inserts 20 as internal and 21 as a cast |
+/// | 12 | keeps both, is postponed, and inserts 20 as internal and 21 as a cast |
+/// | 13 | keeps both, with `Postpone(false)` and then `Postpone(true)` |
+/// | 14 | keeps both, with `Postpone(true)` and then `Postpone(false)` |
+///
+/// | Content | Outcome in each state, but 10 to 14 as above |
+/// |---|---|
+/// | 3 | leads to the state 1 |
+/// | 4 | keeps the state, with the data 9 |
+/// | 5 | keeps both, with a reply of 50 and a hibernation |
+/// | 6 | keeps both, with five hibernations |
+/// | 7 | keeps both, and inserts 20 as internal and 21 as a cast |
+/// | 8 | keeps both, and inserts 7 as internal and 21 as a cast |
+/// | 9 | leads to the state 0 |
+/// | 15 | stops for the reason 9 |
+/// | 16 | stops for the reason 9, with the data 8 |
+/// | 17 | stops for the reason 9, with a reply of 40 and the data 8 |
+/// | 22 | keeps both, and sets the state time-out and then the event time-out, each for 0 |
+/// | 23 | keeps both, and sets the event time-out and then the state time-out, each for 0 |
+/// | 24 | keeps both, and stops the named timer 5 |
+/// | 25 | keeps both, sets the named timer 1 for 0, and inserts 26 as internal |
+/// | 26 | keeps both, and sets the named timer 1 for 5 |
+/// | 27 | leads to the state 1, and sets the state time-out for 10 |
+/// | 28 | keeps both, and sets the state time-out for 5 |
+/// | 29 | keeps both, and sets the event time-out for 5 |
+/// | 30 | keeps both, and sets the named timer 2 for 0, with the content 10 |
+/// | 31 | keeps both, and sets the named timer 1 for 5 and then for 7 |
+/// | 32 | repeats both |
+/// | 33 | repeats the state, with the data 9 |
+/// | 34 | leads to the state 2, with the data 9 |
+/// | 35 | leads to the state 1, is postponed, and sets the named timer 1 for 5, the state time-out for 10 and the named timer 2 for 5 |
+/// | 36 | repeats both, and is postponed |
+/// | 37 | stops for the reason 9, with replies of 40 to the first request and of 51 to the second |
+/// | 38 | leads to the state 1, with a reply of 52 to the second request |
+/// | 39 | keeps both, with replies of 50 and then of 51 to the first request |
+/// | 40 | keeps both, with a reply of 53 to another machine's request |
+/// | other | keeps both |
+///
+/// The contents of time-outs are 0, where no other is told.
+///
+/// | Argument | Start |
+/// |---|---|
+/// | 0 | a machine |
+/// | 1 | ignored |
+/// | 2 | a machine, with five hibernations |
+/// | 3 | a machine, with `Postpone(true)`, and inserts 20 as internal and 21 as a cast |
+/// | 5 | a machine, and sets the named timer 5 for 5 |
+/// | 6 | a machine, and sets the named timer 1 for 4294967295 |
+/// | 7 | a machine, and sets the named timers 1, 2 and 3 for 20, 10 and 20 |
+/// | 8 | a machine, sets the named timer 1 for 0, and inserts 20 as internal and 21 as a cast |
+/// | other | stops, and is the reason |
+///
+/// The number tells one module from another. From 60 on a module has enter calls.
+///
+/// | Number | Outcome of `enter` |
+/// |---|---|
+/// | 61 | keeps the data where the old state is the new one, and else gives 31 from the state 0 and 32 from another |
+/// | 62 | keeps the data, with a reply of 60, and sets the state time-out for 20 and the named timer 1 for 9 |
+/// | 63 | keeps the data, with five hibernations |
+/// | 64 | gives the data 40 where it is handed 9, and else 41 |
+/// | 65 | keeps the data, with a reply of 62, where the old state is not the new one |
+/// | 70 | stops for the reason 4 |
+/// | 71 | stops for the reason 4, with a reply of 61 and the data 8, where the old state is not the new one |
+/// | 72 | stops for the reason 4 where the old state is not the new one |
+/// | other | keeps the data |
+#[derive(Clone, Copy, Debug, PartialEq, Eq)]
+pub struct Table {
+    pub number: u64,
+}
+
+/// Five hibernations, one action more than a list holds without memory.
+fn five(alloc: Global) -> Result<Actions<u32>, AllocError>
+    ensures { IfOk result (λ actions. actions ≡ five_actions) }
+{
+    let mut actions = Actions::new(alloc);
+    actions.push(Action::Hibernate)?;
+    actions.push(Action::Hibernate)?;
+    actions.push(Action::Hibernate)?;
+    actions.push(Action::Hibernate)?;
+    actions.push(Action::Hibernate)?;
+    Ok(actions)
+}
+
+/// One action.
+fn one(alloc: Global, first: Action<u32>) -> Result<Actions<u32>, AllocError>
+    ensures { IfOk result (λ actions. actions ≡ first ∷ []) }
+{
+    let mut actions = Actions::new(alloc);
+    actions.push(first)?;
+    Ok(actions)
+}
+
+/// Two actions.
+fn two(alloc: Global, first: Action<u32>, second: Action<u32>) -> Result<Actions<u32>, AllocError>
+    ensures { IfOk result (λ actions. actions ≡ first ∷ second ∷ []) }
+{
+    let mut actions = Actions::new(alloc);
+    actions.push(first)?;
+    actions.push(second)?;
+    Ok(actions)
+}
+
+/// Two events are inserted.
+fn inserts(alloc: Global) -> Result<Actions<u32>, AllocError>
+    ensures { IfOk result (λ actions. actions ≡ two_inserts) }
+{
+    two(
+        alloc,
+        Action::NextEvent(Kind::Internal, 20),
+        Action::NextEvent(Kind::Cast, 21),
+    )
+}
+
+/// The event is postponed, and two are inserted.
+fn postpone_and_inserts(alloc: Global) -> Result<Actions<u32>, AllocError>
+    ensures { IfOk result (λ actions. actions ≡ action.Postpone true ∷ two_inserts) }
+{
+    let mut actions = Actions::new(alloc);
+    actions.push(Action::Postpone(true))?;
+    actions.push(Action::NextEvent(Kind::Internal, 20))?;
+    actions.push(Action::NextEvent(Kind::Cast, 21))?;
+    Ok(actions)
+}
+
+/// A reply of 40.
+fn last_reply(alloc: Global) -> Result<Replies<u32>, AllocError>
+    ensures { IfOk result (λ replies. replies ≡ (first_tag, 40) ∷ []) }
+{
+    let mut replies = Replies::new(alloc);
+    replies.push((TAG, 40))?;
+    Ok(replies)
+}
+
+/// A timer is set to come with the content 0.
+fn set(timer: Timer, milliseconds: u32) -> Action<u32>
+    ensures { result ≡ action.Set timer (time.After milliseconds) 0 }
+{
+    Action::Set(timer, Time::After(milliseconds), 0)
+}
+
+/// The event is postponed, and three timers are set.
+fn postpone_and_settings(alloc: Global) -> Result<Actions<u32>, AllocError>
+    ensures { IfOk result (λ actions. actions ≡ action.Postpone true ∷ action.Set (timer.Named 1) (time.After 5) 0 ∷ action.Set timer.State (time.After 10) 0 ∷ action.Set (timer.Named 2) (time.After 5) 0 ∷ []) }
+{
+    let mut actions = two(alloc, Action::Postpone(true), set(Timer::Named(1), 5))?;
+    actions.push(set(Timer::State, 10))?;
+    actions.push(set(Timer::Named(2), 5))?;
+    Ok(actions)
+}
+
+/// Replies to both requests.
+fn two_replies(alloc: Global) -> Result<Replies<u32>, AllocError>
+    ensures { IfOk result (λ replies. replies ≡ (first_tag, 40) ∷ (second_tag, 51) ∷ []) }
+{
+    let mut replies = Replies::new(alloc);
+    replies.push((TAG, 40))?;
+    replies.push((SECOND, 51))?;
+    Ok(replies)
+}
+
+/// What `handle` answers to the contents that reply.
+fn handle_replying(
+    alloc: Global,
+    content: u32,
+    held: u32,
+) -> Result<Outcome<u32, u32, u32>, AllocError>
+    ensures { IfOk result (λ outcome. outcome ≡ handled_by_replying content held) }
+{
+    match content {
+        37 => Ok(Outcome::StopAndReply(9, two_replies(alloc)?, None)),
+        38 => Ok(Outcome::NextState(1, held, one(alloc, Action::Reply(SECOND, 52))?)),
+        39 => Ok(Outcome::KeepStateAndData(two(
+            alloc,
+            Action::Reply(TAG, 50),
+            Action::Reply(TAG, 51),
+        )?)),
+        40 => Ok(Outcome::KeepStateAndData(one(alloc, Action::Reply(FOREIGN, 53))?)),
+        _ => Ok(Outcome::KeepStateAndData(Actions::new(alloc))),
+    }
+}
+
+/// What `handle` answers to the contents that have a state entered.
+fn handle_entering(
+    alloc: Global,
+    content: u32,
+    held: u32,
+) -> Result<Outcome<u32, u32, u32>, AllocError>
+    ensures { IfOk result (λ outcome. outcome ≡ handled_by_entering content held) }
+{
+    match content {
+        32 => Ok(Outcome::RepeatStateAndData(Actions::new(alloc))),
+        33 => Ok(Outcome::RepeatState(9, Actions::new(alloc))),
+        34 => Ok(Outcome::NextState(2, 9, Actions::new(alloc))),
+        35 => Ok(Outcome::NextState(1, held, postpone_and_settings(alloc)?)),
+        36 => Ok(Outcome::RepeatStateAndData(one(alloc, Action::Postpone(true))?)),
+        _ => handle_replying(alloc, content, held),
+    }
+}
+
+/// What `handle` answers to the contents that set timers.
+fn handle_setting(
+    alloc: Global,
+    content: u32,
+    held: u32,
+) -> Result<Outcome<u32, u32, u32>, AllocError>
+    ensures { IfOk result (λ outcome. outcome ≡ handled_by_setting content held) }
+{
+    let actions = match content {
+        22 => two(alloc, set(Timer::State, 0), set(Timer::Event, 0))?,
+        23 => two(alloc, set(Timer::Event, 0), set(Timer::State, 0))?,
+        24 => one(alloc, Action::Set(Timer::Named(5), Time::Infinity, 0))?,
+        25 => two(
+            alloc,
+            set(Timer::Named(1), 0),
+            Action::NextEvent(Kind::Internal, 26),
+        )?,
+        26 => one(alloc, set(Timer::Named(1), 5))?,
+        27 => {
+            let actions = one(alloc, set(Timer::State, 10))?;
+            return Ok(Outcome::NextState(1, held, actions));
+        }
+        28 => one(alloc, set(Timer::State, 5))?,
+        29 => one(alloc, set(Timer::Event, 5))?,
+        30 => one(alloc, Action::Set(Timer::Named(2), Time::After(0), 10))?,
+        31 => two(alloc, set(Timer::Named(1), 5), set(Timer::Named(1), 7))?,
+        _ => return handle_entering(alloc, content, held),
+    };
+    Ok(Outcome::KeepStateAndData(actions))
+}
+
+/// Three timers are set, two of them for the same time.
+fn three(alloc: Global) -> Result<Actions<u32>, AllocError>
+    ensures { IfOk result (λ actions. actions ≡ three_settings) }
+{
+    let mut actions = two(alloc, set(Timer::Named(1), 20), set(Timer::Named(2), 10))?;
+    actions.push(set(Timer::Named(3), 20))?;
+    Ok(actions)
+}
+
+/// A timer is set, and two events are inserted.
+fn setting_and_inserts(alloc: Global) -> Result<Actions<u32>, AllocError>
+    ensures { IfOk result (λ actions. actions ≡ action.Set (timer.Named 1) (time.After 0) 0 ∷ two_inserts) }
+{
+    let mut actions = one(alloc, set(Timer::Named(1), 0))?;
+    actions.push(Action::NextEvent(Kind::Internal, 20))?;
+    actions.push(Action::NextEvent(Kind::Cast, 21))?;
+    Ok(actions)
+}
+
+/// What `handle` answers in any state, where the content is not one of those of the first state.
+fn handle_anywhere(
+    alloc: Global,
+    content: u32,
+    held: u32,
+) -> Result<Outcome<u32, u32, u32>, AllocError>
+    ensures { IfOk result (λ outcome. outcome ≡ handled_anywhere content held) }
+{
+    match content {
+        3 => Ok(Outcome::NextState(1, held, Actions::new(alloc))),
+        4 => Ok(Outcome::KeepState(9, Actions::new(alloc))),
+        5 => Ok(Outcome::KeepStateAndData(two(alloc, Action::Reply(TAG, 50), Action::Hibernate)?)),
+        6 => Ok(Outcome::KeepStateAndData(five(alloc)?)),
+        7 => Ok(Outcome::KeepStateAndData(inserts(alloc)?)),
+        8 => Ok(Outcome::KeepStateAndData(two(
+            alloc,
+            Action::NextEvent(Kind::Internal, 7),
+            Action::NextEvent(Kind::Cast, 21),
+        )?)),
+        9 => Ok(Outcome::NextState(0, held, Actions::new(alloc))),
+        15 => Ok(Outcome::Stop(9, None)),
+        16 => Ok(Outcome::Stop(9, Some(8))),
+        17 => Ok(Outcome::StopAndReply(9, last_reply(alloc)?, Some(8))),
+        _ => handle_setting(alloc, content, held),
+    }
+}
+
+/// What `handle` answers in the first state.
+fn handle_at_first(
+    alloc: Global,
+    content: u32,
+    held: u32,
+) -> Result<Outcome<u32, u32, u32>, AllocError>
+    ensures { IfOk result (λ outcome. outcome ≡ handled_at_first content held) }
+{
+    match content {
+        10 => Ok(Outcome::KeepStateAndData(one(alloc, Action::Postpone(true))?)),
+        11 => Ok(Outcome::NextState(1, held, postpone_and_inserts(alloc)?)),
+        12 => Ok(Outcome::KeepStateAndData(postpone_and_inserts(alloc)?)),
+        13 => Ok(Outcome::KeepStateAndData(two(
+            alloc,
+            Action::Postpone(false),
+            Action::Postpone(true),
+        )?)),
+        14 => Ok(Outcome::KeepStateAndData(two(
+            alloc,
+            Action::Postpone(true),
+            Action::Postpone(false),
+        )?)),
+        _ => handle_anywhere(alloc, content, held),
+    }
+}
+
+/// The actions of the module 62's enter call.
+fn entering(alloc: Global) -> Result<EnterActions<u32>, AllocError>
+    ensures { IfOk result (λ actions. actions ≡ entering_actions) }
+{
+    let mut actions = EnterActions::new(alloc);
+    actions.push(EnterAction::Reply(TAG, 60))?;
+    actions.push(EnterAction::Set(Timer::State, Time::After(20), 0))?;
+    actions.push(EnterAction::Set(Timer::Named(1), Time::After(9), 0))?;
+    Ok(actions)
+}
+
+/// Five hibernations of an enter call.
+fn five_entering(alloc: Global) -> Result<EnterActions<u32>, AllocError>
+    ensures { IfOk result (λ actions. actions ≡ five_enter_actions) }
+{
+    let mut actions = EnterActions::new(alloc);
+    actions.push(EnterAction::Hibernate)?;
+    actions.push(EnterAction::Hibernate)?;
+    actions.push(EnterAction::Hibernate)?;
+    actions.push(EnterAction::Hibernate)?;
+    actions.push(EnterAction::Hibernate)?;
+    Ok(actions)
+}
+
+/// The one reply of the module 71's enter call.
+fn entering_reply(alloc: Global) -> Result<Replies<u32>, AllocError>
+    ensures { IfOk result (λ replies. replies ≡ (first_tag, 61) ∷ []) }
+{
+    let mut replies = Replies::new(alloc);
+    replies.push((TAG, 61))?;
+    Ok(replies)
+}
+
+/// What `enter` answers where a state is come to from another.
+fn enter_changed(
+    alloc: Global,
+    number: u64,
+    old: u32,
+    held: u32,
+) -> Result<EnterOutcome<u32, u32>, AllocError>
+    ensures { IfOk result (λ outcome. outcome ≡ changed_by_table number old held) }
+{
+    match number {
+        61 => {
+            let data = if old == 0 { 31 } else { 32 };
+            Ok(EnterOutcome::KeepState(data, EnterActions::new(alloc)))
+        }
+        71 => Ok(EnterOutcome::StopAndReply(4, entering_reply(alloc)?, Some(8))),
+        72 => Ok(EnterOutcome::Stop(4, None)),
+        65 => {
+            let mut actions = EnterActions::new(alloc);
+            actions.push(EnterAction::Reply(TAG, 62))?;
+            Ok(EnterOutcome::KeepStateAndData(actions))
+        }
+        _ => Ok(EnterOutcome::KeepStateAndData(EnterActions::new(alloc))),
+    }
+}
+
+impl Module for Table {
+    type State = u32;
+
+    type Data = u32;
+
+    type Content = u32;
+
+    type Arg = u32;
+
+    ghost init_is = { λ table arg. begun_by_table arg };
+
+    ghost handle_is = { λ table kind content state held. handled_by_table content state held };
+
+    ghost enters_is = { λ table. enters_by_table table.number };
+
+    ghost enter_is = { λ table old state held. entered_by_table table.number old state held };
+
+    ghost terminate_is = { λ table reason state held. held };
+
+    fn init(&self, alloc: Global, arg: &u32) -> Result<Init<u32, u32, u32>, AllocError> {
+        match *arg {
+            0 => Ok(Init::Ok(0, 7, Actions::new(alloc))),
+            1 => Ok(Init::Ignore),
+            2 => Ok(Init::Ok(0, 7, five(alloc)?)),
+            3 => Ok(Init::Ok(0, 7, postpone_and_inserts(alloc)?)),
+            5 => Ok(Init::Ok(0, 7, one(alloc, set(Timer::Named(5), 5))?)),
+            6 => {
+                let latest = one(alloc, set(Timer::Named(1), 4_294_967_295))?;
+                Ok(Init::Ok(0, 7, latest))
+            }
+            7 => Ok(Init::Ok(0, 7, three(alloc)?)),
+            8 => Ok(Init::Ok(0, 7, setting_and_inserts(alloc)?)),
+            reason => Ok(Init::Stop(reason)),
+        }
+    }
+
+    fn handle(
+        &self,
+        alloc: Global,
+        _kind: Kind,
+        content: &u32,
+        state: u32,
+        held: &u32,
+    ) -> Result<Outcome<u32, u32, u32>, AllocError> {
+        if state == 0 {
+            handle_at_first(alloc, *content, *held)
+        } else {
+            handle_anywhere(alloc, *content, *held)
+        }
+    }
+
+    fn enters(&self) -> bool {
+        self.number >= 60
+    }
+
+    fn enter(
+        &self,
+        alloc: Global,
+        old: u32,
+        state: u32,
+        held: &u32,
+    ) -> Result<EnterOutcome<u32, u32>, AllocError> {
+        match self.number {
+            62 => Ok(EnterOutcome::KeepStateAndData(entering(alloc)?)),
+            63 => Ok(EnterOutcome::KeepStateAndData(five_entering(alloc)?)),
+            64 => {
+                let data = if *held == 9 { 40 } else { 41 };
+                Ok(EnterOutcome::KeepState(data, EnterActions::new(alloc)))
+            }
+            70 => Ok(EnterOutcome::Stop(4, None)),
+            number => {
+                if old == state {
+                    Ok(EnterOutcome::KeepStateAndData(EnterActions::new(alloc)))
+                } else {
+                    enter_changed(alloc, number, old, *held)
+                }
+            }
+        }
+    }
+
+    fn terminate(&self, _reason: Reason, _state: u32, held: &u32) -> u32 {
+        *held
+    }
+
+    fn copy_content(&self, _alloc: Global, content: &u32) -> Result<u32, AllocError> {
+        Ok(*content)
+    }
+
+    fn copy_data(&self, _alloc: Global, held: &u32) -> Result<u32, AllocError> {
+        Ok(*held)
+    }
+
+    ghost lawful = { Prim.search rules };
+}

@@ -1,0 +1,72 @@
+//! Calls of a machine: where one finds no memory, the machine is looked at, and the call is made again.
+use super::machine::{Machine, read_all};
+use super::seen::same;
+use super::shown::{Shown, agree, read};
+use super::told::{Told, are_commands, commands, without_memory};
+use st_core::{Answer, Refusal};
+use std::alloc::Global;
+use std::process::Abort;
+
+/// Makes the call of one command. A refusal changes nothing that can be read.
+fn try_tell<T: Machine>(
+    rt: &impl Abort,
+    machine: &mut T,
+    told: Told<T::Content>,
+) -> Answer<T::State, T::Content> {
+    let before = read_all(rt, machine);
+    let answer = machine.call(told);
+    if read(&answer).refusal().is_some() {
+        same(rt, &read_all(rt, machine), &before);
+    }
+    answer
+}
+
+/// Does one command by a call of its own. Where it finds no memory, the content comes back, and the
+/// same call is made again.
+pub fn tell<T: Machine>(
+    rt: &impl Abort,
+    machine: &mut T,
+    told: Told<T::Content>,
+) -> Answer<T::State, T::Content> {
+    let answer = try_tell(rt, machine, told);
+    if !read(&answer).found_no_memory() {
+        return answer;
+    }
+    agree(rt, &answer, &without_memory(told));
+    let again = try_tell(rt, machine, told);
+    assert!(rt; read(&again).takes_memory());
+    again
+}
+
+/// Does one command, and looks at its answer.
+pub fn does<T: Machine>(
+    rt: &impl Abort,
+    machine: &mut T,
+    told: Told<T::Content>,
+    wanted: &Shown<T::State, T::Content>,
+) {
+    let answer = tell(rt, machine, told);
+    agree(rt, &answer, wanted);
+}
+
+/// Does commands by one run. Where there is no memory for the answers, nothing that can be read
+/// has changed, the commands come back, and the same run is made again.
+pub fn run<T: Machine>(
+    rt: &impl Abort,
+    alloc: Global,
+    machine: &mut T,
+    steps: &[(Told<T::Content>, Shown<T::State, T::Content>)],
+) -> Vec<Answer<T::State, T::Content>> {
+    let before = read_all(rt, machine);
+    let refused = match machine.call_run(commands(rt, alloc, steps)) {
+        Ok(answers) => return answers,
+        Err(refused) => refused,
+    };
+    assert_eq!(rt; refused.refusal, Refusal::NoMemory);
+    same(rt, &read_all(rt, machine), &before);
+    assert!(rt; are_commands(refused.value.as_slice(), steps));
+    match machine.call_run(refused.value) {
+        Ok(answers) => answers,
+        Err(_) => panic!(rt; "one allocation alone is refused"),
+    }
+}

@@ -1,0 +1,94 @@
+//! Commands that can be told again.
+use super::room::room;
+use super::shown::Shown;
+use st_core::{Command, Entry, MachineId, Reason, Refusal, Tag};
+use std::alloc::Global;
+use std::process::Abort;
+
+pub const ID: MachineId = MachineId { slot: 0, serial: 1 };
+
+/// The tag of the request that a post with this number opens.
+pub fn tag(request: u64) -> Tag {
+    Tag {
+        machine: ID,
+        request,
+    }
+}
+
+/// A command that can be told again.
+#[derive(Clone, Copy, Debug)]
+pub enum Told<C> {
+    Post(Entry, C),
+    Tick(u64),
+    Turn(u64),
+    Reply(Tag, C),
+    Collect(Tag),
+    Stop(Reason),
+}
+
+/// What a command answers that finds no memory. A reply and a collect take none, so they always answer.
+pub fn without_memory<S, C: Copy>(told: Told<C>) -> Shown<S, C> {
+    match told {
+        Told::Post(_, content) => Shown::NotPosted(Refusal::NoMemory, content),
+        Told::Tick(_) => Shown::NotTicked(Refusal::NoMemory),
+        Told::Turn(_) => Shown::NotTurned(Refusal::NoMemory),
+        Told::Reply(_, _) => Shown::Replied(false),
+        Told::Collect(_) => Shown::Gone,
+        Told::Stop(_) => Shown::NotStopped(Refusal::NoMemory),
+    }
+}
+
+/// The command itself.
+fn command_of<C: Copy>(told: Told<C>) -> Command<C> {
+    match told {
+        Told::Post(entry, content) => Command::Post(entry, content),
+        Told::Tick(now) => Command::Tick(now),
+        Told::Turn(now) => Command::Turn(now),
+        Told::Reply(tag, content) => Command::Reply(tag, content),
+        Told::Collect(tag) => Command::Collect(tag),
+        Told::Stop(reason) => Command::Stop(reason),
+    }
+}
+
+/// Says whether it is that command.
+fn is_command<C: Copy + Eq>(command: &Command<C>, told: Told<C>) -> bool {
+    match (command, told) {
+        (Command::Post(entry, content), Told::Post(other_entry, other)) => {
+            *entry == other_entry && *content == other
+        }
+        (Command::Tick(now), Told::Tick(other)) => *now == other,
+        (Command::Turn(now), Told::Turn(other)) => *now == other,
+        (Command::Reply(tag, content), Told::Reply(other_tag, other)) => {
+            *tag == other_tag && *content == other
+        }
+        (Command::Collect(tag), Told::Collect(other)) => *tag == other,
+        (Command::Stop(reason), Told::Stop(other)) => *reason == other,
+        _ => false,
+    }
+}
+
+/// The commands of a run. Where memory was refused, room is got again.
+pub fn commands<S, C: Copy>(
+    rt: &impl Abort,
+    alloc: Global,
+    steps: &[(Told<C>, Shown<S, C>)],
+) -> Vec<Command<C>> {
+    let mut commands = room(rt, alloc, steps.len());
+    for (told, _) in steps {
+        assert!(rt; commands.push(command_of(*told)).is_ok());
+    }
+    commands
+}
+
+/// Says whether these are the commands of a run.
+pub fn are_commands<S, C: Copy + Eq>(
+    commands: &[Command<C>],
+    steps: &[(Told<C>, Shown<S, C>)],
+) -> bool {
+    for (command, (told, _)) in commands.iter().zip(steps.iter()) {
+        if !is_command(command, *told) {
+            return false;
+        }
+    }
+    commands.len() == steps.len()
+}

@@ -1,0 +1,43 @@
+//! What the answer to a command says of a door.
+ghost use Rattle.std.specs.Prelude.{◌≡◌};
+ghost use Rattle.st_door.specs.Doors.{refusal_in, count_in, length_in};
+
+use crate::{DoorContent, DoorState};
+use st_core::{Answer, Collected};
+use st_events::Refusal;
+
+/// What a door answers to a command.
+pub(crate) type DoorAnswer = Answer<DoorState, DoorContent>;
+
+/// Why a command is refused, if it is.
+pub(crate) fn refusal_in(answer: &DoorAnswer) -> Option<Refusal>
+    ensures { result ≡ refusal_in answer.now }
+{
+    match answer {
+        Answer::Post(Err(refused)) => Some(refused.refusal),
+        Answer::Tick(Err(refusal)) => Some(*refusal),
+        Answer::Turn(Err(refusal)) => Some(*refusal),
+        Answer::Stop(Err(refusal)) => Some(*refusal),
+        _ => None,
+    }
+}
+
+/// How many time-outs expire at a command: none but a tick has any.
+pub(crate) fn count_in(answer: &DoorAnswer) -> u64
+    ensures { result ≡ count_in answer.now }
+{
+    match answer {
+        Answer::Tick(Ok(count)) => *count,
+        _ => 0,
+    }
+}
+
+/// The length that a command brought, if it is a collect that brought one.
+pub(crate) fn length_in(answer: &DoorAnswer) -> Option<usize>
+    ensures { result ≡ length_in answer.now }
+{
+    match answer {
+        Answer::Collect(Collected::Reply(DoorContent::Length(digits))) => Some(*digits),
+        _ => None,
+    }
+}

@@ -1,0 +1,4 @@
+-- Scripts, doors and lines computed on examples by the definitions.
+pub mod WorkedScripts
+pub mod WorkedTurns
+pub mod WorkedTexts

@@ -1,0 +1,414 @@
+//! The door's callbacks, called as a machine calls them, row by row.
+
+use super::digits::{digits, has_digits};
+use super::tell_refusals;
+use st_door::{
+    Action, Actions, Digits, Door, DoorContent, DoorData, DoorState, EnterAction, EnterActions,
+    EnterOutcome, Init, Kind, MachineId, Module, Outcome, Reason, Tag, Time, Timer,
+};
+use std::alloc::{AllocError, Global};
+use std::io::Print;
+use std::process::Abort;
+
+/// What a door answers to a start.
+type Started = Init<DoorState, DoorData, DoorContent>;
+
+/// What a door answers to an event.
+type Handled = Outcome<DoorState, DoorData, DoorContent>;
+
+/// What a door answers where a state is entered.
+type Entered = EnterOutcome<DoorData, DoorContent>;
+
+/// The answer to a start. A call that finds no memory is made again.
+fn started(alloc: Global, code: &Digits) -> Result<Started, AllocError> {
+    match Door.init(alloc, code) {
+        Err(AllocError) => Door.init(alloc, code),
+        answer => answer,
+    }
+}
+
+/// The answer to an event. A call that finds no memory is made again.
+fn handled(
+    alloc: Global,
+    kind: Kind,
+    content: &DoorContent,
+    state: DoorState,
+    held: &DoorData,
+) -> Result<Handled, AllocError> {
+    match Door.handle(alloc, kind, content, state, held) {
+        Err(AllocError) => Door.handle(alloc, kind, content, state, held),
+        answer => answer,
+    }
+}
+
+/// The answer where a state is entered. A call that finds no memory is made again.
+fn entered(
+    alloc: Global,
+    old: DoorState,
+    state: DoorState,
+    held: &DoorData,
+) -> Result<Entered, AllocError> {
+    match Door.enter(alloc, old, state, held) {
+        Err(AllocError) => Door.enter(alloc, old, state, held),
+        answer => answer,
+    }
+}
+
+/// A copy of a content. A call that finds no memory is made again.
+fn copied_content(alloc: Global, content: &DoorContent) -> Result<DoorContent, AllocError> {
+    match Door.copy_content(alloc, content) {
+        Err(AllocError) => Door.copy_content(alloc, content),
+        answer => answer,
+    }
+}
+
+/// A copy of the data. A call that finds no memory is made again.
+fn copied_data(alloc: Global, held: &DoorData) -> Result<DoorData, AllocError> {
+    match Door.copy_data(alloc, held) {
+        Err(AllocError) => Door.copy_data(alloc, held),
+        answer => answer,
+    }
+}
+
+/// The code of each door here.
+const CODE: &[u8] = &[1, 2];
+
+/// A door's data with this code and these buttons.
+fn data_with(rt: &impl Abort, alloc: Global, buttons: &[u8]) -> DoorData {
+    let code = digits(rt, alloc, CODE);
+    let buttons = digits(rt, alloc, buttons);
+    DoorData { code, buttons }
+}
+
+/// The actions of an answer, where there is one at most.
+#[derive(Clone, Copy, PartialEq, Eq)]
+enum Asked {
+    Nothing,
+    Sets(Timer, Time, DoorContent),
+    Postpones,
+    Replies(Tag, DoorContent),
+    Else,
+}
+
+/// An answer but for its data.
+#[derive(Clone, Copy, PartialEq, Eq)]
+enum Answer {
+    /// The next state, and its data.
+    Goes(DoorState, Asked),
+    /// The state stays, and has this data.
+    Holds(Asked),
+    /// State and data stay.
+    Stays(Asked),
+    Else,
+}
+
+/// The actions of an answer to an event.
+fn action_of(actions: &Actions<DoorContent>) -> Asked {
+    match (actions.len(), actions.get(0)) {
+        (0, _) => Asked::Nothing,
+        (1, Some(Action::Set(timer, time, content))) => Asked::Sets(*timer, *time, *content),
+        (1, Some(Action::Postpone(true))) => Asked::Postpones,
+        (1, Some(Action::Reply(tag, content))) => Asked::Replies(*tag, *content),
+        _ => Asked::Else,
+    }
+}
+
+/// The actions of an answer to an enter call.
+fn enter_action_of(actions: &EnterActions<DoorContent>) -> Asked {
+    match (actions.len(), actions.get(0)) {
+        (0, _) => Asked::Nothing,
+        (1, Some(EnterAction::Set(timer, time, content))) => Asked::Sets(*timer, *time, *content),
+        _ => Asked::Else,
+    }
+}
+
+/// An event at a door with these buttons, its answer, and the buttons of its data, if it has some.
+#[derive(Clone, Copy)]
+struct Row {
+    kind: Kind,
+    content: DoorContent,
+    state: DoorState,
+    buttons: &'static [u8],
+    answer: Answer,
+    after: &'static [u8],
+}
+
+/// Sees that data has the code and these buttons.
+fn has(rt: &impl Abort, held: &DoorData, buttons: &[u8]) {
+    has_digits(rt, &held.code, CODE);
+    has_digits(rt, &held.buttons, buttons);
+}
+
+/// An answer to an event, where its data has the code and these buttons.
+fn answer_of(rt: &impl Abort, outcome: &Handled, buttons: &[u8]) -> Answer {
+    match outcome {
+        Outcome::NextState(state, held, actions) => {
+            has(rt, held, buttons);
+            Answer::Goes(*state, action_of(actions))
+        }
+        Outcome::KeepStateAndData(actions) => Answer::Stays(action_of(actions)),
+        _ => Answer::Else,
+    }
+}
+
+/// Sees that a door answers an event as its row says.
+fn holds(rt: &impl Abort, alloc: Global, row: Row) {
+    let held = data_with(rt, alloc, row.buttons);
+    let outcome = handled(alloc, row.kind, &row.content, row.state, &held);
+    let answer = answer_of(rt, &outcome.expect(rt, "memory"), row.after);
+    let (kind, content, state) = (row.kind, row.content, row.state);
+    assert!(rt; answer == row.answer, "{kind:?} {content:?} {state:?}");
+}
+
+/// A test of these rows.
+fn hold(rt: &(impl Abort + Print + AllocGlobal), rows: &[Row]) {
+    for row in rows {
+        holds(rt, rt.alloc(), *row);
+    }
+    tell_refusals(rt);
+}
+
+/// An answer to an enter call, where its data has the code and these buttons.
+fn enter_answer_of(rt: &impl Abort, outcome: &Entered, buttons: &[u8]) -> Answer {
+    match outcome {
+        EnterOutcome::KeepState(held, actions) => {
+            has(rt, held, buttons);
+            Answer::Holds(enter_action_of(actions))
+        }
+        EnterOutcome::KeepStateAndData(actions) => Answer::Stays(enter_action_of(actions)),
+        _ => Answer::Else,
+    }
+}
+
+/// Sees what a door with these buttons answers where a state is entered. Where it has data, that has no
+/// button.
+fn enters(
+    rt: &impl Abort,
+    alloc: Global,
+    old: DoorState,
+    state: DoorState,
+    buttons: &[u8],
+    wanted: Answer,
+) {
+    let held = data_with(rt, alloc, buttons);
+    let outcome = entered(alloc, old, state, &held).expect(rt, "memory");
+    let answer = enter_answer_of(rt, &outcome, &[]);
+    assert!(rt; answer == wanted, "{old:?} {state:?}");
+}
+
+/// A request.
+const TAG: Tag = Tag {
+    machine: MachineId { slot: 3, serial: 4 },
+    request: 5,
+};
+
+#[test]
+fn a_door_begins_locked(rt: HostRuntime) {
+    let code = digits(&rt, rt.alloc(), CODE);
+    let begun = started(rt.alloc(), &code).expect(&rt, "memory");
+    let Init::Ok(state, held, actions) = begun else {
+        panic!(rt; "no door");
+    };
+    assert_eq!(rt; state, DoorState::Locked);
+    has(&rt, &held, &[]);
+    assert!(rt; actions.is_empty());
+    tell_refusals(&rt);
+}
+
+/// A button at a locked door with these buttons, which goes to a state with those.
+fn button(
+    digit: u8,
+    buttons: &'static [u8],
+    state: DoorState,
+    after: &'static [u8],
+    asked: Asked,
+) -> Row {
+    Row {
+        kind: Kind::Cast,
+        content: DoorContent::Button(digit),
+        state: DoorState::Locked,
+        buttons,
+        answer: Answer::Goes(state, asked),
+        after,
+    }
+}
+
+#[test]
+fn a_button_counts_for_30000_milliseconds_while_the_door_is_locked(rt: HostRuntime) {
+    let time = Time::After(30_000);
+    let asked = Asked::Sets(Timer::Event, time, DoorContent::Nothing);
+    let rows = [
+        button(1, &[], DoorState::Locked, &[1], asked),
+        button(2, &[2], DoorState::Locked, &[2, 2], asked),
+        button(9, &[2, 1], DoorState::Locked, &[1, 9], asked),
+        button(1, &[3, 3], DoorState::Locked, &[3, 1], asked),
+    ];
+    hold(&rt, &rows);
+}
+
+#[test]
+fn the_last_digit_of_the_code_opens_the_door(rt: HostRuntime) {
+    let rows = [
+        button(2, &[1], DoorState::Open, &[], Asked::Nothing),
+        button(2, &[3, 1], DoorState::Open, &[], Asked::Nothing),
+    ];
+    hold(&rt, &rows);
+}
+
+#[test]
+fn a_button_of_an_open_door_is_postponed(rt: HostRuntime) {
+    for digit in [1, 2] {
+        let row = Row {
+            kind: Kind::Cast,
+            content: DoorContent::Button(digit),
+            state: DoorState::Open,
+            buttons: &[],
+            answer: Answer::Stays(Asked::Postpones),
+            after: &[],
+        };
+        holds(&rt, rt.alloc(), row);
+    }
+    tell_refusals(&rt);
+}
+
+/// The time-out of a timer at a door with the button 1.
+fn time_out(timer: Timer, state: DoorState, answer: Answer, after: &'static [u8]) -> Row {
+    Row {
+        kind: Kind::Timeout(timer),
+        content: DoorContent::Nothing,
+        state,
+        buttons: &[1],
+        answer,
+        after,
+    }
+}
+
+#[test]
+fn a_timeout_locks_the_door_or_forgets_its_buttons(rt: HostRuntime) {
+    let locked = Answer::Goes(DoorState::Locked, Asked::Nothing);
+    let stays = Answer::Stays(Asked::Nothing);
+    let rows = [
+        time_out(Timer::Event, DoorState::Locked, locked, &[]),
+        time_out(Timer::State, DoorState::Open, locked, &[1]),
+        time_out(Timer::Event, DoorState::Open, stays, &[]),
+        time_out(Timer::State, DoorState::Locked, stays, &[]),
+        time_out(Timer::Named(0), DoorState::Locked, stays, &[]),
+        time_out(Timer::Named(1), DoorState::Open, stays, &[]),
+    ];
+    hold(&rt, &rows);
+}
+
+#[test]
+fn a_locked_door_is_entered_with_no_button(rt: HostRuntime) {
+    let (locked, open) = (DoorState::Locked, DoorState::Open);
+    let wanted = Answer::Holds(Asked::Nothing);
+    assert!(rt; Door.enters());
+    enters(&rt, rt.alloc(), locked, locked, &[], wanted);
+    enters(&rt, rt.alloc(), open, locked, &[], wanted);
+    enters(&rt, rt.alloc(), open, locked, &[2, 1], wanted);
+    tell_refusals(&rt);
+}
+
+#[test]
+fn an_open_door_is_entered_for_10000_milliseconds(rt: HostRuntime) {
+    let time = Time::After(10_000);
+    let asked = Asked::Sets(Timer::State, time, DoorContent::Nothing);
+    let wanted = Answer::Stays(asked);
+    enters(
+        &rt,
+        rt.alloc(),
+        DoorState::Locked,
+        DoorState::Open,
+        &[],
+        wanted,
+    );
+    tell_refusals(&rt);
+}
+
+#[test]
+fn a_call_is_told_how_long_the_code_is(rt: HostRuntime) {
+    for state in [DoorState::Locked, DoorState::Open] {
+        let row = Row {
+            kind: Kind::Call(TAG),
+            content: DoorContent::CodeLength,
+            state,
+            buttons: &[1],
+            answer: Answer::Stays(Asked::Replies(TAG, DoorContent::Length(2))),
+            after: &[],
+        };
+        holds(&rt, rt.alloc(), row);
+    }
+    tell_refusals(&rt);
+}
+
+/// What changes nothing in any state.
+const ELSE: &[(Kind, DoorContent)] = &[
+    (Kind::Call(TAG), DoorContent::Button(1)),
+    (Kind::Call(TAG), DoorContent::Length(1)),
+    (Kind::Call(TAG), DoorContent::Nothing),
+    (Kind::Cast, DoorContent::CodeLength),
+    (Kind::Cast, DoorContent::Length(1)),
+    (Kind::Cast, DoorContent::Nothing),
+    (Kind::Info, DoorContent::Button(1)),
+    (Kind::Internal, DoorContent::Button(1)),
+];
+
+/// An event that changes nothing, at a door with the button 1.
+fn unchanging(kind: Kind, content: DoorContent, state: DoorState) -> Row {
+    Row {
+        kind,
+        content,
+        state,
+        buttons: &[1],
+        answer: Answer::Stays(Asked::Nothing),
+        after: &[],
+    }
+}
+
+#[test]
+fn all_else_changes_nothing(rt: HostRuntime) {
+    for (kind, content) in ELSE {
+        for state in [DoorState::Locked, DoorState::Open] {
+            holds(&rt, rt.alloc(), unchanging(*kind, *content, state));
+        }
+    }
+    tell_refusals(&rt);
+}
+
+/// Sees what the last word is of a door that had these buttons.
+fn has_last_word(
+    rt: &impl Abort,
+    alloc: Global,
+    reason: Reason,
+    state: DoorState,
+    buttons: &[u8],
+    word: u32,
+) {
+    let held = data_with(rt, alloc, buttons);
+    assert_eq!(rt; Door.terminate(reason, state, &held), word);
+}
+
+#[test]
+fn the_last_word_counts_the_buttons(rt: HostRuntime) {
+    has_last_word(&rt, rt.alloc(), 7, DoorState::Locked, &[], 0);
+    has_last_word(&rt, rt.alloc(), 0, DoorState::Locked, &[1], 1);
+    has_last_word(&rt, rt.alloc(), Reason::MAX, DoorState::Locked, &[9, 1], 2);
+    has_last_word(&rt, rt.alloc(), 7, DoorState::Open, &[], 0);
+    tell_refusals(&rt);
+}
+
+/// Sees that the copy of a content is equal to it.
+fn has_equal_copy(rt: &impl Abort, alloc: Global, content: DoorContent) {
+    let copy = copied_content(alloc, &content).expect(rt, "memory");
+    assert!(rt; copy == content);
+}
+
+#[test]
+fn copies_are_equal(rt: HostRuntime) {
+    has_equal_copy(&rt, rt.alloc(), DoorContent::Button(7));
+    has_equal_copy(&rt, rt.alloc(), DoorContent::Length(16));
+    let held = data_with(&rt, rt.alloc(), &[1]);
+    let copy = copied_data(rt.alloc(), &held);
+    has(&rt, &copy.expect(&rt, "memory"), &[1]);
+    tell_refusals(&rt);
+}

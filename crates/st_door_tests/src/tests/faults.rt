@@ -1,0 +1,176 @@
+//! Reads, writes and allocations that fail.
+
+use super::streams::{Failure, PLAIN, Way, ends, shows};
+use super::worked::ALL;
+use super::{is_left_out, tell_refusals};
+use st_door::ScriptFault;
+use std::alloc::{AllocError, Global};
+use std::io::Print;
+use std::process::Abort;
+
+/// A script of 13 bytes.
+const SCRIPT: &[u8] = b"show a\nnames\n";
+
+/// Its output, of 23 bytes.
+const OUTPUT: &[u8] = b"line 1 refused 8\nnames\n";
+
+/// So many bytes at a time, and no failure.
+fn at_most(most: usize) -> Way {
+    Way { most, ..PLAIN }
+}
+
+/// So many bytes at a time, until a read fails.
+fn failing_read(most: usize, failing_read: usize) -> Way {
+    Way {
+        most,
+        failing_read,
+        ..PLAIN
+    }
+}
+
+/// So many bytes at a time, until a write fails.
+fn failing_write(most: usize, failing_write: usize, failure: Failure) -> Way {
+    Way {
+        most,
+        failing_write,
+        failure,
+        ..PLAIN
+    }
+}
+
+/// Sees that a script ends at the read that fails, before anything is written.
+fn ends_at_read(rt: &impl Abort, alloc: Global, script: &[u8], way: Way) {
+    ends(rt, alloc, script, way, Err(ScriptFault::Read), b"");
+}
+
+/// Sees that a script ends at the write that fails, when these bytes are written.
+fn ends_at_write(rt: &impl Abort, alloc: Global, script: &[u8], way: Way, output: &[u8]) {
+    ends(rt, alloc, script, way, Err(ScriptFault::Write), output);
+}
+
+#[test]
+fn a_byte_at_a_time_is_the_same(rt: HostRuntime) {
+    ends(&rt, rt.alloc(), SCRIPT, at_most(1), Ok(1), OUTPUT);
+    tell_refusals(&rt);
+}
+
+#[test]
+fn a_read_that_fails_ends_the_script_before_it_begins(rt: HostRuntime) {
+    // Four bytes a read: three full reads, one of a byte, and the end.
+    for read in 1..6 {
+        ends_at_read(&rt, rt.alloc(), SCRIPT, failing_read(4, read));
+    }
+    tell_refusals(&rt);
+}
+
+/// A test that fails at each write in turn: four bytes a write, of 17 bytes five writes and of 6 bytes two.
+fn fail_writes(rt: &(impl Abort + Print + AllocGlobal), failure: Failure) {
+    for (write, length) in [(1, 0), (2, 4), (3, 8), (4, 12), (5, 16), (6, 17), (7, 21)] {
+        let way = failing_write(4, write, failure);
+        ends_at_write(rt, rt.alloc(), SCRIPT, way, &OUTPUT[..length]);
+    }
+    tell_refusals(rt);
+}
+
+#[test]
+fn a_write_that_fails_ends_the_script(rt: HostRuntime) {
+    fail_writes(&rt, Failure::Error);
+}
+
+#[test]
+fn a_write_that_takes_nothing_ends_the_script(rt: HostRuntime) {
+    fail_writes(&rt, Failure::TakesNothing);
+}
+
+#[test]
+fn each_worked_script_is_the_same_a_byte_at_a_time(rt: HostRuntime) {
+    if is_left_out(&rt) {
+        return;
+    }
+    for worked in ALL {
+        let output = worked.output.as_bytes();
+        ends(
+            &rt,
+            rt.alloc(),
+            worked.script,
+            at_most(1),
+            Ok(worked.status),
+            output,
+        );
+    }
+}
+
+#[test]
+fn each_worked_script_ends_at_each_read_that_fails(rt: HostRuntime) {
+    if is_left_out(&rt) {
+        return;
+    }
+    for worked in ALL {
+        // A byte a read, and the end.
+        for count in 0..=worked.script.len() {
+            ends_at_read(&rt, rt.alloc(), worked.script, failing_read(1, count + 1));
+        }
+    }
+}
+
+/// A test that fails at each write of each worked script in turn, a byte a write.
+fn fail_each_write(rt: &(impl Abort + Print + AllocGlobal), failure: Failure) {
+    if is_left_out(rt) {
+        return;
+    }
+    for worked in ALL {
+        let output = worked.output.as_bytes();
+        for count in 0..output.len() {
+            let way = failing_write(1, count + 1, failure);
+            ends_at_write(rt, rt.alloc(), worked.script, way, &output[..count]);
+        }
+    }
+}
+
+#[test]
+fn each_worked_script_ends_at_each_write_that_fails(rt: HostRuntime) {
+    fail_each_write(&rt, Failure::Error);
+}
+
+#[test]
+fn each_worked_script_ends_at_each_write_that_takes_nothing(rt: HostRuntime) {
+    fail_each_write(&rt, Failure::TakesNothing);
+}
+
+#[test]
+fn no_memory_ends_the_script(rt: HostRuntime) {
+    shows(
+        &rt,
+        b"new a 1\nbutton a 1\nbutton a 1\nat 10000\nstop a 7\nnames\n",
+        "a locked buttons 0 waiting 0\n\
+         a open buttons 0 waiting 0\n\
+         a open buttons 0 waiting 1\n\
+         at 10000 expired 1\n\
+         a stopped 7 word 0\n\
+         names a\n",
+        0,
+    );
+}
+
+/// The text of a fault.
+fn text_of(alloc: Global, fault: ScriptFault) -> Result<String, AllocError> {
+    format!(in alloc; "{fault}")
+}
+
+/// Sees what text a fault has. Where memory was refused, it is printed again.
+fn has_text(rt: &impl Abort, alloc: Global, fault: ScriptFault, text: &str) {
+    let printed = match text_of(alloc, fault) {
+        Err(AllocError) => text_of(alloc, fault),
+        printed => printed,
+    };
+    assert_eq!(rt; printed.expect(rt, "memory").as_str(), text);
+}
+
+#[test]
+fn each_fault_has_its_text(rt: HostRuntime) {
+    has_text(&rt, rt.alloc(), ScriptFault::Read, "read fault");
+    has_text(&rt, rt.alloc(), ScriptFault::TooLong, "input too long");
+    has_text(&rt, rt.alloc(), ScriptFault::Write, "write fault");
+    has_text(&rt, rt.alloc(), ScriptFault::Memory, "no memory");
+    tell_refusals(&rt);
+}

@@ -1,0 +1,178 @@
+//! Readers and writers that give and take little at a time, and fail when they are told to.
+ghost use Rattle.std.specs.Prelude.{◌≡◌, ◌<◌};
+ghost use Rattle.std.specs.Io.{ReadsAtMost};
+
+use super::tell_refusals;
+use st_door::{Counted, Mode, ScriptFault, run_script};
+use std::alloc::Global;
+use std::io::{self, ErrorKind, Print, Read, Write};
+use std::marker::Brand;
+use std::process::Abort;
+use std::sync::ledger::{Blank, Ledger};
+
+/// How a write fails.
+#[derive(Clone, Copy, Debug, PartialEq, Eq)]
+pub enum Failure {
+    Error,
+    TakesNothing,
+}
+
+/// How a script is read and written.
+#[derive(Clone, Copy, Debug)]
+pub struct Way {
+    /// How many bytes a read gives or a write takes, at most.
+    pub most: usize,
+    /// Which read fails. The first one is 1, and 0 is none.
+    pub failing_read: usize,
+    /// Which write fails.
+    pub failing_write: usize,
+    pub failure: Failure,
+    /// For how many bytes of output there is room from the start.
+    pub room: usize,
+}
+
+/// All at a time, and no failure.
+pub const PLAIN: Way = Way {
+    most: usize::MAX,
+    failing_read: 0,
+    failing_write: 0,
+    failure: Failure::Error,
+    room: 1024,
+};
+
+/// Gives the bytes of a slice.
+#[derive(Drop)]
+struct Reader<'a> {
+    left: &'a [u8],
+    reads: usize,
+    way: Way,
+}
+
+/// Reads so many bytes at most.
+fn read_some(left: &mut &[u8], most: usize, buf: &mut [u8]) -> io::Result<usize>
+    ensures { ReadsAtMost result buf.new }
+{
+    let count = buf.len().min(most);
+    left.read(&mut buf[..count])
+}
+
+impl Read for Reader<'_> {
+    fn read(&mut self, buf: &mut [u8]) -> io::Result<usize> {
+        self.reads = self.reads.saturating_add(1);
+        if self.reads == self.way.failing_read {
+            return Err(io::Error::from(ErrorKind::Other));
+        }
+        read_some(&mut self.left, self.way.most, buf)
+    }
+}
+
+/// Holds the bytes that it took.
+#[derive(Drop)]
+struct Writer {
+    held: Vec<u8>,
+    writes: usize,
+    way: Way,
+}
+
+impl Write for Writer {
+    fn write(&mut self, buf: &[u8]) -> io::Result<usize> {
+        self.writes = self.writes.saturating_add(1);
+        if self.writes == self.way.failing_write {
+            return match self.way.failure {
+                Failure::Error => Err(io::Error::from(ErrorKind::Other)),
+                Failure::TakesNothing => Ok(0),
+            };
+        }
+        let count = buf.len().min(self.way.most);
+        self.held.extend_from_slice(&buf[..count])?;
+        Ok(count)
+    }
+
+    fn flush(&mut self) -> io::Result<()> {
+        Ok(())
+    }
+}
+
+/// An empty list with room for some bytes, whichever one allocation is refused.
+pub fn room(alloc: Global, bytes: usize) -> Vec<u8> {
+    let mut list = Vec::new(alloc);
+    if list.reserve(bytes).is_err() {
+        let _ = list.reserve(bytes);
+    }
+    list
+}
+
+/// Runs a script over a reader and a writer, in the ledgers that two blanks open.
+fn over<A: Ledger, B: Ledger>(
+    alloc: Global,
+    reader: Reader<'_>,
+    writer: Writer,
+    a: Blank,
+    b: Blank,
+) -> (Result<u8, ScriptFault>, Vec<u8>)
+    requires a { (a.name ≡ A.name) × (a.parts ≡ A.parts) × (0 < a.parts) }
+    requires b { (b.name ≡ B.name) × (b.parts ≡ B.parts) × (0 < b.parts) }
+{
+    let mut reader: Counted<Reader<'_>, A> = Counted::new(reader, a);
+    let mut writer: Counted<Writer, B> = Counted::new(writer, b);
+    let answer = run_script(alloc, Mode::Run, &mut reader, &mut writer);
+    (answer, writer.into_inner().held)
+}
+
+/// Runs a script: the answer, and what was written.
+fn run_once(alloc: Global, script: &[u8], way: Way) -> (Result<u8, ScriptFault>, Vec<u8>) {
+    let reader = Reader {
+        left: script,
+        reads: 0,
+        way,
+    };
+    let writer = Writer {
+        held: room(alloc, way.room),
+        writes: 0,
+        way,
+    };
+    over::<Brand, Brand>(alloc, reader, writer, Blank::new(1), Blank::new(1))
+}
+
+/// Sees that a script ends with this answer when these bytes are written. Where no memory was found, a
+/// front of them was written, and the script is run once more.
+pub fn ends(
+    rt: &impl Abort,
+    alloc: Global,
+    script: &[u8],
+    way: Way,
+    wanted: Result<u8, ScriptFault>,
+    output: &[u8],
+) {
+    let (mut answer, mut written) = run_once(alloc, script, way);
+    if answer == Err(ScriptFault::Memory) {
+        assert!(rt; output.starts_with(written.as_slice()));
+        (answer, written) = run_once(alloc, script, way);
+    }
+    assert_eq!(rt; written.as_slice(), output, "{way:?}");
+    assert_eq!(rt; answer, wanted, "{way:?}");
+}
+
+/// Sees that a script prints this and has this status.
+pub fn prints(rt: &impl Abort, alloc: Global, script: &[u8], output: &str, status: u8) {
+    ends(rt, alloc, script, PLAIN, Ok(status), output.as_bytes());
+}
+
+/// A test of one script, by what it prints and its status.
+pub fn shows(rt: &(impl Abort + Print + AllocGlobal), script: &[u8], output: &str, status: u8) {
+    prints(rt, rt.alloc(), script, output, status);
+    tell_refusals(rt);
+}
+
+/// A test of scripts that have the same output and the same status.
+pub fn all_show(
+    rt: &(impl Abort + Print + AllocGlobal),
+    scripts: &[&[u8]],
+    output: &str,
+    status: u8,
+) {
+    for script in scripts {
+        prints(rt, rt.alloc(), script, output, status);
+    }
+    tell_refusals(rt);
+}
