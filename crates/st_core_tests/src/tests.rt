@@ -6,6 +6,7 @@ mod begin;
 mod compared;
 mod enters;
 mod few;
+mod journal;
 mod lamp;
 mod lamps;
 mod machine;

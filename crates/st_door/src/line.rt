@@ -16,13 +16,13 @@ use std::str;
 pub const LINE_LIMIT: usize = 256;
 
 /// How many digits a code may have.
-const CODE_LIMIT: usize = 16;
+const CODE_DIGITS: usize = 16;
 
 /// How many digits a reason may have.
-const REASON_LIMIT: usize = 10;
+const REASON_DIGITS: usize = 10;
 
 /// How many digits a moment may have.
-const MOMENT_LIMIT: usize = 20;
+const MOMENT_DIGITS: usize = 20;
 
 /// What a line says.
 #[derive(Drop)]
@@ -71,7 +71,7 @@ fn new_line(alloc: Global, args: &[&[u8]]) -> Result<Line, AllocError>
     let [word, code] = args else {
         return Ok(Line::Malformed);
     };
-    if !is_digits(CODE_LIMIT, code) {
+    if !is_digits(CODE_DIGITS, code) {
         return Ok(Line::Malformed);
     }
     let Some(name) = name_of(alloc, word)? else {
@@ -114,7 +114,7 @@ fn at_line(args: &[&[u8]]) -> Line
     let [moment] = args else {
         return Line::Malformed;
     };
-    match number_of(MOMENT_LIMIT, u64::MAX, moment) {
+    match number_of(MOMENT_DIGITS, u64::MAX, moment) {
         Some(moment) => Line::At { moment },
         None => Line::Malformed,
     }
@@ -126,7 +126,7 @@ fn stop_line(alloc: Global, args: &[&[u8]]) -> Result<Line, AllocError>
     let [word, reason] = args else {
         return Ok(Line::Malformed);
     };
-    let Some(reason) = number_of(REASON_LIMIT, Reason::MAX as u64, reason) else {
+    let Some(reason) = number_of(REASON_DIGITS, Reason::MAX as u64, reason) else {
         return Ok(Line::Malformed);
     };
     let Some(name) = name_of(alloc, word)? else {

@@ -1,0 +1,55 @@
+//! Runs that are put together from steps, from calls and from other runs.
+use super::begin::start;
+use super::room::room;
+use super::table_machine::BEGIN;
+use super::tell_refusals;
+use super::told::tag;
+use crate::{step_alone, turn_and_collect, two_runs, two_steps};
+use st_core::{Answer, Collected, Command, Refusal, Start, Turned};
+use std::alloc::Global;
+use std::process::Abort;
+
+/// A tick at each moment.
+fn ticks(rt: &impl Abort, alloc: Global, moments: &[u64]) -> Vec<Command<u32>> {
+    let mut commands = room(rt, alloc, moments.len());
+    for moment in moments {
+        assert!(rt; commands.push(Command::Tick(*moment)).is_ok());
+    }
+    commands
+}
+
+/// The steps take no memory, so that none is refused; where a run has no place for its answers, it is made again.
+#[test]
+fn runs_are_put_together(rt: HostRuntime) {
+    let Ok(Start::Running(mut core, _)) = start(&rt, rt.alloc(), &BEGIN) else {
+        panic!(rt; "a machine starts");
+    };
+    let (first, second) = two_steps(&mut core, Command::Tick(3), Command::Tick(4));
+    assert!(rt; matches!(first, Answer::Tick(Ok(0))));
+    assert!(rt; matches!(second, Answer::Tick(Ok(0))));
+    let (turned, collected) = turn_and_collect(&mut core, 5, tag(1));
+    assert!(rt; matches!(turned, Ok(Turned::Idle)));
+    assert!(rt; matches!(collected, Collected::Gone));
+    let mut runs = two_runs(
+        &mut core,
+        ticks(&rt, rt.alloc(), &[6]),
+        ticks(&rt, rt.alloc(), &[7, 8]),
+    );
+    if let Err(refused) = &runs {
+        assert_eq!(rt; refused.refusal, Refusal::NoMemory);
+        runs = two_runs(
+            &mut core,
+            ticks(&rt, rt.alloc(), &[6]),
+            ticks(&rt, rt.alloc(), &[7, 8]),
+        );
+    }
+    let Ok((one, other)) = runs else {
+        panic!(rt; "one allocation alone is refused");
+    };
+    assert_eq!(rt; one.len(), 1);
+    assert_eq!(rt; other.len(), 2);
+    assert_eq!(rt; core.latest(), 8);
+    let stopped = step_alone(&mut core, Command::Stop(9));
+    assert!(rt; matches!(stopped, Answer::Stop(Ok(7))));
+    tell_refusals(rt);
+}
