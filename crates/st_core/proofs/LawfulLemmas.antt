@@ -37,7 +37,7 @@ use Rattle.st_core.specs.Transition.{with_moment, with_called, with_settled, has
 use Rattle.st_core.specs.Post.{opened_by, posted_event, with_posted, post_running, post_of}
 use Rattle.st_core.specs.Tick.{with_expiries, tick_running, tick_of}
 use Rattle.st_core.specs.Replies.{reply_to, collect_of}
-use Rattle.st_core.specs.Run.{takes_memory, without_memory, Meets, Does, step_of, step_on, Runs}
+use Rattle.st_core.specs.Run.{takes_memory, without_memory, Meets, Does, step_of, Runs}
 use Rattle.st_core.specs.Start.{first_state, with_begun, started_with, begun_on, started_by, start_of}
 use Rattle.st_core.specs.Lawful.{IsOver, IsLawful}
 

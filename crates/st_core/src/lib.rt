@@ -40,7 +40,8 @@ pub use laws::{
 pub use report::Report;
 pub use st_events::{
     Action, Actions, EnterAction, EnterActions, EnterOutcome, Init, Kind, MOMENT_LIMIT, MachineId,
-    Module, NUMBER_LIMIT, Outcome, PlainList, Reason, Refusal, Refused, Replies, SmallList, Tag, Time, Timer,
+    Module, NUMBER_LIMIT, Outcome, PlainList, Reason, Refusal, Refused, Replies, SmallList, Tag,
+    Time, Timer,
 };
 pub use st_requests::Collected;
 pub use st_timeouts::Due;

@@ -12,7 +12,9 @@ use crate::prepared::prepare;
 use crate::{Call, Core, Done, Report};
 use st_actions::Planned;
 use st_agenda::Agenda;
-use st_events::{Actions, Init, MOMENT_LIMIT, MachineId, Module, PlainList, Reason, Refusal, Refused};
+use st_events::{
+    Actions, Init, MOMENT_LIMIT, MachineId, Module, PlainList, Reason, Refusal, Refused,
+};
 use st_requests::Requests;
 use std::alloc::Global;
 
