@@ -12,7 +12,7 @@ use st_agenda::Agenda;
 use st_events::{PlainList, Refusal, Tag, Time, Timer};
 use std::alloc::Global;
 
-/// What a report says of the events that are inserted and of the timers that are set, and room for the tags
+/// What a report says of the events that are inserted and of the timers that are set, and places for the tags
 /// of the replies that are taken.
 #[derive(Drop)]
 pub(crate) struct Prepared {

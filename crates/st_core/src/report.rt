@@ -22,6 +22,6 @@ pub struct Report<S> {
     pub replied: PlainList<Tag>,
     /// The numbers of the events that were inserted, in order.
     pub inserted: PlainList<u64>,
-    /// The timers that were set or stopped, each by its last request, in the order of these.
+    /// The timers that were set or stopped, each by its last setting, in the order of these.
     pub set: PlainList<(Timer, Time)>,
 }

@@ -265,7 +265,7 @@ fn a_state_change_keeps_a_named_time_out(rt: HostRuntime) {
     tell_refusals(rt);
 }
 
-/// The last request of a list decides; the expiry that waits is passed over.
+/// The last setting of a list decides; the expiry that waits is passed over.
 #[test]
 fn a_time_out_that_has_expired_can_be_set_anew(rt: HostRuntime) {
     let steps = [
