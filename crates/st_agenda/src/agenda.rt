@@ -181,7 +181,7 @@ impl<C: Drop> Agenda<C> {
         pushed
     }
 
-    /// Reserves so that `count` events can come in without memory.
+    /// Reserves memory, so that `count` events can come in later and want none.
     ///
     /// Where memory is wanted and there is none, nothing changes. Ours: docs/DECISIONS.md, Choices in the code.
     pub fn stage(&mut self, count: usize) -> Result<(), AllocError>
@@ -192,7 +192,7 @@ impl<C: Drop> Agenda<C> {
         self.pending.stage(count)
     }
 
-    /// Reserves so that `count` timers can be set without memory.
+    /// Reserves memory, so that `count` timers can be set later and want none.
     ///
     /// Where memory is wanted and there is none, nothing changes. Ours: docs/DECISIONS.md, Choices in the code.
     pub fn reserve(&mut self, count: usize) -> Result<(), AllocError>
@@ -203,7 +203,7 @@ impl<C: Drop> Agenda<C> {
         self.timeouts.reserve(count)
     }
 
-    /// Reserves for what a transition may need: so many inserted events and the event of a time-out
+    /// Reserves memory for what a transition may need: so many inserted events and the event of a time-out
     /// that is taken up, and so many timers.
     ///
     /// Where memory is wanted and there is none, nothing that waits or runs changes. Ours:

@@ -145,7 +145,7 @@ impl<C: Drop> Pending<C> {
         }
     }
 
-    /// Reserves so that `count` slots can come in without memory.
+    /// Reserves memory, so that `count` slots can come in later and want none.
     pub(crate) fn stage(&mut self, count: usize) -> Result<(), AllocError>
         ensures staged { OnOk result (self.new ≡ record self.old { staged = max self.old.staged count }) }
 

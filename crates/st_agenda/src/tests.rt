@@ -201,6 +201,7 @@ fn events_come_in_their_order(rt: HostRuntime) {
     comes(&rt, &agenda, (1, Kind::Cast, 10), 2);
     let inserts = insert(&rt, rt.alloc(), 30);
     let settings = one(&rt, rt.alloc(), Timer::Named(1), Time::After(5), 40);
+    assert!(rt; agenda.has_numbers(&inserts, &settings));
     settle(&rt, &mut agenda, 0, 1, true, false, inserts, settings);
     run(&rt, &agenda, &[(Timer::Named(1), 4, Due::At(5))]);
     comes(&rt, &agenda, (3, Kind::Internal, 30), 3);

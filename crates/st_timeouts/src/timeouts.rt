@@ -131,7 +131,7 @@ impl<C> Timeouts<C> {
 }
 
 impl<C: Drop> Timeouts<C> {
-    /// Reserves so that `count` time-outs can be set that do not run. Where so much is reserved, it
+    /// Reserves memory, so that `count` time-outs can be set that do not run. Where so much is reserved, it
     /// takes no memory. Where memory is wanted and there is none, nothing changes.
     ///
     /// Ours: docs/DECISIONS.md, Choices in the code.
