@@ -216,6 +216,13 @@ module _ {C : Type 0} where
       (sym (inserts-append actions later))
       (sym (settings-append actions later))
 
+  -- plans of two lists, joined, are the plan of both
+  pub joined_is : (first second joined : Planned C) (actions : List (Action C)) (enter_actions : List (EnterAction C)) → joined ≡ joined_of first second
+      → first ≡ plan_of actions → second ≡ enter_plan_of enter_actions → joined ≡ plan_of (actions ++ as_actions enter_actions)
+  joined_is first second joined actions enter_actions same same_first same_second =
+      same ∙ (ap (λ (one : Planned C). joined_of one second) same_first
+      ∙ (ap (λ (other : Planned C). joined_of (plan_of actions) other) same_second ∙ joined_plans actions enter_actions))
+
 pub joined_whole : {C : Type 0} (first second : Planned C) (replies : List (Tag × C)) (inserts : List (Insert C)) (settings : List (Setting C))
     → replies ≡ first.replies ++ second.replies → inserts ≡ first.inserts ++ second.inserts
     → settings ≡ remaining_of first.requests second.requests ++ second.requests

@@ -1,9 +1,12 @@
 //! What two lists of actions ask for, put together.
-ghost use Rattle.std.specs.Prelude.{◌≡◌, ◌+◌, ◌≤◌, [], length, max, IsOk, IfOk, IfErr};
+ghost use Rattle.std.specs.Prelude.{◌≡◌, ◌+◌, ◌≤◌, List, [], ◌++◌, length, max, IsOk, IfOk, IfErr};
 ghost use Rattle.std.specs.Mem.{FitsInMemory};
 ghost use Rattle.st_events.specs.Rows.{RepliesFit, InsertsFit, SettingsFit};
 ghost use Rattle.st_events.specs.contracts.small_list.SmallList.{the_row as list_row};
-ghost use Rattle.st_actions.specs.Joined.{remaining_of, joined_of, AreShort, with_elements};
+ghost use Rattle.st_events.specs.declared.action.Action.{Action};
+ghost use Rattle.st_events.specs.declared.enter_action.EnterAction.{EnterAction};
+ghost use Rattle.st_actions.specs.Joined.{remaining_of, joined_of, enter_plan_of, as_actions, AreShort, with_elements};
+ghost use Rattle.st_actions.specs.Plan.{plan_of};
 
 use crate::Planned;
 use crate::may_set::sets;
@@ -11,7 +14,8 @@ use st_events::{Setting, Settings, SmallList, SmallListBuilder};
 use std::alloc::{AllocError, AllocFailed, Global};
 
 /// Joins what two lists of actions ask for, one after the other: those of an event, and those of the
-/// enter call that follows it. The first alone says whether the event is postponed. Where both together
+/// enter call that follows it. The first alone says whether the event is postponed. So what comes of the plans
+/// of two lists is the plan of both as one list. Where both together
 /// have at most four of each kind it takes no memory. Where memory is wanted and there is none, both
 /// come back.
 ///
@@ -25,6 +29,8 @@ pub fn join<C: Drop>(
     requires inserts_fit { InsertsFit C.row }
     requires settings_fit { SettingsFit C.row }
     ensures joined { IfOk result (λ planned. planned ≡ joined_of first second) }
+    ensures plan_of_both { (actions : List (Action C)) (enter : List (EnterAction C))
+        → first ≡ plan_of actions → second ≡ enter_plan_of enter → IfOk result (λ planned. planned ≡ plan_of (actions ++ as_actions enter)) }
 
     ensures inline { AreShort first second → IsOk result }
     ensures value_returned { IfErr result (λ failed. failed.value ≡ (first, second)) }

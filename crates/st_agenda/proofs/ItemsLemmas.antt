@@ -6,14 +6,15 @@ use Rattle.st_events.specs.declared.event.Event.{Event}
 use Rattle.st_events.specs.declared.timer.Timer.{Timer}
 use Rattle.st_events.specs.Timers.{same_timer}
 use Rattle.st_events.proofs.ComparedLemmas.{same_number, same_timer_self, timers_same, same_timer_flips, no_first}
-use Rattle.st_timeouts.specs.Running.{Running, OneEach, running_of, is_due_by, in_order}
-use Rattle.st_timeouts.specs.Timeouts.{Listed, all_of, live, with_this_number, without_listed, expiring}
+use Rattle.st_timeouts.specs.declared.due.Due.{Due}
+use Rattle.st_timeouts.specs.Running.{Running, OneEach, running_of, is_zero, is_due_by, moment_of, in_order}
+use Rattle.st_timeouts.specs.Timeouts.{Listed, all_of, live, with_this_number, without_listed, expiring, first_of, next_due_of}
 use Rattle.st_agenda.specs.declared.slot.Slot.{Slot}
 use Rattle.st_agenda.specs.declared.slot.Slot.TheVariants as slot
 use Rattle.st_agenda.specs.Item.{Item, Received, Posted, Expiry}
 use Rattle.st_agenda.specs.Items.{has, events_in, first_received, received_first, received_last, without, placed}
 use Rattle.st_agenda.specs.Choice.{Choice, first_unreceived}
-use Rattle.st_agenda.specs.Timing.{without_expiry, expiry_waits, expiring_by}
+use Rattle.st_agenda.specs.Timing.{without_expiry, expiry_waits, expiring_by, next_due_among}
 use Rattle.st_agenda.specs.Waiting.{Place, Seen, Unseen, place_numbers, first_seen, first_unseen, with_unseen_seen, without_slot, put_in, slot_of, Distinct, SeenFirst, AllUnseen}
 use Rattle.st_agenda.specs.Agenda.{items_in, with_live, HasExpiry, IsMarked, SeenEvents, expiries_in, AreMarked}
 use Rattle.st_agenda.specs.Slots.{number_of}
@@ -523,17 +524,23 @@ module _ {C : Type 0} (listed : List (Listed C)) where
       waits_marked one.running.timer one.running.number places alive m.0
   mark_is one places false r m = waits_unmarked one.running.timer one.running places r m
 
-  expiring_among : (now : ℕ) (some : List (Listed C)) (places : List (Place C)) → AllFound (all_of listed) some → AreMarked some places
-      → filter (λ (one : Running C). is_due_by now one.due && not (expiry_waits one.timer (items_in listed places))) (all_of some)
-      ≡ all_of (filter (λ (one : Listed C). is_due_by now one.running.due && not one.expired) some)
-  expiring_among now [] places a m = refl
-  expiring_among now (one ∷ some) places a m =
+  expiring_among : (due : Due → Bool) (some : List (Listed C)) (places : List (Place C)) → AllFound (all_of listed) some → AreMarked some places
+      → filter (λ (one : Running C). due one.due && not (expiry_waits one.timer (items_in listed places))) (all_of some)
+      ≡ all_of (filter (λ (one : Listed C). due one.running.due && not one.expired) some)
+  expiring_among due [] places a m = refl
+  expiring_among due (one ∷ some) places a m =
       rw (mark_is one places one.expired a.0 m.0)
-      (expiring_by_one (is_due_by now one.running.due && not one.expired) one _ _ (expiring_among now some places a.1 m.1))
+      (expiring_by_one (due one.running.due && not one.expired) one _ _ (expiring_among due some places a.1 m.1))
 
   pub expiring_is : (now : ℕ) (places : List (Place C)) → OneEach (all_of listed) → AreMarked listed places
       → expiring_by now (items_in listed places) (all_of listed) ≡ expiring now listed
-  expiring_is now places o m = ap in_order (expiring_among now listed places (all_found listed o) m)
+  expiring_is now places o m = ap in_order (expiring_among (λ (due : Due). is_due_by now due) listed places (all_found listed o) m)
+
+  pub next_due_is : (places : List (Place C)) → OneEach (all_of listed) → AreMarked listed places
+      → next_due_among (items_in listed places) (all_of listed) ≡ next_due_of listed
+  next_due_is places o m =
+      ap (λ (running : List (Running C)). option_map (λ (one : Running C). moment_of one.due) (first_of (in_order running)))
+      (expiring_among (λ (due : Due). not (is_zero due)) listed places (all_found listed o) m)
 
 -- 15. the first received event
 module _ {C : Type 0} (postponed : List ℕ) (event : Event C) where

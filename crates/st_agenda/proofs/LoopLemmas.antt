@@ -37,10 +37,11 @@ module _ {C : Type 0} where
   taken_within [] = omega arith
   taken_within (setting ∷ settings) = omega (arith, one_at_most setting.time, taken_within settings)
 
-none_not_some : {A : Type 0} (found : Option A) (a : A) → found ≡ None → found ≡ Some a → ⊥
+-- nothing was found and something was: that cannot be
+pub none_not_some : {A : Type 0} (found : Option A) (a : A) → found ≡ None → found ≡ Some a → ⊥
 none_not_some found a none some = cc
 
-some_injective : {A : Type 0} {a b : A} → Some a ≡ Some b → a ≡ b
+pub some_injective : {A : Type 0} {a b : A} → Some a ≡ Some b → a ≡ b
 some_injective h = cc
 
 module _ {C : Type 0} where

@@ -1,12 +1,14 @@
 -- Timers that are to be set, the numbers that a transition takes, and time-outs that expire.
-use Rattle.std.specs.Prelude.{ℕ, ◌+◌, ◌^◌, Bool, false, not, ◌||◌, ◌&&◌, List, [], ◌∷◌, filter, length, nat_le}
+use Rattle.std.specs.Prelude.{ℕ, ◌+◌, ◌^◌, Bool, false, not, ◌||◌, ◌&&◌, Option, List, [], ◌∷◌, filter, length, nat_le}
+use Rattle.std.specs.Option.{option_map}
 use Rattle.st_events.specs.declared.insert.Insert.{Insert}
 use Rattle.st_events.specs.declared.setting.Setting.{Setting}
 use Rattle.st_events.specs.declared.time.Time.{Time}
 use Rattle.st_events.specs.declared.time.Time.TheVariants.{After, Infinity}
 use Rattle.st_events.specs.declared.timer.Timer.{Timer}
 use Rattle.st_events.specs.Timers.{same_timer}
-use Rattle.st_timeouts.specs.Running.{Running, is_due_by, in_order}
+use Rattle.st_timeouts.specs.Running.{Running, is_zero, is_due_by, moment_of, in_order}
+use Rattle.st_timeouts.specs.Timeouts.{first_of}
 use Rattle.st_agenda.specs.Item.{Item, Received, Posted, Expiry}
 
 -- how many numbers a setting takes: one where a time-out begins
@@ -45,3 +47,10 @@ module _ {C : Type 0} where
   abbrev pub expiring_by : ℕ → List (Item C) → List (Running C) → List (Running C)
   expiring_by now items running =
       in_order (filter (λ (one : Running C). is_due_by now one.due && not (expiry_waits one.timer items)) running)
+
+  -- the moment at which the next time-out expires: the earliest of those at which one is due whose expiry
+  -- does not wait yet; one that is due at once waits for no moment
+  abbrev pub next_due_among : List (Item C) → List (Running C) → Option ℕ
+  next_due_among items running =
+      option_map (λ (one : Running C). moment_of one.due)
+      (first_of (in_order (filter (λ (one : Running C). not (is_zero one.due) && not (expiry_waits one.timer items)) running)))

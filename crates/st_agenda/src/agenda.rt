@@ -9,7 +9,7 @@ ghost use Rattle.st_agenda.specs.Items.{events_in, first_received};
 ghost use Rattle.st_agenda.specs.Item.{Posted};
 ghost use Rattle.st_events.specs.declared.kind.Kind.TheVariants.{Timeout};
 ghost use Rattle.st_events.specs.declared.time.Time.TheVariants.{After};
-ghost use Rattle.st_agenda.specs.Timing.{expiring_by, has_numbers, number_taken, numbers_taken};
+ghost use Rattle.st_agenda.specs.Timing.{expiring_by, has_numbers, next_due_among, number_taken, numbers_taken};
 ghost use Rattle.st_agenda.specs.Waiting.{next_of};
 ghost use Rattle.st_agenda.specs.Agenda.{Agrees, IsAlive, items_in, next_in, zero_in, received_in, cancelled_in, disposed_in, retried_in, inserted_in, begun_in, set_in, all_set_in, settled_in, name_of_event, shown_timers, dead_at, with_first_expiry, all_but_first, with_all_expired};
 
@@ -157,6 +157,16 @@ impl<C> Agenda<C> {
         ensures { result ≡ length (expiring_by now self.now.schedule.pending self.now.schedule.running) }
     {
         self.timeouts.count_due(now)
+    }
+
+    /// The moment, in milliseconds, at which the next time-out expires that has not expired yet. One that is
+    /// due at once waits for no moment.
+    ///
+    /// Ours: docs/TRANSITIONS.md, Time-outs.
+    pub fn next_due(&self) -> Option<u64>
+        ensures { result ≡ next_due_among self.now.schedule.pending self.now.schedule.running }
+    {
+        self.timeouts.next_due()
     }
 }
 

@@ -7,3 +7,5 @@ pub mod LawfulLemmas
 pub mod StateLemmas
 pub mod AccountingLemmas
 pub mod ChangeLemmas
+pub mod ReaderLemmas
+pub mod UntilIdleLemmas

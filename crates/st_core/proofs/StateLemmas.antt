@@ -13,11 +13,11 @@ use Rattle.st_timeouts.specs.Running.{Running}
 use Rattle.st_agenda.specs.Item.{Item}
 use Rattle.st_agenda.specs.Agenda.{Schedule, next_in, settled_in, inserted_in, all_set_in}
 use Rattle.st_agenda.specs.Timing.{numbers_taken}
+use Rattle.st_agenda.proofs.LoopLemmas.{none_not_some}
 use Rattle.st_agenda.proofs.LawfulSetting.{lawful_empty, lawful_later, lawful_inserted, lawful_set_all}
 use Rattle.st_agenda.proofs.LawfulTurn.{settled_lawful, settled_next}
 use Rattle.st_core.specs.Lawful.{IsOver, IsLawfulOf}
 use Rattle.st_core.proofs.LawfulLemmas.{not_over, over_answers}
-use Rattle.st_core.proofs.TransitionLemmas.{none_not_some}
 
 module _ {C : Type 0} where
   -- where nothing waits and nothing runs, there is no next event

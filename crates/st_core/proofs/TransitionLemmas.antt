@@ -14,6 +14,7 @@ use Rattle.st_events.specs.declared.setting.Setting.{Setting}
 use Rattle.st_requests.specs.declared.request.Request.{Request}
 use Rattle.st_agenda.specs.Agenda.{Schedule, name_of_event, settled_in}
 use Rattle.st_agenda.specs.Items.{numbered, numbers_of}
+use Rattle.st_agenda.proofs.LoopLemmas.{none_not_some, some_injective}
 use Rattle.st_core.specs.declared.report.Report.{Report}
 use Rattle.st_core.specs.declared.turned.Turned.{Turned}
 use Rattle.st_core.specs.declared.turned.Turned.TheVariants.{Reported}
@@ -40,12 +41,6 @@ range_with_len_more first (suc count) =
 pub one_number_more : (first count number : ℕ) {numbers after : List ℕ} → numbers ≡ range_with_len first count → number ≡ first + count
     → after ≡ numbers ++ number ∷ [] → after ≡ range_with_len first (count + 1)
 one_number_more first count number same is_number change = rw (change, same, is_number) (sym (range_with_len_more first count))
-
-pub none_not_some : {A : Type 0} (found : Option A) (a : A) → found ≡ None → found ≡ Some a → ⊥
-none_not_some found a none some = cc
-
-some_injective : {A : Type 0} {a b : A} → Some a ≡ Some b → a ≡ b
-some_injective h = cc
 
 module _ {C : Type 0} where
   -- inserted events have the numbers from the first one on

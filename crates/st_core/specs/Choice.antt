@@ -5,6 +5,7 @@ use Rattle.st_events.specs.declared.timer.Timer.{Timer}
 use Rattle.st_timeouts.specs.declared.due.Due.{Due}
 use Rattle.st_agenda.specs.Items.{events_in}
 use Rattle.st_agenda.specs.Agenda.{next_in, shown_timers}
+use Rattle.st_agenda.specs.Timing.{next_due_among}
 use Rattle.st_core.specs.MachineState.{MachineState}
 
 module _ {S D C : Type 0} where
@@ -22,6 +23,10 @@ module _ {S D C : Type 0} where
   abbrev pub waiting_of : MachineState S D C → ℕ
   waiting_of machine = events_in machine.schedule.pending
 
-  -- the running time-outs in the order of their requests: timer, number of the event, when it is due
+  -- the running time-outs in the order in which they were set: timer, number of the event, when it is due
   abbrev pub timers_of : MachineState S D C → List (Timer × ℕ × Due)
   timers_of machine = shown_timers machine.schedule
+
+  -- the moment at which the next time-out expires that has not expired yet: the earliest one
+  abbrev pub next_due_of : MachineState S D C → Option ℕ
+  next_due_of machine = next_due_among machine.schedule.pending machine.schedule.running

@@ -9,5 +9,6 @@ pub mod Tick
 pub mod Replies
 pub mod Start
 pub mod Run
+pub mod UntilIdle
 pub mod Lawful
 pub mod Accounting

@@ -7,7 +7,7 @@ use st_requests::Collected;
 /// The answer to one command of a run: what the call itself answers.
 ///
 /// Ours: docs/DECISIONS.md, Runs.
-#[derive(Debug, Drop)]
+#[derive(Debug, PartialEq, Eq, Drop)]
 pub enum Answer<S, C> {
     /// The event's number.
     Post(Result<u64, Refused<C>>),

@@ -6,7 +6,7 @@ use st_events::{Reason, Tag};
 /// One command of a run: a call of the machine with what it takes.
 ///
 /// Ours: docs/DECISIONS.md, Runs.
-#[derive(Debug, Drop)]
+#[derive(Debug, PartialEq, Eq, Drop)]
 pub enum Command<C> {
     /// `Core::post`.
     Post(Entry, C),

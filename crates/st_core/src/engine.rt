@@ -1,10 +1,10 @@
 //! One machine.
 ghost use Rattle.std.specs.Prelude.{◌≡◌, ◌<◌, ◌^◌, IfOk, IfErr};
 ghost use Rattle.st_events.specs.declared.refusal.Refusal.TheVariants.{NoMemory};
-ghost use Rattle.st_core.specs.Choice.{is_ready_of, waiting_of, timers_of};
+ghost use Rattle.st_core.specs.Choice.{is_ready_of, waiting_of, timers_of, next_due_of};
 
 use st_agenda::Agenda;
-use st_events::{MachineId, Module, PlainList, Reason, Refusal, Timer};
+use st_events::{MachineId, Module, PlainList, Reason, Refusal, Tag, Timer};
 use st_requests::Requests;
 use st_timeouts::Due;
 use std::alloc::Global;
@@ -72,6 +72,15 @@ impl<M: Module> Core<M> {
         self.id
     }
 
+    /// The tag of the call whose event has this number, as `post` answered it.
+    ///
+    /// Manual: `from()`, `send_request/2`.
+    pub fn tag(&self, number: u64) -> Tag
+        ensures { result ≡ record { machine = self.now.machine.id; request = number } }
+    {
+        Tag::new(self.id, number)
+    }
+
     /// The state.
     ///
     /// Manual: `state()`.
@@ -110,7 +119,18 @@ impl<M: Module> Core<M> {
         self.agenda.waiting()
     }
 
-    /// The running time-outs in the order of their requests: timer, number of the event, and when it is
+    /// The moment, in milliseconds, at which the next time-out expires that has not expired yet: a tick before it
+    /// makes none expire. One that is due at once waits for no moment, and once the machine has ended, none runs:
+    /// where there is no other, it answers `None`. The moment may lie at 2^63 or later, which no tick reaches.
+    ///
+    /// It takes no memory. Ours: docs/TRANSITIONS.md, Time-outs.
+    pub fn next_due(&self) -> Option<u64>
+        ensures { result ≡ next_due_of self.now.machine }
+    {
+        self.agenda.next_due()
+    }
+
+    /// The running time-outs in the order in which they were set: timer, number of the event, and when it is
     /// due, in milliseconds.
     ///
     /// Refused with `NoMemory` where memory is wanted and there is none; then nothing is listed.

@@ -1,17 +1,21 @@
 //! Laws of machines, for every callback module: each is shown once, and calling it does nothing. All but the
 //! first speak of the definitions alone.
-ghost use Rattle.std.specs.Prelude.{◌≡◌, ℕ, ◌<◌, ◌^◌, true, false, None, Ok, List};
+ghost use Rattle.std.specs.Prelude.{◌≡◌, ◌↔◌, ℕ, ◌<◌, ◌^◌, true, false, Some, None, Ok, List, length};
 ghost use Rattle.st_events.specs.declared.event.Event.{Event};
 ghost use Rattle.st_events.specs.declared.init.Init.{Init};
 ghost use Rattle.st_events.specs.declared.machine_id.MachineId.{MachineId};
+ghost use Rattle.st_events.specs.declared.tag.Tag.{Tag};
+ghost use Rattle.st_requests.specs.declared.collected.Collected.TheVariants.{Reply};
 ghost use Rattle.st_core.specs.declared.answer.Answer.{Answer};
 ghost use Rattle.st_core.specs.declared.command.Command.{Command};
 ghost use Rattle.st_core.specs.declared.report.Report.{Report};
 ghost use Rattle.st_core.specs.declared.start.Start.TheVariants.{Running};
-ghost use Rattle.st_core.specs.Accounting.{IsAccounted};
+ghost use Rattle.st_core.specs.Accounting.{IsAccounted, waiting_in};
 ghost use Rattle.st_core.specs.Callbacks.{Callbacks, callbacks_of, called_of};
+ghost use Rattle.st_core.specs.Choice.{waiting_of};
 ghost use Rattle.st_core.specs.Lawful.{IsLawful};
 ghost use Rattle.st_core.specs.MachineState.{Machine, MachineState};
+ghost use Rattle.st_core.specs.Replies.{peek_of, collect_of};
 ghost use Rattle.st_core.specs.Run.{Runs};
 ghost use Rattle.st_core.specs.Start.{start_of};
 
@@ -67,4 +71,19 @@ pub fn a_run_keeps_machines_lawful<M: Module>(_module: &M)
 pub fn a_run_is_accounted<M: Module>(_module: &M)
     ensures { (callbacks : M → Callbacks M.State M.Data M.Content) (before after : Machine M M.State M.Data M.Content) (commands : List (Command M.Content)) (answers : List (Answer M.State M.Content))
         → IsLawful before.machine → Runs callbacks before commands answers after → after.machine.ended ≡ None → IsAccounted before.machine answers after.machine }
+{}
+
+/// `peek` shows the reply that `collect` would hand out, and nothing where it would hand out none.
+///
+/// Ours: docs/DECISIONS.md, Requests.
+pub fn peek_shows_what_collect_hands_out<M: Module>(_module: &M)
+    ensures { (machine : MachineState M.State M.Data M.Content) (tag : Tag) (content : M.Content)
+        → (peek_of machine tag ≡ Some content) ↔ ((collect_of machine tag).0 ≡ Reply content) }
+{}
+
+/// `waiting` counts the events of which the accounting of a run speaks.
+///
+/// Ours: docs/TRANSITIONS.md, Accounting.
+pub fn waiting_counts_what_is_accounted<M: Module>(_module: &M)
+    ensures { (machine : MachineState M.State M.Data M.Content) → waiting_of machine ≡ length (waiting_in machine) }
 {}

@@ -26,6 +26,9 @@ mod stop;
 mod tick;
 mod turn;
 mod turned;
+mod turns;
+mod turns_end;
+mod until_idle;
 
 pub use answer::Answer;
 pub use call::Call;
@@ -35,7 +38,8 @@ pub use engine::Core;
 pub use entry::Entry;
 pub use laws::{
     a_machine_is_lawful, a_run_is_accounted, a_run_keeps_machines_lawful, a_start_is_lawful,
-    a_state_change_is_a_change_of_value,
+    a_state_change_is_a_change_of_value, peek_shows_what_collect_hands_out,
+    waiting_counts_what_is_accounted,
 };
 pub use report::Report;
 pub use st_events::{
@@ -47,3 +51,5 @@ pub use st_requests::Collected;
 pub use st_timeouts::Due;
 pub use start::Start;
 pub use turned::Turned;
+pub use turns::Turns;
+pub use turns_end::TurnsEnd;

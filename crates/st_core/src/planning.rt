@@ -2,7 +2,8 @@
 ghost use Rattle.std.specs.Prelude.{◌≡◌, ◌++◌, List, IfOk};
 ghost use Rattle.st_events.specs.Rows.{ActionsFit, EnterActionsFit, RepliesFit, InsertsFit, SettingsFit, PlannedFits};
 ghost use Rattle.st_events.specs.declared.action.Action.{Action};
-ghost use Rattle.st_actions.specs.Joined.{as_actions, joined_of};
+ghost use Rattle.st_events.specs.declared.enter_action.EnterAction.{EnterAction};
+ghost use Rattle.st_actions.specs.Joined.{as_actions, enter_plan_of};
 ghost use Rattle.st_actions.specs.Plan.{plan_of};
 ghost use Rattle.st_core.specs.Callbacks.{reply_actions};
 
@@ -54,7 +55,7 @@ pub(crate) fn plan_both<C: Drop>(
     join_plans(alloc, first, second)
 }
 
-/// What is asked for by two lists, one after the other.
+/// What is asked for by an event's actions and by those of the enter call after it, as by one list.
 pub(crate) fn join_plans<C: Drop>(
     alloc: Global,
     first: Planned<C>,
@@ -63,7 +64,8 @@ pub(crate) fn join_plans<C: Drop>(
     requires replies_fit { RepliesFit C.row }
     requires inserts_fit { InsertsFit C.row }
     requires settings_fit { SettingsFit C.row }
-    ensures { IfOk result (λ planned. planned ≡ joined_of first second) }
+    ensures { (actions : List (Action C)) (enter : List (EnterAction C)) → first ≡ plan_of actions → second ≡ enter_plan_of enter
+        → IfOk result (λ planned. planned ≡ plan_of (actions ++ as_actions enter)) }
 {
     Ok(join(alloc, first, second)?)
 }

@@ -6,7 +6,7 @@ use st_events::{PlainList, Tag, Time, Timer};
 /// What a start or a turn did.
 ///
 /// Ours: docs/TRANSITIONS.md, A turn.
-#[derive(Debug, Drop)]
+#[derive(Debug, PartialEq, Eq, Drop)]
 pub struct Report<S> {
     /// The number of the event that was handled; a start has none.
     pub event: Option<u64>,

@@ -5,7 +5,7 @@ use crate::Report;
 /// What a turn answers.
 ///
 /// Ours: docs/TRANSITIONS.md, A turn.
-#[derive(Debug, Drop)]
+#[derive(Debug, PartialEq, Eq, Drop)]
 pub enum Turned<S> {
     /// It handled an event.
     Reported(Report<S>),

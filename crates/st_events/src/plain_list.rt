@@ -1,13 +1,15 @@
 //! Vectors that contracts see as lists.
+ghost use Rattle.std.specs.Cmp.Lexicographic.{pointwise, lists_per, lists_equiv};
 ghost use Rattle.std.specs.Prelude.{◌≡◌, []};
 
 use std::alloc::Global;
+use std::fmt::{self, Debug, Formatter, Write};
 use std::marker::Model;
 
 /// A vector of which contracts see the elements alone, and no capacity.
 ///
 /// Ours: docs/DECISIONS.md, Lists in values that definitions compare.
-#[derive(Debug, Drop)]
+#[derive(Drop)]
 pub struct PlainList<T> {
     elements: Vec<T>,
 }
@@ -51,5 +53,27 @@ impl<T> From<Vec<T>> for PlainList<T> {
 
     fn from(elements: Vec<T>) -> PlainList<T> {
         PlainList { elements }
+    }
+}
+
+/// Lists are equal where their elements are, one by one.
+impl<T: PartialEq> PartialEq for PlainList<T> {
+    ghost eq = { pointwise T.eq };
+
+    ghost laws = { lists_per T.laws };
+
+    fn eq(&self, other: &PlainList<T>) -> bool {
+        self.as_slice() == other.as_slice()
+    }
+}
+
+impl<T: Eq> Eq for PlainList<T> {
+    ghost laws = { lists_equiv T.Eq.laws };
+}
+
+/// It is shown as its elements are, as a list.
+impl<T: Debug> Debug for PlainList<T> {
+    fn fmt<W: Write>(&self, f: &mut Formatter<W>) -> fmt::Result {
+        f.debug_list().entries(self.elements.iter()).finish()
     }
 }

@@ -6,7 +6,7 @@ use crate::Refusal;
 /// Why a call was refused, and the value that it had taken.
 ///
 /// Ours: docs/TRANSITIONS.md, Refusals.
-#[derive(Debug, Drop)]
+#[derive(Debug, PartialEq, Eq, Drop)]
 pub struct Refused<T> {
     /// Why.
     pub refusal: Refusal,
@@ -22,5 +22,14 @@ impl<T> Refused<T> {
         ensures { result ≡ record { refusal = refusal; value = value } }
     {
         Refused { refusal, value }
+    }
+}
+
+/// Why the call was refused, so that `?` turns it into a refusal; the value is let go.
+impl<T: Drop> From<Refused<T>> for Refusal {
+    ghost from_gives = { λ refused refusal. refusal ≡ refused.refusal };
+
+    fn from(refused: Refused<T>) -> Refusal {
+        refused.refusal
     }
 }

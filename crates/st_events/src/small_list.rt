@@ -4,12 +4,13 @@ ghost use Rattle.std.specs.Option.{option_to_list};
 
 use smallvec::SmallVec;
 use std::alloc::{AllocFailed, Global};
+use std::fmt::{self, Debug, Formatter, Write};
 use std::marker::Model;
 
 /// A list of which up to four elements lie in the value itself. Contracts see its elements alone.
 ///
 /// Ours: docs/DECISIONS.md, Lists in values that definitions compare.
-#[derive(Debug, Drop)]
+#[derive(Drop)]
 pub struct SmallList<T> {
     // Each is `Some`: an inline place that is not used holds `None`, so that no element needs a blank.
     pub(crate) elements: SmallVec<Option<T>, 4>,
@@ -97,5 +98,14 @@ impl<T> SmallList<T> {
         ensures reversed { self.new ≡ reverse self.old }
     {
         self.elements.as_mut_slice().reverse();
+    }
+}
+
+/// It is shown as its elements are, as a list.
+impl<T: Debug> Debug for SmallList<T> {
+    fn fmt<W: Write>(&self, f: &mut Formatter<W>) -> fmt::Result {
+        f.debug_list()
+            .entries(self.elements.as_slice().iter().flatten())
+            .finish()
     }
 }

@@ -6,7 +6,7 @@ use st_events::Reason;
 ///
 /// Manual: `receive_response/1`, `check_response/2`, where a term stands for each of the first three; the last is
 /// ours.
-#[derive(Debug, Drop)]
+#[derive(Debug, PartialEq, Eq, Drop)]
 pub enum Collected<C> {
     /// The request is open: no reply has come.
     Waiting,

@@ -1,5 +1,5 @@
 use Rattle.std.proofs.Common.{arith, ap}
-use Rattle.st_actions.proofs.PlanLemmas.{joined_whole}
+use Rattle.st_actions.proofs.PlanLemmas.{joined_whole, joined_is}
 use Rattle.st_actions.proofs.JoinLemmas.{reserved_behind, both_moved, no_more_remain}
 use Rattle.st_actions.proofs.joining.join.Goals as goal
 
@@ -34,3 +34,8 @@ returns-clause-joined g c =
     (both_moved _ _ _ _ _ _ _ c.in-Ok.ensures.reserved c.move_all.ensures.moved c.move_all-2.ensures.moved c.finish-replies.ensures)
     (both_moved _ _ _ _ _ _ _ c.in-Ok-reserved_for.ensures.reserved c.move_all-3.ensures.moved c.move_all-4.ensures.moved c.finish-inserts.ensures)
     (both_moved _ _ _ _ _ _ _ c.in-Ok-reserved_for-2.ensures.reserved c.move_remaining.ensures.moved c.move_all-5.ensures.moved c.finish-settings.ensures)
+
+-- plans of two lists, joined, are the plan of both
+pub returns-clause-plan_of_both : goal.returns-clause-plan_of_both
+returns-clause-plan_of_both g c actions enter first second =
+    joined_is c.args.first c.args.second _ actions enter (returns-clause-joined g c) first second

@@ -1,9 +1,7 @@
 use Rattle.std.proofs.Common.{refl, ap, sym, ◌∙◌, append-nil}
-use Rattle.st_actions.specs.Joined.{as_actions}
 use Rattle.st_actions.specs.Plan.{plan_of}
-use Rattle.st_actions.proofs.PlanLemmas.{joined_plans}
 use Rattle.st_core.specs.Callbacks.{enter_reply_actions}
-use Rattle.st_core.proofs.PlanningLemmas.{ok_same, joined_is, enter-replies}
+use Rattle.st_core.proofs.PlanningLemmas.{enter-replies}
 use Rattle.st_core.proofs.TransitionLemmas.{or_old_twice}
 use Rattle.st_core.proofs.entered.plan_entered.Goals as goal
 
@@ -30,12 +28,8 @@ returns-in-Stop-clause-new_data g c held = rw (c.in-Stop.is, c.replace_given.ens
 -- it stops with replies, which follow
 pub returns-in-StopAndReply-clause-planned : goal.returns-in-StopAndReply-clause-planned
 returns-in-StopAndReply-clause-planned g c actions same =
-    let later = as_actions (enter_reply_actions c.in-StopAndReply.replies) in
-    rw c.in-StopAndReply.is (ok_same c.join_plans.result
-    (joined_is c.args.first c.replies_alone.result actions later same
-    (c.replies_alone.ensures ∙ ap plan_of (sym (enter-replies c.in-StopAndReply.replies)))
-    (joined_plans actions (enter_reply_actions c.in-StopAndReply.replies)))
-    c.join_plans.ensures)
+    rw c.in-StopAndReply.is (c.join_plans.ensures actions (enter_reply_actions c.in-StopAndReply.replies) same
+    (c.replies_alone.ensures ∙ ap plan_of (sym (enter-replies c.in-StopAndReply.replies))))
 
 pub returns-in-StopAndReply-clause-new_data : goal.returns-in-StopAndReply-clause-new_data
 returns-in-StopAndReply-clause-new_data g c held =
