@@ -3,6 +3,7 @@
 #![tactic(auto)]
 
 ghost use Rattle.std.specs.Prelude.{◌≡◌, ◌<◌};
+ghost use Rattle.statem.specs.Program.{mode_of, status_of};
 
 use st_door::{Counted, Mode, ScriptFault, run_script};
 use std::env;
@@ -15,7 +16,9 @@ use std::sync::ledger::{Blank, Ledger};
 const NOT_UNDERSTOOD: u8 = 2;
 
 /// The program's status after a fault.
-fn status_of(fault: ScriptFault) -> u8 {
+fn status_of(fault: ScriptFault) -> u8
+    ensures { result ≡ status_of fault }
+{
     match fault {
         ScriptFault::Read | ScriptFault::TooLong | ScriptFault::Write => 3,
         ScriptFault::Memory => 4,
@@ -23,7 +26,9 @@ fn status_of(fault: ScriptFault) -> u8 {
 }
 
 /// What the words after the program's name ask for: `run` is the one that is understood.
-fn mode_of(words: &[String]) -> Option<Mode> {
+fn mode_of(words: &[String]) -> Option<Mode>
+    ensures { result ≡ mode_of words.now }
+{
     match words {
         [_, word] if word.as_str() == "run" => Some(Mode::Run),
         _ => None,

@@ -1,0 +1,2 @@
+-- What the program's words mean, and its statuses.
+pub mod Program
