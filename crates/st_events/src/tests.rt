@@ -1,44 +1,55 @@
 //! Each call once with memory, and lists while an allocation is refused.
 ghost use Rattle.std.specs.Prelude.{◌≡◌, [], max};
 
+mod host;
+
 use crate::{
     Action, Actions, MachineId, PlainList, Refusal, Refused, SmallList, SmallListBuilder, Tag,
 };
+use host::Host;
 use std::alloc::{AllocError, Global};
+use std::fmt::Debug;
 use std::process::Abort;
 
 const MACHINE: MachineId = MachineId { slot: 2, serial: 5 };
 
-/// Says so where no allocation of this test was refused: then one of those that follow is.
-fn tell_refusals(rt: HostRuntime) {
-    for _ in 0..10_000 {
-        if Box::new(rt.alloc(), 'x').is_err() {
-            let _ = println!(rt; "nothing was refused");
-            return;
+/// A vector of two numbers. Where memory was refused, it is made again.
+fn pair(rt: &Host<impl Abort>, alloc: Global) -> Vec<u64> {
+    match [8, 9].to_vec(alloc) {
+        Ok(numbers) => numbers,
+        Err(_) => {
+            rt.retry();
+            [8, 9]
+                .to_vec(alloc)
+                .expect(rt, "one allocation alone is refused")
         }
     }
 }
 
-/// A vector of two numbers. Where memory was refused, it is made again.
-fn pair(rt: &impl Abort, alloc: Global) -> Vec<u64> {
-    match [8, 9].to_vec(alloc) {
-        Ok(numbers) => numbers,
-        Err(_) => [8, 9]
-            .to_vec(alloc)
-            .expect(rt, "one allocation alone is refused"),
+/// The text of a refusal. Where memory was refused, it is written again.
+fn text_of(rt: &Host<impl Abort>, alloc: Global, refusal: Refusal) -> String {
+    match format!(in alloc; "{refusal}") {
+        Ok(text) => text,
+        Err(_) => {
+            rt.retry();
+            format!(in alloc; "{refusal}").expect(rt, "one allocation alone is refused")
+        }
     }
 }
 
-/// The text of a refusal. Where memory was refused, it is written again.
-fn text_of(rt: &impl Abort, alloc: Global, refusal: Refusal) -> String {
-    match format!(in alloc; "{refusal}") {
+/// What a list is shown as. Where memory was refused, it is written again.
+fn shown(rt: &Host<impl Abort>, alloc: Global, list: &impl Debug) -> String {
+    match format!(in alloc; "{list:?}") {
         Ok(text) => text,
-        Err(_) => format!(in alloc; "{refusal}").expect(rt, "one allocation alone is refused"),
+        Err(_) => {
+            rt.retry();
+            format!(in alloc; "{list:?}").expect(rt, "one allocation alone is refused")
+        }
     }
 }
 
 /// A list in the making, reserved for so many numbers. Where memory was refused, it is asked for again.
-fn room_for(rt: &impl Abort, alloc: Global, count: usize) -> SmallListBuilder<u64>
+fn with_reserved(rt: &Host<impl Abort>, alloc: Global, count: usize) -> SmallListBuilder<u64>
     ensures { result ≡ record { items = []; reserved = max 4 count } }
 {
     match SmallListBuilder::with_reserved(alloc, count) {
@@ -46,6 +57,7 @@ fn room_for(rt: &impl Abort, alloc: Global, count: usize) -> SmallListBuilder<u6
         Err(_) => {
             // Four lie in the list itself.
             assert!(rt; count > 4);
+            rt.retry();
             SmallListBuilder::with_reserved(alloc, count).expect(
                 rt,
                 "one allocation alone is refused",
@@ -56,21 +68,14 @@ fn room_for(rt: &impl Abort, alloc: Global, count: usize) -> SmallListBuilder<u6
 
 /// A reply to a request, with ten times its number.
 fn reply(request: u64) -> Action<u64> {
-    let tag = Tag {
-        machine: MACHINE,
-        request,
-    };
-    Action::Reply(tag, request.saturating_mul(10))
+    Action::Reply(Tag::new(MACHINE, request), request.saturating_mul(10))
 }
 
 /// Says whether an action is that reply.
 fn is_reply(action: &Action<u64>, request: u64) -> bool {
     match action {
         Action::Reply(tag, content) => {
-            *tag == Tag {
-                machine: MACHINE,
-                request,
-            } && *content == request.saturating_mul(10)
+            *tag == Tag::new(MACHINE, request) && *content == request.saturating_mul(10)
         }
         Action::Postpone(_) | Action::NextEvent(_, _) | Action::Set(_, _, _) | Action::Hibernate =>
             false,
@@ -78,7 +83,7 @@ fn is_reply(action: &Action<u64>, request: u64) -> bool {
 }
 
 /// Looks that a list has these elements, and no others.
-fn has(rt: &impl Abort, list: &SmallList<u64>, elements: &[u64]) {
+fn has(rt: &Host<impl Abort>, list: &SmallList<u64>, elements: &[u64]) {
     assert_eq!(rt; list.len(), elements.len());
     assert_eq!(rt; list.is_empty(), elements.is_empty());
     for (index, element) in elements.iter().enumerate() {
@@ -88,7 +93,7 @@ fn has(rt: &impl Abort, list: &SmallList<u64>, elements: &[u64]) {
 }
 
 /// Looks that a list has the replies to the requests 0, 1, .., and no others.
-fn has_replies(rt: &impl Abort, actions: &Actions<u64>, count: usize) {
+fn has_replies(rt: &Host<impl Abort>, actions: &Actions<u64>, count: usize) {
     assert_eq!(rt; actions.len(), count);
     for (index, request) in (0..count).zip(0..6) {
         let action = actions.get(index).expect(rt, "there are so many");
@@ -98,6 +103,7 @@ fn has_replies(rt: &impl Abort, actions: &Actions<u64>, count: usize) {
 
 #[test]
 fn each_call_answers(rt: HostRuntime) {
+    let rt = Host::new(rt);
     let mut short = SmallList::new(rt.alloc());
     has(&rt, &short, &[]);
     assert_eq!(rt; short.pop(), None);
@@ -109,8 +115,9 @@ fn each_call_answers(rt: HostRuntime) {
     has(&rt, &short, &[2, 4, 6]);
     assert_eq!(rt; short.pop(), Some(6));
     has(&rt, &short, &[2, 4]);
+    assert_eq!(rt; shown(&rt, rt.alloc(), &short).as_str(), "[2, 4]");
 
-    let mut builder = room_for(&rt, rt.alloc(), 2);
+    let mut builder = with_reserved(&rt, rt.alloc(), 2);
     builder.push(3);
     builder.push(1);
     has(&rt, &builder.finish(), &[3, 1]);
@@ -119,12 +126,16 @@ fn each_call_answers(rt: HostRuntime) {
     assert_eq!(rt; none.as_slice(), [].as_slice());
     let two = PlainList::from(pair(&rt, rt.alloc()));
     assert_eq!(rt; two.as_slice(), [8, 9].as_slice());
+    assert!(rt; two == PlainList::from(pair(&rt, rt.alloc())));
+    assert!(rt; two != none);
+    assert_eq!(rt; shown(&rt, rt.alloc(), &two).as_str(), "[8, 9]");
     assert_eq!(rt; two.into_vec().as_slice(), [8, 9].as_slice());
-    tell_refusals(rt);
+    rt.end();
 }
 
 #[test]
 fn refusals_have_numbers_and_texts(rt: HostRuntime) {
+    let rt = Host::new(rt);
     for (refusal, number, text) in [
         (Refusal::NoMemory, 1, "no memory"),
         (Refusal::Stopped(9), 2, "stopped"),
@@ -141,11 +152,15 @@ fn refusals_have_numbers_and_texts(rt: HostRuntime) {
     let refused = Refused::new(Refusal::Moment, 7);
     assert_eq!(rt; refused.refusal, Refusal::Moment);
     assert_eq!(rt; refused.value, 7);
-    tell_refusals(rt);
+    assert_eq!(rt; Refusal::from(refused), Refusal::Moment);
+    let tag = Tag::new(MACHINE, 4);
+    assert_eq!(rt; (tag.machine, tag.request), (MACHINE, 4));
+    rt.end();
 }
 
 #[test]
 fn a_refused_push_changes_nothing(rt: HostRuntime) {
+    let rt = Host::new(rt);
     let mut actions: Actions<u64> = SmallList::new(rt.alloc());
     for request in 0..6 {
         let count = actions.len();
@@ -154,6 +169,7 @@ fn a_refused_push_changes_nothing(rt: HostRuntime) {
             assert!(rt; count >= 4);
             assert!(rt; is_reply(&failed.value, request));
             has_replies(&rt, &actions, count);
+            rt.retry();
             assert!(rt; actions.push(failed.value).is_ok());
         }
         has_replies(&rt, &actions, count.saturating_add(1));
@@ -164,12 +180,13 @@ fn a_refused_push_changes_nothing(rt: HostRuntime) {
         assert!(rt; is_reply(&action, request));
     }
     assert!(rt; actions.is_empty());
-    tell_refusals(rt);
+    rt.end();
 }
 
 #[test]
-fn room_is_got_before_the_elements_come(rt: HostRuntime) {
-    let mut builder = room_for(&rt, rt.alloc(), 6);
+fn memory_is_reserved_before_the_elements_come(rt: HostRuntime) {
+    let rt = Host::new(rt);
+    let mut builder = with_reserved(&rt, rt.alloc(), 6);
     builder.push(9);
     builder.push(8);
     builder.push(7);
@@ -177,5 +194,5 @@ fn room_is_got_before_the_elements_come(rt: HostRuntime) {
     builder.push(5);
     builder.push(4);
     has(&rt, &builder.finish(), &[9, 8, 7, 6, 5, 4]);
-    tell_refusals(rt);
+    rt.end();
 }

@@ -1,5 +1,9 @@
 //! Each call once with memory at hand, and all of them where one allocation is refused.
+
+mod host;
+
 use crate::EventQueue;
+use host::Host;
 use std::process::Abort;
 
 /// All that can be read of a queue without a change to it.
@@ -14,37 +18,29 @@ fn readable(queue: &EventQueue<char>) -> (usize, bool, usize, usize, Option<char
 }
 
 /// Pushes an event. A push that finds no memory changes nothing that can be read, and is made again.
-fn push(rt: &impl Abort, queue: &mut EventQueue<char>, event: char) {
+fn push(rt: &Host<impl Abort>, queue: &mut EventQueue<char>, event: char) {
     let before = readable(queue);
     if let Err(failed) = queue.push_back(event) {
         assert_eq!(rt; failed.value, event);
         assert_eq!(rt; readable(queue), before);
+        rt.retry();
         assert!(rt; queue.push_back(event).is_ok());
     }
 }
 
 /// Stages nodes. A call that finds no memory changes nothing that can be read, and is made again.
-fn stage(rt: &impl Abort, queue: &mut EventQueue<char>, count: usize) {
+fn stage(rt: &Host<impl Abort>, queue: &mut EventQueue<char>, count: usize) {
     let before = readable(queue);
     if queue.stage(count).is_err() {
         assert_eq!(rt; readable(queue), before);
+        rt.retry();
         assert!(rt; queue.stage(count).is_ok());
-    }
-}
-
-/// Prints a line where no allocation of the test was refused: then one of those made here is.
-/// `tools/refuse-each` reads it.
-fn tell_refusals(rt: HostRuntime) {
-    for _ in 0..10_000 {
-        if Box::new(rt.alloc(), 'x').is_err() {
-            let _ = println!(rt; "nothing was refused");
-            return;
-        }
     }
 }
 
 #[test]
 fn each_call_answers(rt: HostRuntime) {
+    let rt = Host::new(rt);
     let mut queue = EventQueue::new(rt.alloc());
     assert!(rt; queue.is_empty());
     assert_eq!(rt; queue.staged(), 0);
@@ -85,11 +81,12 @@ fn each_call_answers(rt: HostRuntime) {
     assert_eq!(rt; queue.before(), 8);
     assert_eq!(rt; queue.len(), 8);
     assert_eq!(rt; queue.staged(), 1);
-    tell_refusals(rt);
+    rt.end();
 }
 
 #[test]
 fn a_refused_call_changes_nothing(rt: HostRuntime) {
+    let rt = Host::new(rt);
     let mut queue = EventQueue::new(rt.alloc());
     // The first push takes memory, and so does each that finds 4 or 8 events.
     for event in ['a', 'b', 'c', 'd'] {
@@ -114,11 +111,12 @@ fn a_refused_call_changes_nothing(rt: HostRuntime) {
         assert_eq!(rt; queue.remove(), Some(event));
     }
     assert!(rt; queue.is_empty());
-    tell_refusals(rt);
+    rt.end();
 }
 
 #[test]
 fn a_staged_event_takes_no_memory(rt: HostRuntime) {
+    let rt = Host::new(rt);
     let mut queue = EventQueue::new(rt.alloc());
     stage(&rt, &mut queue, 3);
     // A smaller count makes no node and takes none away.
@@ -143,5 +141,5 @@ fn a_staged_event_takes_no_memory(rt: HostRuntime) {
     ] {
         assert_eq!(rt; queue.remove(), Some(event));
     }
-    tell_refusals(rt);
+    rt.end();
 }

@@ -2,7 +2,10 @@
 ghost use Rattle.std.specs.Prelude.{◌≡◌, ◌++◌, [], ◌∷◌, None, vec_capacity};
 ghost use Rattle.st_requests.specs.Requests.{held_for};
 
+mod host;
+
 use crate::{Collected, RequestState, Requests};
+use host::Host;
 use st_events::{MachineId, Replies, SmallList, Tag};
 use std::alloc::Global;
 use std::process::Abort;
@@ -27,41 +30,35 @@ fn replies(requests: &Requests<u32>) -> [Option<u32>; 8] {
 }
 
 /// Opens a request. A call that finds no memory changes nothing that can be read, and is made again.
-fn open(rt: &impl Abort, requests: &mut Requests<u32>, tag: Tag)
+fn open(rt: &Host<impl Abort>, requests: &mut Requests<u32>, tag: Tag)
     requires { held_for requests.old tag ≡ None }
     ensures { requests.new ≡ requests.old ++ record { tag = tag; held = RequestState.Open } ∷ [] }
 {
     let before = replies(requests);
     if requests.open(tag).is_err() {
         assert_eq!(rt; replies(requests), before);
+        rt.retry();
         assert!(rt; requests.open(tag).is_ok());
     }
 }
 
 /// A list that is reserved for so many tags. Where memory was refused, it is asked for again.
-fn room_for(rt: &impl Abort, alloc: Global, count: usize) -> Vec<Tag>
+fn with_reserved(rt: &Host<impl Abort>, alloc: Global, count: usize) -> Vec<Tag>
     ensures empty { result.items ≡ [] }
-    ensures room { vec_capacity result ≡ count }
+    ensures reserved { vec_capacity result ≡ count }
 {
     match Vec::with_capacity(alloc, count) {
         Ok(tags) => tags,
-        Err(_) => Vec::with_capacity(alloc, count).expect(rt, "one allocation alone is refused"),
-    }
-}
-
-/// Prints a line where no allocation of the test was refused: then one of those made here is.
-/// `tools/refuse-each` reads it.
-fn tell_refusals(rt: HostRuntime) {
-    for _ in 0..10_000 {
-        if Box::new(rt.alloc(), 'x').is_err() {
-            let _ = println!(rt; "nothing was refused");
-            return;
+        Err(_) => {
+            rt.retry();
+            Vec::with_capacity(alloc, count).expect(rt, "one allocation alone is refused")
         }
     }
 }
 
 #[test]
 fn each_call_answers(rt: HostRuntime) {
+    let rt = Host::new(rt);
     let mut requests = Requests::new(rt.alloc());
     open(&rt, &mut requests, tag(1));
     open(&rt, &mut requests, tag(2));
@@ -79,11 +76,12 @@ fn each_call_answers(rt: HostRuntime) {
     assert_eq!(rt; requests.peek(tag(2)).copied(), None);
     assert!(rt; matches!(requests.collect(tag(2)), Collected::Stopped(9)));
     assert!(rt; matches!(requests.collect(tag(2)), Collected::Gone));
-    tell_refusals(rt);
+    rt.end();
 }
 
 #[test]
 fn a_reply_outlives_the_machine(rt: HostRuntime) {
+    let rt = Host::new(rt);
     let mut requests = Requests::new(rt.alloc());
     open(&rt, &mut requests, tag(1));
     open(&rt, &mut requests, tag(2));
@@ -105,11 +103,12 @@ fn a_reply_outlives_the_machine(rt: HostRuntime) {
     assert!(rt; matches!(requests.collect(tag(1)), Collected::Gone));
     assert!(rt; matches!(requests.collect(tag(2)), Collected::Gone));
     assert!(rt; matches!(requests.collect(tag(3)), Collected::Gone));
-    tell_refusals(rt);
+    rt.end();
 }
 
 #[test]
 fn another_machine_has_requests_of_its_own(rt: HostRuntime) {
+    let rt = Host::new(rt);
     let mut requests = Requests::new(rt.alloc());
     let elsewhere = Tag {
         machine: MachineId { slot: 1, serial: 1 },
@@ -125,11 +124,12 @@ fn another_machine_has_requests_of_its_own(rt: HostRuntime) {
     assert!(rt; matches!(requests.collect(elsewhere), Collected::Gone));
     assert!(rt; matches!(requests.collect(later), Collected::Gone));
     assert!(rt; matches!(requests.collect(tag(1)), Collected::Waiting));
-    tell_refusals(rt);
+    rt.end();
 }
 
 #[test]
 fn a_refused_call_changes_nothing(rt: HostRuntime) {
+    let rt = Host::new(rt);
     let mut requests = Requests::new(rt.alloc());
     open(&rt, &mut requests, tag(1));
     open(&rt, &mut requests, tag(2));
@@ -152,11 +152,12 @@ fn a_refused_call_changes_nothing(rt: HostRuntime) {
     assert!(rt; matches!(requests.collect(tag(3)), Collected::Reply(70)));
     assert!(rt; matches!(requests.collect(tag(4)), Collected::Waiting));
     assert!(rt; matches!(requests.collect(tag(1)), Collected::Gone));
-    tell_refusals(rt);
+    rt.end();
 }
 
 #[test]
 fn a_request_is_taken_back(rt: HostRuntime) {
+    let rt = Host::new(rt);
     let mut requests = Requests::new(rt.alloc());
     open(&rt, &mut requests, tag(1));
     open(&rt, &mut requests, tag(2));
@@ -172,16 +173,17 @@ fn a_request_is_taken_back(rt: HostRuntime) {
     assert!(rt; matches!(requests.collect(tag(2)), Collected::Gone));
     assert!(rt; requests.answer(tag(1), 70));
     assert!(rt; matches!(requests.collect(tag(1)), Collected::Reply(70)));
-    tell_refusals(rt);
+    rt.end();
 }
 
 #[test]
 fn replies_are_taken_in_order(rt: HostRuntime) {
+    let rt = Host::new(rt);
     let mut requests = Requests::new(rt.alloc());
     open(&rt, &mut requests, tag(1));
     open(&rt, &mut requests, tag(2));
     open(&rt, &mut requests, tag(3));
-    let mut taken = room_for(&rt, rt.alloc(), 5);
+    let mut taken = with_reserved(&rt, rt.alloc(), 5);
     taken.push_reserved(tag(9));
     // Four replies lie in the list itself. To the fourth request none was opened, and the second is
     // answered twice.
@@ -198,5 +200,5 @@ fn replies_are_taken_in_order(rt: HostRuntime) {
     );
     assert!(rt; matches!(requests.collect(tag(3)), Collected::Waiting));
     assert!(rt; matches!(requests.collect(tag(4)), Collected::Gone));
-    tell_refusals(rt);
+    rt.end();
 }

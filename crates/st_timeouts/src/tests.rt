@@ -1,7 +1,10 @@
 //! Each call once with memory at hand, and all of them where one allocation is refused.
 ghost use Rattle.std.specs.Prelude.{◌≤◌, ◌<◌, ◌^◌};
 
+mod host;
+
 use crate::{Due, Timeouts};
+use host::Host;
 use st_events::{PlainList, Timer};
 use std::process::Abort;
 
@@ -16,16 +19,17 @@ struct Seen {
 }
 
 /// The list. Where it finds no memory, it is asked for again.
-fn listed(rt: &impl Abort, timeouts: &Timeouts<char>) -> PlainList<(Timer, u64, Due)> {
+fn listed(rt: &Host<impl Abort>, timeouts: &Timeouts<char>) -> PlainList<(Timer, u64, Due)> {
     if let Ok(list) = timeouts.list() {
         return list;
     }
+    rt.retry();
     timeouts
         .list()
         .expect(rt, "one allocation alone is refused")
 }
 
-fn readable(rt: &impl Abort, timeouts: &Timeouts<char>) -> Seen {
+fn readable(rt: &Host<impl Abort>, timeouts: &Timeouts<char>) -> Seen {
     let list = listed(rt, timeouts);
     let mut contents = [None; 8];
     for (content, (timer, number, _)) in contents.iter_mut().zip(list.as_slice()) {
@@ -46,7 +50,7 @@ fn readable(rt: &impl Abort, timeouts: &Timeouts<char>) -> Seen {
 }
 
 /// Reserves for so many. A call that finds no memory changes nothing that can be read, and is made again.
-fn reserve_for(rt: &impl Abort, timeouts: &mut Timeouts<char>, count: usize)
+fn reserve_for(rt: &Host<impl Abort>, timeouts: &mut Timeouts<char>, count: usize)
     ensures { count ≤ timeouts.new.reserved }
 {
     let before = readable(rt, timeouts);
@@ -57,13 +61,14 @@ fn reserve_for(rt: &impl Abort, timeouts: &mut Timeouts<char>, count: usize)
         assert_eq!(rt; after.first_zero, before.first_zero);
         assert_eq!(rt; after.next_due, before.next_due);
         assert_eq!(rt; after.due, before.due);
+        rt.retry();
         assert!(rt; timeouts.reserve(count).is_ok());
     }
 }
 
 /// Sets a timer, and reserves for it before.
 fn set(
-    rt: &impl Abort,
+    rt: &Host<impl Abort>,
     timeouts: &mut Timeouts<char>,
     timer: Timer,
     time: u32,
@@ -77,19 +82,9 @@ fn set(
     timeouts.set(timer, time, content, number, now)
 }
 
-/// Prints a line where no allocation of the test was refused: then one of those made here is.
-/// `tools/refuse-each` reads it.
-fn tell_refusals(rt: HostRuntime) {
-    for _ in 0..10_000 {
-        if Box::new(rt.alloc(), 'x').is_err() {
-            let _ = println!(rt; "nothing was refused");
-            return;
-        }
-    }
-}
-
 #[test]
 fn each_call_answers(rt: HostRuntime) {
+    let rt = Host::new(rt);
     let mut timeouts = Timeouts::new(rt.alloc());
     assert_eq!(rt; timeouts.first_zero(), None);
     assert_eq!(rt; timeouts.next_due(), None);
@@ -136,11 +131,12 @@ fn each_call_answers(rt: HostRuntime) {
         listed(&rt, &timeouts).as_slice(),
         [(Timer::Named(7), 4, Due::At(7))].as_slice()
     );
-    tell_refusals(rt);
+    rt.end();
 }
 
 #[test]
 fn two_time_outs_for_one_moment_come_by_number(rt: HostRuntime) {
+    let rt = Host::new(rt);
     let mut timeouts = Timeouts::new(rt.alloc());
     assert_eq!(rt;
         set(&rt, &mut timeouts, Timer::Named(1), 20, 'a', 1, 0),
@@ -159,11 +155,12 @@ fn two_time_outs_for_one_moment_come_by_number(rt: HostRuntime) {
     assert_eq!(rt; timeouts.next_expiry(20), Some((Timer::Named(1), 1)));
     assert_eq!(rt; timeouts.next_expiry(20), Some((Timer::Named(3), 3)));
     assert_eq!(rt; timeouts.next_expiry(20), None);
-    tell_refusals(rt);
+    rt.end();
 }
 
 #[test]
 fn a_timer_set_anew_goes_last(rt: HostRuntime) {
+    let rt = Host::new(rt);
     let mut timeouts = Timeouts::new(rt.alloc());
     assert_eq!(rt;
         set(&rt, &mut timeouts, Timer::Named(1), 20, 'a', 1, 0),
@@ -191,11 +188,12 @@ fn a_timer_set_anew_goes_last(rt: HostRuntime) {
     assert_eq!(rt; timeouts.content(Timer::Named(1), 3).copied(), Some('c'));
     assert_eq!(rt; timeouts.take(Timer::Named(1), 1), None);
     assert_eq!(rt; timeouts.take(Timer::Named(1), 3), Some('c'));
-    tell_refusals(rt);
+    rt.end();
 }
 
 #[test]
 fn a_zero_time_out_waits_for_no_moment(rt: HostRuntime) {
+    let rt = Host::new(rt);
     let mut timeouts = Timeouts::new(rt.alloc());
     assert_eq!(rt;
         set(&rt, &mut timeouts, Timer::Named(5), 0, 'a', 8, 4),
@@ -208,11 +206,12 @@ fn a_zero_time_out_waits_for_no_moment(rt: HostRuntime) {
     assert_eq!(rt; timeouts.first_zero(), Some((Timer::Named(5), 8)));
     assert_eq!(rt; timeouts.take(Timer::Named(5), 8), Some('a'));
     assert_eq!(rt; timeouts.first_zero(), Some((Timer::Event, 9)));
-    tell_refusals(rt);
+    rt.end();
 }
 
 #[test]
 fn an_expiry_comes_once(rt: HostRuntime) {
+    let rt = Host::new(rt);
     let mut timeouts = Timeouts::new(rt.alloc());
     assert_eq!(rt; set(&rt, &mut timeouts, Timer::State, 10, 'a', 1, 0), None);
     assert_eq!(rt; timeouts.next_expiry(10), Some((Timer::State, 1)));
@@ -230,11 +229,12 @@ fn an_expiry_comes_once(rt: HostRuntime) {
         Some('a')
     );
     assert_eq!(rt; timeouts.next_expiry(20), Some((Timer::State, 2)));
-    tell_refusals(rt);
+    rt.end();
 }
 
 #[test]
 fn the_last_moment_and_the_longest_time(rt: HostRuntime) {
+    let rt = Host::new(rt);
     let mut timeouts = Timeouts::new(rt.alloc());
     let now = 9_223_372_036_854_775_807;
     assert_eq!(rt;
@@ -251,11 +251,12 @@ fn the_last_moment_and_the_longest_time(rt: HostRuntime) {
         timeouts.next_expiry(9_223_372_041_149_743_102),
         Some((Timer::Event, 1))
     );
-    tell_refusals(rt);
+    rt.end();
 }
 
 #[test]
 fn a_refused_call_changes_nothing(rt: HostRuntime) {
+    let rt = Host::new(rt);
     let mut timeouts = Timeouts::new(rt.alloc());
     assert_eq!(rt; set(&rt, &mut timeouts, Timer::Event, 0, 'a', 1, 0), None);
     assert_eq!(rt; set(&rt, &mut timeouts, Timer::State, 10, 'b', 2, 0), None);
@@ -284,5 +285,5 @@ fn a_refused_call_changes_nothing(rt: HostRuntime) {
     assert_eq!(rt; timeouts.next_expiry(20), Some((Timer::Named(2), 4)));
     assert_eq!(rt; timeouts.next_expiry(20), Some((Timer::Named(1), 3)));
     assert_eq!(rt; timeouts.next_expiry(20), None);
-    tell_refusals(rt);
+    rt.end();
 }

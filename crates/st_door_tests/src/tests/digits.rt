@@ -1,45 +1,51 @@
 //! Lists of digits, one call at a time.
 
-use super::tell_refusals;
+use super::host::Host;
 use st_door::Digits;
 use std::alloc::Global;
 use std::process::Abort;
 
 /// A list of these digits.
-pub fn digits(rt: &impl Abort, alloc: Global, digits: &[u8]) -> Digits {
+pub fn digits(rt: &Host<impl Abort>, alloc: Global, digits: &[u8]) -> Digits {
     match Digits::copied(alloc, digits) {
         Ok(copy) => copy,
-        Err(_) => Digits::copied(alloc, digits).expect(rt, "memory"),
+        Err(_) => {
+            rt.retry();
+            Digits::copied(alloc, digits).expect(rt, "memory")
+        }
     }
 }
 
 /// Sees that a list has these digits.
-pub fn has_digits(rt: &impl Abort, list: &Digits, digits: &[u8]) {
+pub fn has_digits(rt: &Host<impl Abort>, list: &Digits, digits: &[u8]) {
     assert_eq!(rt; list.as_slice(), digits);
     assert_eq!(rt; list.len(), digits.len());
 }
 
 /// Puts a digit at the end of a list. Where there is no memory, the list stays, and the call is made again.
-fn push(rt: &impl Abort, list: &mut Digits, digit: u8, before: &[u8]) {
+fn push(rt: &Host<impl Abort>, list: &mut Digits, digit: u8, before: &[u8]) {
     has_digits(rt, list, before);
     if list.push(digit).is_err() {
         has_digits(rt, list, before);
+        rt.retry();
         assert!(rt; list.push(digit).is_ok());
     }
 }
 
 #[test]
 fn digits_go_to_the_end(rt: HostRuntime) {
+    let rt = Host::new(rt);
     let mut list = Digits::new(rt.alloc());
     push(&rt, &mut list, 4, &[]);
     push(&rt, &mut list, 0, &[4]);
     push(&rt, &mut list, 9, &[4, 0]);
     has_digits(&rt, &list, &[4, 0, 9]);
-    tell_refusals(&rt);
+    rt.end();
 }
 
 #[test]
 fn digits_are_copied(rt: HostRuntime) {
+    let rt = Host::new(rt);
     has_digits(&rt, &digits(&rt, rt.alloc(), &[1, 2]), &[1, 2]);
-    tell_refusals(&rt);
+    rt.end();
 }

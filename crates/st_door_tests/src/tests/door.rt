@@ -1,7 +1,7 @@
 //! The door's callbacks, called as a machine calls them, row by row.
 
 use super::digits::{digits, has_digits};
-use super::tell_refusals;
+use super::host::Host;
 use st_door::{
     Action, Actions, Digits, Door, DoorContent, DoorData, DoorState, EnterAction, EnterActions,
     EnterOutcome, Init, Kind, MachineId, Module, Outcome, Reason, Tag, Time, Timer,
@@ -20,15 +20,19 @@ type Handled = Outcome<DoorState, DoorData, DoorContent>;
 type Entered = EnterOutcome<DoorData, DoorContent>;
 
 /// The answer to a start. A call that finds no memory is made again.
-fn started(alloc: Global, code: &Digits) -> Result<Started, AllocError> {
+fn started(rt: &Host<impl Abort>, alloc: Global, code: &Digits) -> Result<Started, AllocError> {
     match Door.init(alloc, code) {
-        Err(AllocError) => Door.init(alloc, code),
+        Err(AllocError) => {
+            rt.retry();
+            Door.init(alloc, code)
+        }
         answer => answer,
     }
 }
 
 /// The answer to an event. A call that finds no memory is made again.
 fn handled(
+    rt: &Host<impl Abort>,
     alloc: Global,
     kind: Kind,
     content: &DoorContent,
@@ -36,36 +40,57 @@ fn handled(
     held: &DoorData,
 ) -> Result<Handled, AllocError> {
     match Door.handle(alloc, kind, content, state, held) {
-        Err(AllocError) => Door.handle(alloc, kind, content, state, held),
+        Err(AllocError) => {
+            rt.retry();
+            Door.handle(alloc, kind, content, state, held)
+        }
         answer => answer,
     }
 }
 
 /// The answer where a state is entered. A call that finds no memory is made again.
 fn entered(
+    rt: &Host<impl Abort>,
     alloc: Global,
     old: DoorState,
     state: DoorState,
     held: &DoorData,
 ) -> Result<Entered, AllocError> {
     match Door.enter(alloc, old, state, held) {
-        Err(AllocError) => Door.enter(alloc, old, state, held),
+        Err(AllocError) => {
+            rt.retry();
+            Door.enter(alloc, old, state, held)
+        }
         answer => answer,
     }
 }
 
 /// A copy of a content. A call that finds no memory is made again.
-fn copied_content(alloc: Global, content: &DoorContent) -> Result<DoorContent, AllocError> {
+fn copied_content(
+    rt: &Host<impl Abort>,
+    alloc: Global,
+    content: &DoorContent,
+) -> Result<DoorContent, AllocError> {
     match Door.copy_content(alloc, content) {
-        Err(AllocError) => Door.copy_content(alloc, content),
+        Err(AllocError) => {
+            rt.retry();
+            Door.copy_content(alloc, content)
+        }
         answer => answer,
     }
 }
 
 /// A copy of the data. A call that finds no memory is made again.
-fn copied_data(alloc: Global, held: &DoorData) -> Result<DoorData, AllocError> {
+fn copied_data(
+    rt: &Host<impl Abort>,
+    alloc: Global,
+    held: &DoorData,
+) -> Result<DoorData, AllocError> {
     match Door.copy_data(alloc, held) {
-        Err(AllocError) => Door.copy_data(alloc, held),
+        Err(AllocError) => {
+            rt.retry();
+            Door.copy_data(alloc, held)
+        }
         answer => answer,
     }
 }
@@ -74,7 +99,7 @@ fn copied_data(alloc: Global, held: &DoorData) -> Result<DoorData, AllocError> {
 const CODE: &[u8] = &[1, 2];
 
 /// A door's data with this code and these buttons.
-fn data_with(rt: &impl Abort, alloc: Global, buttons: &[u8]) -> DoorData {
+fn data_with(rt: &Host<impl Abort>, alloc: Global, buttons: &[u8]) -> DoorData {
     let code = digits(rt, alloc, CODE);
     let buttons = digits(rt, alloc, buttons);
     DoorData { code, buttons }
@@ -134,13 +159,13 @@ struct Row {
 }
 
 /// Sees that data has the code and these buttons.
-fn has(rt: &impl Abort, held: &DoorData, buttons: &[u8]) {
+fn has(rt: &Host<impl Abort>, held: &DoorData, buttons: &[u8]) {
     has_digits(rt, &held.code, CODE);
     has_digits(rt, &held.buttons, buttons);
 }
 
 /// An answer to an event, where its data has the code and these buttons.
-fn answer_of(rt: &impl Abort, outcome: &Handled, buttons: &[u8]) -> Answer {
+fn answer_of(rt: &Host<impl Abort>, outcome: &Handled, buttons: &[u8]) -> Answer {
     match outcome {
         Outcome::NextState(state, held, actions) => {
             has(rt, held, buttons);
@@ -152,24 +177,24 @@ fn answer_of(rt: &impl Abort, outcome: &Handled, buttons: &[u8]) -> Answer {
 }
 
 /// Sees that a door answers an event as its row says.
-fn holds(rt: &impl Abort, alloc: Global, row: Row) {
+fn holds(rt: &Host<impl Abort>, alloc: Global, row: Row) {
     let held = data_with(rt, alloc, row.buttons);
-    let outcome = handled(alloc, row.kind, &row.content, row.state, &held);
+    let outcome = handled(rt, alloc, row.kind, &row.content, row.state, &held);
     let answer = answer_of(rt, &outcome.expect(rt, "memory"), row.after);
     let (kind, content, state) = (row.kind, row.content, row.state);
     assert!(rt; answer == row.answer, "{kind:?} {content:?} {state:?}");
 }
 
 /// A test of these rows.
-fn hold(rt: &(impl Abort + Print + AllocGlobal), rows: &[Row]) {
+fn hold(rt: &Host<impl Abort + Print + AllocGlobal>, rows: &[Row]) {
     for row in rows {
         holds(rt, rt.alloc(), *row);
     }
-    tell_refusals(rt);
+    rt.end();
 }
 
 /// An answer to an enter call, where its data has the code and these buttons.
-fn enter_answer_of(rt: &impl Abort, outcome: &Entered, buttons: &[u8]) -> Answer {
+fn enter_answer_of(rt: &Host<impl Abort>, outcome: &Entered, buttons: &[u8]) -> Answer {
     match outcome {
         EnterOutcome::KeepState(held, actions) => {
             has(rt, held, buttons);
@@ -183,7 +208,7 @@ fn enter_answer_of(rt: &impl Abort, outcome: &Entered, buttons: &[u8]) -> Answer
 /// Sees what a door with these buttons answers where a state is entered. Where it has data, that has no
 /// button.
 fn enters(
-    rt: &impl Abort,
+    rt: &Host<impl Abort>,
     alloc: Global,
     old: DoorState,
     state: DoorState,
@@ -191,7 +216,7 @@ fn enters(
     wanted: Answer,
 ) {
     let held = data_with(rt, alloc, buttons);
-    let outcome = entered(alloc, old, state, &held).expect(rt, "memory");
+    let outcome = entered(rt, alloc, old, state, &held).expect(rt, "memory");
     let answer = enter_answer_of(rt, &outcome, &[]);
     assert!(rt; answer == wanted, "{old:?} {state:?}");
 }
@@ -204,15 +229,16 @@ const TAG: Tag = Tag {
 
 #[test]
 fn a_door_begins_locked(rt: HostRuntime) {
+    let rt = Host::new(rt);
     let code = digits(&rt, rt.alloc(), CODE);
-    let begun = started(rt.alloc(), &code).expect(&rt, "memory");
+    let begun = started(&rt, rt.alloc(), &code).expect(&rt, "memory");
     let Init::Ok(state, held, actions) = begun else {
         panic!(rt; "no door");
     };
     assert_eq!(rt; state, DoorState::Locked);
     has(&rt, &held, &[]);
     assert!(rt; actions.is_empty());
-    tell_refusals(&rt);
+    rt.end();
 }
 
 /// A button at a locked door with these buttons, which goes to a state with those.
@@ -235,6 +261,7 @@ fn button(
 
 #[test]
 fn a_button_counts_for_30000_milliseconds_while_the_door_is_locked(rt: HostRuntime) {
+    let rt = Host::new(rt);
     let time = Time::After(30_000);
     let asked = Asked::Sets(Timer::Event, time, DoorContent::Nothing);
     let rows = [
@@ -248,6 +275,7 @@ fn a_button_counts_for_30000_milliseconds_while_the_door_is_locked(rt: HostRunti
 
 #[test]
 fn the_last_digit_of_the_code_opens_the_door(rt: HostRuntime) {
+    let rt = Host::new(rt);
     let rows = [
         button(2, &[1], DoorState::Open, &[], Asked::Nothing),
         button(2, &[3, 1], DoorState::Open, &[], Asked::Nothing),
@@ -257,6 +285,7 @@ fn the_last_digit_of_the_code_opens_the_door(rt: HostRuntime) {
 
 #[test]
 fn a_button_of_an_open_door_is_postponed(rt: HostRuntime) {
+    let rt = Host::new(rt);
     for digit in [1, 2] {
         let row = Row {
             kind: Kind::Cast,
@@ -268,7 +297,7 @@ fn a_button_of_an_open_door_is_postponed(rt: HostRuntime) {
         };
         holds(&rt, rt.alloc(), row);
     }
-    tell_refusals(&rt);
+    rt.end();
 }
 
 /// The time-out of a timer at a door with the button 1.
@@ -285,6 +314,7 @@ fn time_out(timer: Timer, state: DoorState, answer: Answer, after: &'static [u8]
 
 #[test]
 fn a_timeout_locks_the_door_or_forgets_its_buttons(rt: HostRuntime) {
+    let rt = Host::new(rt);
     let locked = Answer::Goes(DoorState::Locked, Asked::Nothing);
     let stays = Answer::Stays(Asked::Nothing);
     let rows = [
@@ -300,17 +330,19 @@ fn a_timeout_locks_the_door_or_forgets_its_buttons(rt: HostRuntime) {
 
 #[test]
 fn a_locked_door_is_entered_with_no_button(rt: HostRuntime) {
+    let rt = Host::new(rt);
     let (locked, open) = (DoorState::Locked, DoorState::Open);
     let wanted = Answer::Holds(Asked::Nothing);
     assert!(rt; Door.enters());
     enters(&rt, rt.alloc(), locked, locked, &[], wanted);
     enters(&rt, rt.alloc(), open, locked, &[], wanted);
     enters(&rt, rt.alloc(), open, locked, &[2, 1], wanted);
-    tell_refusals(&rt);
+    rt.end();
 }
 
 #[test]
 fn an_open_door_is_entered_for_10000_milliseconds(rt: HostRuntime) {
+    let rt = Host::new(rt);
     let time = Time::After(10_000);
     let asked = Asked::Sets(Timer::State, time, DoorContent::Nothing);
     let wanted = Answer::Stays(asked);
@@ -322,11 +354,12 @@ fn an_open_door_is_entered_for_10000_milliseconds(rt: HostRuntime) {
         &[],
         wanted,
     );
-    tell_refusals(&rt);
+    rt.end();
 }
 
 #[test]
 fn a_call_is_told_how_long_the_code_is(rt: HostRuntime) {
+    let rt = Host::new(rt);
     for state in [DoorState::Locked, DoorState::Open] {
         let row = Row {
             kind: Kind::Call(TAG),
@@ -338,7 +371,7 @@ fn a_call_is_told_how_long_the_code_is(rt: HostRuntime) {
         };
         holds(&rt, rt.alloc(), row);
     }
-    tell_refusals(&rt);
+    rt.end();
 }
 
 /// What changes nothing in any state.
@@ -367,17 +400,18 @@ fn unchanging(kind: Kind, content: DoorContent, state: DoorState) -> Row {
 
 #[test]
 fn all_else_changes_nothing(rt: HostRuntime) {
+    let rt = Host::new(rt);
     for (kind, content) in ELSE {
         for state in [DoorState::Locked, DoorState::Open] {
             holds(&rt, rt.alloc(), unchanging(*kind, *content, state));
         }
     }
-    tell_refusals(&rt);
+    rt.end();
 }
 
 /// Sees what the last word is of a door that had these buttons.
 fn has_last_word(
-    rt: &impl Abort,
+    rt: &Host<impl Abort>,
     alloc: Global,
     reason: Reason,
     state: DoorState,
@@ -390,25 +424,27 @@ fn has_last_word(
 
 #[test]
 fn the_last_word_counts_the_buttons(rt: HostRuntime) {
+    let rt = Host::new(rt);
     has_last_word(&rt, rt.alloc(), 7, DoorState::Locked, &[], 0);
     has_last_word(&rt, rt.alloc(), 0, DoorState::Locked, &[1], 1);
     has_last_word(&rt, rt.alloc(), Reason::MAX, DoorState::Locked, &[9, 1], 2);
     has_last_word(&rt, rt.alloc(), 7, DoorState::Open, &[], 0);
-    tell_refusals(&rt);
+    rt.end();
 }
 
 /// Sees that the copy of a content is equal to it.
-fn has_equal_copy(rt: &impl Abort, alloc: Global, content: DoorContent) {
-    let copy = copied_content(alloc, &content).expect(rt, "memory");
+fn has_equal_copy(rt: &Host<impl Abort>, alloc: Global, content: DoorContent) {
+    let copy = copied_content(rt, alloc, &content).expect(rt, "memory");
     assert!(rt; copy == content);
 }
 
 #[test]
 fn copies_are_equal(rt: HostRuntime) {
+    let rt = Host::new(rt);
     has_equal_copy(&rt, rt.alloc(), DoorContent::Button(7));
     has_equal_copy(&rt, rt.alloc(), DoorContent::Length(16));
     let held = data_with(&rt, rt.alloc(), &[1]);
-    let copy = copied_data(rt.alloc(), &held);
+    let copy = copied_data(&rt, rt.alloc(), &held);
     has(&rt, &copy.expect(&rt, "memory"), &[1]);
-    tell_refusals(&rt);
+    rt.end();
 }

@@ -1,8 +1,8 @@
 //! Reads, writes and allocations that fail.
 
+use super::host::Host;
 use super::streams::{Failure, PLAIN, Way, ends, shows};
 use super::worked::ALL;
-use super::{is_left_out, tell_refusals};
 use st_door::ScriptFault;
 use std::alloc::{AllocError, Global};
 use std::io::Print;
@@ -39,52 +39,57 @@ fn failing_write(most: usize, failing_write: usize, failure: Failure) -> Way {
 }
 
 /// Sees that a script ends at the read that fails, before anything is written.
-fn ends_at_read(rt: &impl Abort, alloc: Global, script: &[u8], way: Way) {
+fn ends_at_read(rt: &Host<impl Abort>, alloc: Global, script: &[u8], way: Way) {
     ends(rt, alloc, script, way, Err(ScriptFault::Read), b"");
 }
 
 /// Sees that a script ends at the write that fails, when these bytes are written.
-fn ends_at_write(rt: &impl Abort, alloc: Global, script: &[u8], way: Way, output: &[u8]) {
+fn ends_at_write(rt: &Host<impl Abort>, alloc: Global, script: &[u8], way: Way, output: &[u8]) {
     ends(rt, alloc, script, way, Err(ScriptFault::Write), output);
 }
 
 #[test]
 fn a_byte_at_a_time_is_the_same(rt: HostRuntime) {
+    let rt = Host::new(rt);
     ends(&rt, rt.alloc(), SCRIPT, at_most(1), Ok(1), OUTPUT);
-    tell_refusals(&rt);
+    rt.end();
 }
 
 #[test]
 fn a_read_that_fails_ends_the_script_before_it_begins(rt: HostRuntime) {
+    let rt = Host::new(rt);
     // Four bytes a read: three full reads, one of a byte, and the end.
     for read in 1..6 {
         ends_at_read(&rt, rt.alloc(), SCRIPT, failing_read(4, read));
     }
-    tell_refusals(&rt);
+    rt.end();
 }
 
 /// A test that fails at each write in turn: four bytes a write, of 17 bytes five writes and of 6 bytes two.
-fn fail_writes(rt: &(impl Abort + Print + AllocGlobal), failure: Failure) {
+fn fail_writes(rt: &Host<impl Abort + Print + AllocGlobal>, failure: Failure) {
     for (write, length) in [(1, 0), (2, 4), (3, 8), (4, 12), (5, 16), (6, 17), (7, 21)] {
         let way = failing_write(4, write, failure);
         ends_at_write(rt, rt.alloc(), SCRIPT, way, &OUTPUT[..length]);
     }
-    tell_refusals(rt);
+    rt.end();
 }
 
 #[test]
 fn a_write_that_fails_ends_the_script(rt: HostRuntime) {
+    let rt = Host::new(rt);
     fail_writes(&rt, Failure::Error);
 }
 
 #[test]
 fn a_write_that_takes_nothing_ends_the_script(rt: HostRuntime) {
+    let rt = Host::new(rt);
     fail_writes(&rt, Failure::TakesNothing);
 }
 
 #[test]
 fn each_worked_script_is_the_same_a_byte_at_a_time(rt: HostRuntime) {
-    if is_left_out(&rt) {
+    let rt = Host::new(rt);
+    if rt.is_left_out() {
         return;
     }
     for worked in ALL {
@@ -102,7 +107,8 @@ fn each_worked_script_is_the_same_a_byte_at_a_time(rt: HostRuntime) {
 
 #[test]
 fn each_worked_script_ends_at_each_read_that_fails(rt: HostRuntime) {
-    if is_left_out(&rt) {
+    let rt = Host::new(rt);
+    if rt.is_left_out() {
         return;
     }
     for worked in ALL {
@@ -114,8 +120,8 @@ fn each_worked_script_ends_at_each_read_that_fails(rt: HostRuntime) {
 }
 
 /// A test that fails at each write of each worked script in turn, a byte a write.
-fn fail_each_write(rt: &(impl Abort + Print + AllocGlobal), failure: Failure) {
-    if is_left_out(rt) {
+fn fail_each_write(rt: &Host<impl Abort + Print + AllocGlobal>, failure: Failure) {
+    if rt.is_left_out() {
         return;
     }
     for worked in ALL {
@@ -129,16 +135,19 @@ fn fail_each_write(rt: &(impl Abort + Print + AllocGlobal), failure: Failure) {
 
 #[test]
 fn each_worked_script_ends_at_each_write_that_fails(rt: HostRuntime) {
+    let rt = Host::new(rt);
     fail_each_write(&rt, Failure::Error);
 }
 
 #[test]
 fn each_worked_script_ends_at_each_write_that_takes_nothing(rt: HostRuntime) {
+    let rt = Host::new(rt);
     fail_each_write(&rt, Failure::TakesNothing);
 }
 
 #[test]
 fn no_memory_ends_the_script(rt: HostRuntime) {
+    let rt = Host::new(rt);
     shows(
         &rt,
         b"new a 1\nbutton a 1\nbutton a 1\nat 10000\nstop a 7\nnames\n",
@@ -158,9 +167,12 @@ fn text_of(alloc: Global, fault: ScriptFault) -> Result<String, AllocError> {
 }
 
 /// Sees what text a fault has. Where memory was refused, it is printed again.
-fn has_text(rt: &impl Abort, alloc: Global, fault: ScriptFault, text: &str) {
+fn has_text(rt: &Host<impl Abort>, alloc: Global, fault: ScriptFault, text: &str) {
     let printed = match text_of(alloc, fault) {
-        Err(AllocError) => text_of(alloc, fault),
+        Err(AllocError) => {
+            rt.retry();
+            text_of(alloc, fault)
+        }
         printed => printed,
     };
     assert_eq!(rt; printed.expect(rt, "memory").as_str(), text);
@@ -168,9 +180,10 @@ fn has_text(rt: &impl Abort, alloc: Global, fault: ScriptFault, text: &str) {
 
 #[test]
 fn each_fault_has_its_text(rt: HostRuntime) {
+    let rt = Host::new(rt);
     has_text(&rt, rt.alloc(), ScriptFault::Read, "read fault");
     has_text(&rt, rt.alloc(), ScriptFault::TooLong, "input too long");
     has_text(&rt, rt.alloc(), ScriptFault::Write, "write fault");
     has_text(&rt, rt.alloc(), ScriptFault::Memory, "no memory");
-    tell_refusals(&rt);
+    rt.end();
 }

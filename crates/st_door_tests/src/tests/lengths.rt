@@ -1,9 +1,11 @@
 //! Doors that are asked how long their code is.
 
+use super::host::Host;
 use super::streams::shows;
 
 #[test]
 fn a_code_has_1_to_16_digits(rt: HostRuntime) {
+    let rt = Host::new(rt);
     shows(
         &rt,
         b"new a 0\nnew b 0000000000\nnew c 1234567890123456\nlength a\nlength b\nlength c\n",
@@ -19,6 +21,7 @@ fn a_code_has_1_to_16_digits(rt: HostRuntime) {
 
 #[test]
 fn a_length_is_the_same_each_time(rt: HostRuntime) {
+    let rt = Host::new(rt);
     shows(
         &rt,
         b"new a 12\nlength a\nlength a\nbutton a 3\nlength a\nshow a\n",
@@ -34,6 +37,7 @@ fn a_length_is_the_same_each_time(rt: HostRuntime) {
 
 #[test]
 fn an_open_door_says_its_length_and_stays_open_as_long(rt: HostRuntime) {
+    let rt = Host::new(rt);
     shows(
         &rt,
         b"new a 12\n\
@@ -60,6 +64,7 @@ fn an_open_door_says_its_length_and_stays_open_as_long(rt: HostRuntime) {
 
 #[test]
 fn a_call_cancels_the_time_out_of_its_door_alone(rt: HostRuntime) {
+    let rt = Host::new(rt);
     shows(
         &rt,
         b"new a 12\n\
@@ -86,6 +91,7 @@ fn a_call_cancels_the_time_out_of_its_door_alone(rt: HostRuntime) {
 
 #[test]
 fn a_refused_length_changes_nothing(rt: HostRuntime) {
+    let rt = Host::new(rt);
     shows(
         &rt,
         b"new a 12\n\

@@ -1,23 +1,25 @@
 //! Scripts at their limits and one past them.
 
-use super::streams::{PLAIN, Way, ends, prints, room, shows};
-use super::{is_left_out, tell_refusals};
+use super::host::Host;
+use super::streams::{PLAIN, Way, ends, prints, shows, with_reserved};
 use st_door::{INPUT_LIMIT, ScriptFault};
 use std::alloc::{AllocError, Global};
 
 #[test]
 fn a_line_has_256_bytes_at_most(rt: HostRuntime) {
+    let rt = Host::new(rt);
     let spaces = [b' '; 257];
     prints(&rt, rt.alloc(), &spaces[..256], "", 0);
     prints(&rt, rt.alloc(), &spaces, "line 1 malformed\n", 1);
     let comment = [b'#'; 257];
     prints(&rt, rt.alloc(), &comment[..256], "", 0);
     prints(&rt, rt.alloc(), &comment, "line 1 malformed\n", 1);
-    tell_refusals(&rt);
+    rt.end();
 }
 
 #[test]
 fn a_carriage_return_is_dropped_before_the_count(rt: HostRuntime) {
+    let rt = Host::new(rt);
     let mut line = [b' '; 258];
     line[256] = b'\r';
     prints(&rt, rt.alloc(), &line[..257], "", 0);
@@ -26,11 +28,12 @@ fn a_carriage_return_is_dropped_before_the_count(rt: HostRuntime) {
     line[256] = b' ';
     line[257] = b'\r';
     prints(&rt, rt.alloc(), &line, "line 1 malformed\n", 1);
-    tell_refusals(&rt);
+    rt.end();
 }
 
 #[test]
 fn a_name_has_32_bytes_and_a_code_16_digits_at_most(rt: HostRuntime) {
+    let rt = Host::new(rt);
     shows(
         &rt,
         b"new abcdefghijklmnopqrstuvwxyz_-0123 1234567890123456\n\
@@ -45,6 +48,7 @@ fn a_name_has_32_bytes_and_a_code_16_digits_at_most(rt: HostRuntime) {
 
 #[test]
 fn a_reason_has_10_digits_and_is_4294967295_at_most(rt: HostRuntime) {
+    let rt = Host::new(rt);
     shows(
         &rt,
         b"new a 1\n\
@@ -73,11 +77,12 @@ fn a_reason_has_10_digits_and_is_4294967295_at_most(rt: HostRuntime) {
 
 #[test]
 fn an_input_has_1048576_bytes_at_most(rt: HostRuntime) {
-    if is_left_out(&rt) {
+    let rt = Host::new(rt);
+    if rt.is_left_out() {
         return;
     }
     assert_eq!(rt; INPUT_LIMIT, 1_048_576);
-    let mut input = room(rt.alloc(), 1_048_577);
+    let mut input = with_reserved(rt.alloc(), 1_048_577);
     assert!(rt; input.resize(1_048_577, b'\n').is_ok());
     prints(&rt, rt.alloc(), &input.as_slice()[1..], "", 0);
     let wanted = Err(ScriptFault::TooLong);
@@ -110,8 +115,8 @@ fn add(list: &mut Vec<u8>, parts: &[&[u8]]) -> Result<(), AllocError> {
 
 /// A script that starts 65,537 doors, and its output.
 fn many_doors(alloc: Global) -> Result<(Vec<u8>, Vec<u8>), AllocError> {
-    let mut script = room(alloc, 1_000_000);
-    let mut output = room(alloc, 3_000_000);
+    let mut script = with_reserved(alloc, 1_000_000);
+    let mut output = with_reserved(alloc, 3_000_000);
     for number in 0..65_536 {
         let name = name_of(number);
         add(&mut script, &[b"new ", &name, b" 1\n"])?;
@@ -124,12 +129,13 @@ fn many_doors(alloc: Global) -> Result<(Vec<u8>, Vec<u8>), AllocError> {
 
 #[test]
 fn there_are_65536_doors_at_most(rt: HostRuntime) {
-    if is_left_out(&rt) {
+    let rt = Host::new(rt);
+    if rt.is_left_out() {
         return;
     }
     let (script, output) = many_doors(rt.alloc()).expect(&rt, "memory");
     let way = Way {
-        room: 3_000_000,
+        reserved: 3_000_000,
         ..PLAIN
     };
     ends(

@@ -1,7 +1,7 @@
 //! How a script is cut into lines and words, and words that have no form.
 
+use super::host::Host;
 use super::streams::{all_show, prints, shows};
-use super::tell_refusals;
 use std::alloc::Global;
 use std::process::Abort;
 
@@ -10,6 +10,7 @@ const MALFORMED: &str = "line 1 malformed\n";
 
 #[test]
 fn a_tab_parts_no_words(rt: HostRuntime) {
+    let rt = Host::new(rt);
     let scripts = [
         b"show\ta".as_slice(),
         b"new\ta 1",
@@ -22,6 +23,7 @@ fn a_tab_parts_no_words(rt: HostRuntime) {
 
 #[test]
 fn bytes_above_127_stand_in_comments_alone(rt: HostRuntime) {
+    let rt = Host::new(rt);
     let scripts = [
         b"\x80".as_slice(),
         b"\xff names",
@@ -36,11 +38,13 @@ fn bytes_above_127_stand_in_comments_alone(rt: HostRuntime) {
 
 #[test]
 fn bytes_above_127_may_stand_in_comments(rt: HostRuntime) {
+    let rt = Host::new(rt);
     shows(&rt, b" # \x80\xc3\xa4\xff", "", 0);
 }
 
 #[test]
 fn a_name_begins_with_a_small_letter(rt: HostRuntime) {
+    let rt = Host::new(rt);
     let scripts = [
         b"new Front 1".as_slice(),
         b"new fronT 1",
@@ -53,6 +57,7 @@ fn a_name_begins_with_a_small_letter(rt: HostRuntime) {
 
 #[test]
 fn each_word_has_its_form(rt: HostRuntime) {
+    let rt = Host::new(rt);
     let scripts = [
         b"at 018446744073709551615".as_slice(),
         b"new abcdefghijklmnopqrstuvwxyz0123456 1",
@@ -70,11 +75,13 @@ fn each_word_has_its_form(rt: HostRuntime) {
 
 #[test]
 fn a_line_ends_with_one_carriage_return(rt: HostRuntime) {
+    let rt = Host::new(rt);
     all_show(&rt, &[b"names\r\n".as_slice(), b"names\r"], "names\n", 0);
 }
 
 #[test]
 fn a_line_ends_with_one_carriage_return_at_most(rt: HostRuntime) {
+    let rt = Host::new(rt);
     let scripts = [
         b"names\r\r\n".as_slice(),
         b"names\r\r",
@@ -86,21 +93,24 @@ fn a_line_ends_with_one_carriage_return_at_most(rt: HostRuntime) {
 
 #[test]
 fn a_last_line_without_a_line_feed_counts(rt: HostRuntime) {
+    let rt = Host::new(rt);
     shows(&rt, b"names\nshow a", "names\nline 2 refused 8\n", 1);
 }
 
 #[test]
 fn a_last_line_may_be_a_carriage_return(rt: HostRuntime) {
+    let rt = Host::new(rt);
     shows(&rt, b"names\n\r", "names\n", 0);
 }
 
 /// Sees that a script is refused at its last line, which tells how many lines stand before it.
-fn is_refused(rt: &impl Abort, alloc: Global, script: &[u8], output: &str) {
+fn is_refused(rt: &Host<impl Abort>, alloc: Global, script: &[u8], output: &str) {
     prints(rt, alloc, script, output, 1);
 }
 
 #[test]
 fn only_an_empty_last_piece_is_no_line(rt: HostRuntime) {
+    let rt = Host::new(rt);
     is_refused(&rt, rt.alloc(), b"show a", "line 1 refused 8\n");
     is_refused(&rt, rt.alloc(), b"show a\n", "line 1 refused 8\n");
     is_refused(&rt, rt.alloc(), b"\nshow a", "line 2 refused 8\n");
@@ -123,5 +133,5 @@ fn only_an_empty_last_piece_is_no_line(rt: HostRuntime) {
         b"names\n\nshow a",
         "names\nline 3 refused 8\n",
     );
-    tell_refusals(&rt);
+    rt.end();
 }

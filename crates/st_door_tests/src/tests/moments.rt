@@ -1,9 +1,11 @@
 //! Moments of scripts, and the time-outs that expire at them.
 
+use super::host::Host;
 use super::streams::shows;
 
 #[test]
 fn each_button_counts_for_30000_milliseconds_more(rt: HostRuntime) {
+    let rt = Host::new(rt);
     shows(
         &rt,
         b"new a 123\nbutton a 1\nat 20000\nbutton a 2\nat 49999\nshow a\nat 50000\nshow a\n",
@@ -21,6 +23,7 @@ fn each_button_counts_for_30000_milliseconds_more(rt: HostRuntime) {
 
 #[test]
 fn an_open_door_is_locked_after_10000_milliseconds(rt: HostRuntime) {
+    let rt = Host::new(rt);
     shows(
         &rt,
         b"new a 1\nat 5\nbutton a 1\nat 10004\nshow a\nat 10005\nshow a\n",
@@ -37,6 +40,7 @@ fn an_open_door_is_locked_after_10000_milliseconds(rt: HostRuntime) {
 
 #[test]
 fn a_door_that_locked_itself_has_no_button(rt: HostRuntime) {
+    let rt = Host::new(rt);
     shows(
         &rt,
         b"new a 12\n\
@@ -67,6 +71,7 @@ fn a_door_that_locked_itself_has_no_button(rt: HostRuntime) {
 
 #[test]
 fn a_button_that_waited_may_open_the_door_again(rt: HostRuntime) {
+    let rt = Host::new(rt);
     shows(
         &rt,
         b"new a 1\nbutton a 1\nbutton a 1\nat 10000\nshow a\nat 19999\nat 20000\nshow a\n",
@@ -84,6 +89,7 @@ fn a_button_that_waited_may_open_the_door_again(rt: HostRuntime) {
 
 #[test]
 fn moments_from_9223372036854775808_on_are_refused(rt: HostRuntime) {
+    let rt = Host::new(rt);
     shows(
         &rt,
         b"at 9223372036854775808\nat 18446744073709551615\nat 7\nat 9223372036854775807\n",
@@ -97,6 +103,7 @@ fn moments_from_9223372036854775808_on_are_refused(rt: HostRuntime) {
 
 #[test]
 fn a_refused_moment_changes_nothing(rt: HostRuntime) {
+    let rt = Host::new(rt);
     shows(
         &rt,
         b"new a 12\n\
@@ -125,6 +132,7 @@ fn a_refused_moment_changes_nothing(rt: HostRuntime) {
 
 #[test]
 fn a_moment_has_20_digits_and_is_18446744073709551615_at_most(rt: HostRuntime) {
+    let rt = Host::new(rt);
     shows(
         &rt,
         b"at 18446744073709551616\n\
@@ -157,6 +165,7 @@ fn a_moment_has_20_digits_and_is_18446744073709551615_at_most(rt: HostRuntime) {
 
 #[test]
 fn a_moment_that_goes_back_counts_as_the_latest(rt: HostRuntime) {
+    let rt = Host::new(rt);
     shows(
         &rt,
         b"at 10\nat 5\nnew a 12\nat 0\nbutton a 1\nat 30009\nat 30010\n",
@@ -173,6 +182,7 @@ fn a_moment_that_goes_back_counts_as_the_latest(rt: HostRuntime) {
 
 #[test]
 fn a_stopped_door_is_not_ticked(rt: HostRuntime) {
+    let rt = Host::new(rt);
     shows(
         &rt,
         b"new a 12\nbutton a 1\nstop a 7\nat 30000\nshow a\n",
@@ -187,6 +197,7 @@ fn a_stopped_door_is_not_ticked(rt: HostRuntime) {
 
 #[test]
 fn each_door_is_ticked(rt: HostRuntime) {
+    let rt = Host::new(rt);
     shows(
         &rt,
         b"new a 12\nnew b 12\nbutton a 1\nbutton b 1\nat 30000\nshow a\nshow b\n",
@@ -203,6 +214,7 @@ fn each_door_is_ticked(rt: HostRuntime) {
 
 #[test]
 fn a_door_between_others_is_stopped_and_they_are_ticked(rt: HostRuntime) {
+    let rt = Host::new(rt);
     shows(
         &rt,
         b"new a 12\nnew b 12\nnew c 1\nbutton a 1\nbutton b 1\nbutton c 1\nstop b 7\nat 30000\nshow a\nshow b\nshow c\n",
@@ -223,6 +235,7 @@ fn a_door_between_others_is_stopped_and_they_are_ticked(rt: HostRuntime) {
 
 #[test]
 fn a_door_that_starts_later_counts_from_the_moment_of_the_script(rt: HostRuntime) {
+    let rt = Host::new(rt);
     shows(
         &rt,
         b"at 100\nnew a 12\nbutton a 1\nat 30099\nat 30100\nshow a\n",

@@ -1,9 +1,11 @@
 //! Whole scripts, and what they print.
 
+use super::host::Host;
 use super::streams::shows;
 
 #[test]
 fn only_the_last_digit_opens_the_door(rt: HostRuntime) {
+    let rt = Host::new(rt);
     shows(
         &rt,
         b"new a 1234\nbutton a 1\nbutton a 2\nbutton a 3\nbutton a 4\n",
@@ -18,6 +20,7 @@ fn only_the_last_digit_opens_the_door(rt: HostRuntime) {
 
 #[test]
 fn each_button_of_an_open_door_waits(rt: HostRuntime) {
+    let rt = Host::new(rt);
     shows(
         &rt,
         b"new a 1\nbutton a 1\nbutton a 1\nbutton a 2\nshow a\n",
@@ -32,6 +35,7 @@ fn each_button_of_an_open_door_waits(rt: HostRuntime) {
 
 #[test]
 fn a_stopped_door_keeps_its_name_and_its_reason(rt: HostRuntime) {
+    let rt = Host::new(rt);
     shows(
         &rt,
         b"new a 1\nnew b 1\nstop a 0000000007\nstop a 8\nnew a 1\nstop c 7\nnames\nbutton b 1\nshow a\n",
@@ -50,6 +54,7 @@ fn a_stopped_door_keeps_its_name_and_its_reason(rt: HostRuntime) {
 
 #[test]
 fn names_stand_in_order_of_registration(rt: HostRuntime) {
+    let rt = Host::new(rt);
     shows(
         &rt,
         b"names\nnew b 1\nnew a 2\nnames\nshow b\nshow c\n",
@@ -65,6 +70,7 @@ fn names_stand_in_order_of_registration(rt: HostRuntime) {
 
 #[test]
 fn lines_without_words_and_comments_print_nothing(rt: HostRuntime) {
+    let rt = Host::new(rt);
     shows(
         &rt,
         b"#\x00\t\xff no text\r\n\n  \r\n  # show a\n\r\n names \r\n\n#names\nnames",
@@ -75,6 +81,7 @@ fn lines_without_words_and_comments_print_nothing(rt: HostRuntime) {
 
 #[test]
 fn what_has_no_form_is_malformed(rt: HostRuntime) {
+    let rt = Host::new(rt);
     shows(
         &rt,
         b"new a 1\n\
@@ -127,6 +134,7 @@ fn what_has_no_form_is_malformed(rt: HostRuntime) {
 
 #[test]
 fn a_malformed_line_changes_nothing(rt: HostRuntime) {
+    let rt = Host::new(rt);
     shows(
         &rt,
         b"new a 12\nbutton a 1\nbutton a +2\nnew a 3\nbutton a 2\n",

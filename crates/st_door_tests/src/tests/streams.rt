@@ -2,7 +2,7 @@
 ghost use Rattle.std.specs.Prelude.{◌≡◌, ◌<◌};
 ghost use Rattle.std.specs.Io.{ReadsAtMost};
 
-use super::tell_refusals;
+use super::host::Host;
 use st_door::{Counted, Mode, ScriptFault, run_script};
 use std::alloc::Global;
 use std::io::{self, ErrorKind, Print, Read, Write};
@@ -27,8 +27,8 @@ pub struct Way {
     /// Which write fails.
     pub failing_write: usize,
     pub failure: Failure,
-    /// For how many bytes of output there is room from the start.
-    pub room: usize,
+    /// For how many bytes of output memory is reserved from the start.
+    pub reserved: usize,
 }
 
 /// All at a time, and no failure.
@@ -37,7 +37,7 @@ pub const PLAIN: Way = Way {
     failing_read: 0,
     failing_write: 0,
     failure: Failure::Error,
-    room: 1024,
+    reserved: 1024,
 };
 
 /// Gives the bytes of a slice.
@@ -66,17 +66,24 @@ impl Read for Reader<'_> {
     }
 }
 
-/// Holds the bytes that it took.
+/// Holds the bytes that it took, and notes whether it was handed one line at each write.
 #[derive(Drop)]
 struct Writer {
     held: Vec<u8>,
     writes: usize,
+    by_lines: bool,
     way: Way,
+}
+
+/// Whether bytes are one line with its end.
+fn is_line(bytes: &[u8]) -> bool {
+    bytes.iter().position(|byte| *byte == b'\n') == bytes.len().checked_sub(1)
 }
 
 impl Write for Writer {
     fn write(&mut self, buf: &[u8]) -> io::Result<usize> {
         self.writes = self.writes.saturating_add(1);
+        self.by_lines &= is_line(buf);
         if self.writes == self.way.failing_write {
             return match self.way.failure {
                 Failure::Error => Err(io::Error::from(ErrorKind::Other)),
@@ -93,8 +100,8 @@ impl Write for Writer {
     }
 }
 
-/// An empty list with room for some bytes, whichever one allocation is refused.
-pub fn room(alloc: Global, bytes: usize) -> Vec<u8> {
+/// An empty list with memory reserved for some bytes, whichever one allocation is refused.
+pub fn with_reserved(alloc: Global, bytes: usize) -> Vec<u8> {
     let mut list = Vec::new(alloc);
     if list.reserve(bytes).is_err() {
         let _ = list.reserve(bytes);
@@ -109,26 +116,27 @@ fn over<A: Ledger, B: Ledger>(
     writer: Writer,
     a: Blank,
     b: Blank,
-) -> (Result<u8, ScriptFault>, Vec<u8>)
+) -> (Result<u8, ScriptFault>, Writer)
     requires a { (a.name ≡ A.name) × (a.parts ≡ A.parts) × (0 < a.parts) }
     requires b { (b.name ≡ B.name) × (b.parts ≡ B.parts) × (0 < b.parts) }
 {
     let mut reader: Counted<Reader<'_>, A> = Counted::new(reader, a);
     let mut writer: Counted<Writer, B> = Counted::new(writer, b);
     let answer = run_script(alloc, Mode::Run, &mut reader, &mut writer);
-    (answer, writer.into_inner().held)
+    (answer, writer.into_inner())
 }
 
-/// Runs a script: the answer, and what was written.
-fn run_once(alloc: Global, script: &[u8], way: Way) -> (Result<u8, ScriptFault>, Vec<u8>) {
+/// Runs a script: the answer, and the writer with what was written.
+fn run_once(alloc: Global, script: &[u8], way: Way) -> (Result<u8, ScriptFault>, Writer) {
     let reader = Reader {
         left: script,
         reads: 0,
         way,
     };
     let writer = Writer {
-        held: room(alloc, way.room),
+        held: with_reserved(alloc, way.reserved),
         writes: 0,
+        by_lines: true,
         way,
     };
     over::<Brand, Brand>(alloc, reader, writer, Blank::new(1), Blank::new(1))
@@ -137,36 +145,39 @@ fn run_once(alloc: Global, script: &[u8], way: Way) -> (Result<u8, ScriptFault>,
 /// Sees that a script ends with this answer when these bytes are written. Where no memory was found, a
 /// front of them was written, and the script is run once more.
 pub fn ends(
-    rt: &impl Abort,
+    rt: &Host<impl Abort>,
     alloc: Global,
     script: &[u8],
     way: Way,
     wanted: Result<u8, ScriptFault>,
     output: &[u8],
 ) {
-    let (mut answer, mut written) = run_once(alloc, script, way);
+    let (mut answer, mut writer) = run_once(alloc, script, way);
     if answer == Err(ScriptFault::Memory) {
-        assert!(rt; output.starts_with(written.as_slice()));
-        (answer, written) = run_once(alloc, script, way);
+        assert!(rt; output.starts_with(writer.held.as_slice()));
+        rt.retry();
+        (answer, writer) = run_once(alloc, script, way);
     }
-    assert_eq!(rt; written.as_slice(), output, "{way:?}");
+    assert_eq!(rt; writer.held.as_slice(), output, "{way:?}");
     assert_eq!(rt; answer, wanted, "{way:?}");
+    // A writer that takes all is handed each line by one write.
+    assert!(rt; writer.by_lines || way.most < usize::MAX);
 }
 
 /// Sees that a script prints this and has this status.
-pub fn prints(rt: &impl Abort, alloc: Global, script: &[u8], output: &str, status: u8) {
+pub fn prints(rt: &Host<impl Abort>, alloc: Global, script: &[u8], output: &str, status: u8) {
     ends(rt, alloc, script, PLAIN, Ok(status), output.as_bytes());
 }
 
 /// A test of one script, by what it prints and its status.
-pub fn shows(rt: &(impl Abort + Print + AllocGlobal), script: &[u8], output: &str, status: u8) {
+pub fn shows(rt: &Host<impl Abort + Print + AllocGlobal>, script: &[u8], output: &str, status: u8) {
     prints(rt, rt.alloc(), script, output, status);
-    tell_refusals(rt);
+    rt.end();
 }
 
 /// A test of scripts that have the same output and the same status.
 pub fn all_show(
-    rt: &(impl Abort + Print + AllocGlobal),
+    rt: &Host<impl Abort + Print + AllocGlobal>,
     scripts: &[&[u8]],
     output: &str,
     status: u8,
@@ -174,5 +185,5 @@ pub fn all_show(
     for script in scripts {
         prints(rt, rt.alloc(), script, output, status);
     }
-    tell_refusals(rt);
+    rt.end();
 }

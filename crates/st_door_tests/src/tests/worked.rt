@@ -1,5 +1,6 @@
 //! Scripts whose outputs are worked out by hand, each by itself.
 
+use super::host::Host;
 use super::streams::shows;
 use std::io::Print;
 use std::process::Abort;
@@ -288,86 +289,102 @@ pub const ALL: &[Worked] = &[
 ];
 
 /// A test of one of them.
-fn shows_its_output(rt: &(impl Abort + Print + AllocGlobal), worked: Worked) {
+fn shows_its_output(rt: &Host<impl Abort + Print + AllocGlobal>, worked: Worked) {
     shows(rt, worked.script, worked.output, worked.status);
 }
 
 #[test]
 fn an_empty_script_prints_nothing(rt: HostRuntime) {
+    let rt = Host::new(rt);
     shows_its_output(&rt, EMPTY);
 }
 
 #[test]
 fn the_code_opens_the_door(rt: HostRuntime) {
+    let rt = Host::new(rt);
     shows_its_output(&rt, OPENING);
 }
 
 #[test]
 fn the_last_buttons_count(rt: HostRuntime) {
+    let rt = Host::new(rt);
     shows_its_output(&rt, LAST_BUTTONS);
 }
 
 #[test]
 fn refused_and_malformed_lines_are_told_by_number(rt: HostRuntime) {
+    let rt = Host::new(rt);
     shows_its_output(&rt, FAULTS);
 }
 
 #[test]
 fn two_doors_stand_in_order(rt: HostRuntime) {
+    let rt = Host::new(rt);
     shows_its_output(&rt, TWO_DOORS);
 }
 
 #[test]
 fn a_stop_drops_what_waits_and_ends_the_door(rt: HostRuntime) {
+    let rt = Host::new(rt);
     shows_its_output(&rt, STOPPING);
 }
 
 #[test]
 fn a_stopped_door_tells_how_many_buttons_it_had(rt: HostRuntime) {
+    let rt = Host::new(rt);
     shows_its_output(&rt, LAST_WORD);
 }
 
 #[test]
 fn a_button_of_an_open_door_waits(rt: HostRuntime) {
+    let rt = Host::new(rt);
     shows_its_output(&rt, POSTPONING);
 }
 
 #[test]
 fn a_postponed_button_counts_once_the_door_is_locked(rt: HostRuntime) {
+    let rt = Host::new(rt);
     shows_its_output(&rt, RETRYING);
 }
 
 #[test]
 fn buttons_are_forgotten_after_30000_milliseconds(rt: HostRuntime) {
+    let rt = Host::new(rt);
     shows_its_output(&rt, FORGETTING);
 }
 
 #[test]
 fn moments_go_on(rt: HostRuntime) {
+    let rt = Host::new(rt);
     shows_its_output(&rt, MOMENTS);
 }
 
 #[test]
 fn every_door_that_runs_is_ticked(rt: HostRuntime) {
+    let rt = Host::new(rt);
     shows_its_output(&rt, THREE_DOORS);
 }
 
 #[test]
 fn reasons_are_numbers(rt: HostRuntime) {
+    let rt = Host::new(rt);
     shows_its_output(&rt, REASONS);
 }
 
 #[test]
 fn a_call_is_an_event_of_the_door(rt: HostRuntime) {
+    let rt = Host::new(rt);
     shows_its_output(&rt, ASKING);
 }
 
 #[test]
 fn each_door_says_how_long_its_code_is(rt: HostRuntime) {
+    let rt = Host::new(rt);
     shows_its_output(&rt, LENGTHS);
 }
 
 #[test]
 fn each_refusal_has_its_number(rt: HostRuntime) {
+    let rt = Host::new(rt);
     shows_its_output(&rt, REFUSALS);
 }
