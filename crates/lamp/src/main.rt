@@ -1,0 +1,106 @@
+//! A lamp: a module and a program around it, to be copied. It switches a lamp on and lets time pass, and prints
+//! what each turn reports.
+#![tactic(auto)]
+
+mod lamp;
+
+use lamp::{Bulb, Lamp, Press};
+use st_core::{Core, Entry, MachineId, Module, Refusal, Start, Turned};
+use std::alloc::Global;
+use std::fmt::Debug;
+use std::process::ExitCode;
+
+/// How many moments the program lets pass, and how many turns it makes at one.
+const LIMIT: u32 = 100;
+
+/// Gives a machine turns until there is nothing to handle, and writes each report down.
+fn handle_all<M: Module>(
+    core: &mut Core<M>,
+    now: u64,
+    alloc: Global,
+    log: &mut String,
+) -> Result<(), Refusal>
+where
+    M::State: Debug,
+{
+    for _ in 0..LIMIT {
+        match core.turn(now)? {
+            Turned::Idle => break,
+            Turned::Reported(report) => {
+                log.push_str(format!(in alloc; "{now}: {report:?}\n")?.as_str())?;
+            }
+        }
+    }
+    Ok(())
+}
+
+/// The event loop: what waits is handled, and then time passes to the moment at which the next time-out is due.
+fn let_time_pass<M: Module>(
+    core: &mut Core<M>,
+    alloc: Global,
+    log: &mut String,
+) -> Result<(), Refusal>
+where
+    M::State: Debug,
+{
+    for _ in 0..LIMIT {
+        handle_all(core, core.latest(), alloc, log)?;
+        let Some(due) = core.next_due() else {
+            break;
+        };
+        core.tick(due)?;
+    }
+    Ok(())
+}
+
+/// Posts a cast, and lets time pass.
+fn post_cast<M: Module>(
+    core: &mut Core<M>,
+    content: M::Content,
+    alloc: Global,
+    log: &mut String,
+) -> Result<(), Refusal>
+where
+    M::State: Debug,
+{
+    core.post(Entry::Cast, content)?;
+    let_time_pass(core, alloc, log)
+}
+
+/// Ends a machine, and writes its last word down.
+fn end<M: Module>(core: &mut Core<M>, alloc: Global, log: &mut String) -> Result<(), Refusal> {
+    let word = core.stop(7)?;
+    log.push_str(format!(in alloc; "the last word: {word}\n")?.as_str())?;
+    Ok(())
+}
+
+/// A lamp whose bulb can be turned on once: it is switched on and turns itself off, and then it stays dark.
+fn use_up(lamp: &mut Core<Lamp>, alloc: Global, log: &mut String) -> Result<(), Refusal> {
+    post_cast(lamp, Press::Switch, alloc, log)?;
+    post_cast(lamp, Press::Switch, alloc, log)?;
+    end(lamp, alloc, log)
+}
+
+/// Starts a lamp and uses it up, and answers what was written down.
+fn run(alloc: Global) -> Result<String, Refusal> {
+    let mut log = String::new(alloc);
+    let id = MachineId { slot: 0, serial: 1 };
+    if let Start::Running(mut lamp, report) = Core::start(alloc, Lamp, id, &Bulb { left: 1 }, 0)? {
+        log.push_str(format!(in alloc; "0: {report:?}\n")?.as_str())?;
+        use_up(&mut lamp, alloc, &mut log)?;
+    }
+    Ok(log)
+}
+
+fn main(rt: HostRuntime) -> ExitCode {
+    match run(rt.alloc()) {
+        Ok(log) => match print!(rt; "{log}") {
+            Ok(()) => ExitCode::SUCCESS,
+            Err(_) => ExitCode::FAILURE,
+        },
+        Err(refusal) => {
+            let _ = eprintln!(rt; "lamp: {refusal}");
+            ExitCode::FAILURE
+        }
+    }
+}
