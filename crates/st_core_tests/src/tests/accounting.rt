@@ -1,10 +1,10 @@
 //! Each accepted event waits or was finished once.
 use super::begin::begun;
-use super::room::room;
+use super::host::Host;
+use super::reserved::with_reserved;
 use super::shown::Shown::{Posted, Reported};
 use super::shown::{Did, Shown, read};
 use super::table_machine::{BEGIN, call, cast};
-use super::tell_refusals;
 use super::tested::tell;
 use super::told::{Told, tag};
 use st_core::Done;
@@ -20,22 +20,22 @@ struct Account {
 
 impl Account {
     /// Nothing was accepted yet.
-    fn new(rt: &impl Abort, alloc: Global) -> Account {
+    fn new(rt: &Host<impl Abort>, alloc: Global) -> Account {
         Account {
-            accepted: room(rt, alloc, 32),
-            finished: room(rt, alloc, 32),
+            accepted: with_reserved(rt, alloc, 32),
+            finished: with_reserved(rt, alloc, 32),
         }
     }
 
     /// A number is accepted, also where it was before.
-    fn accept(&mut self, rt: &impl Abort, number: u64) {
+    fn accept(&mut self, rt: &Host<impl Abort>, number: u64) {
         if !self.accepted.as_slice().contains(&number) {
             assert!(rt; self.accepted.push(number).is_ok());
         }
     }
 
     /// A number is accepted that was not before, where there is one.
-    fn accept_new(&mut self, rt: &impl Abort, number: Option<u64>) {
+    fn accept_new(&mut self, rt: &Host<impl Abort>, number: Option<u64>) {
         if let Some(number) = number {
             assert!(rt; !self.accepted.as_slice().contains(&number));
             self.accept(rt, number);
@@ -44,7 +44,7 @@ impl Account {
 
     /// What a turn did: its event and what it inserted are accepted, and its event may be finished, for
     /// the first time.
-    fn read(&mut self, rt: &impl Abort, did: &Did<u32>) {
+    fn read(&mut self, rt: &Host<impl Abort>, did: &Did<u32>) {
         assert!(rt; did.inserted.is_whole());
         self.accept_new(rt, did.inserted.first);
         self.accept_new(rt, did.inserted.second);
@@ -60,7 +60,7 @@ impl Account {
     }
 
     /// What an answer says.
-    fn count(&mut self, rt: &impl Abort, answer: &Shown<u32, u32>) {
+    fn count(&mut self, rt: &Host<impl Abort>, answer: &Shown<u32, u32>) {
         match answer {
             Posted(number) => self.accept_new(rt, Some(*number)),
             Reported(did) => self.read(rt, did),
@@ -73,6 +73,7 @@ impl Account {
 /// the accepted ones that are not finished are as many as wait.
 #[test]
 fn what_is_accepted_waits_or_is_finished(rt: HostRuntime) {
+    let rt = Host::new(rt);
     let told = [
         cast(10),
         cast(12),
@@ -110,5 +111,5 @@ fn what_is_accepted_waits_or_is_finished(rt: HostRuntime) {
     }
     assert_eq!(rt; core.waiting(), 0);
     assert_eq!(rt; account.accepted.len(), 10);
-    tell_refusals(rt);
+    rt.end();
 }

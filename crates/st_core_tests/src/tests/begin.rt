@@ -1,5 +1,6 @@
 //! How a machine of a test starts.
 use super::answers::started;
+use super::host::Host;
 use super::machine::{kept_in, see};
 use super::seen::{Kept, Seen, keeps, sees};
 use super::shown::{Did, reports};
@@ -26,7 +27,7 @@ pub struct Begin<M, A> {
 
 /// Makes the call of a start.
 fn call_start<M: Module + Copy>(
-    rt: &impl Abort,
+    rt: &Host<impl Abort>,
     alloc: Global,
     begin: &Begin<M, M::Arg>,
 ) -> Result<Start<M>, Refused<M>> {
@@ -42,7 +43,7 @@ fn call_start<M: Module + Copy>(
 
 /// Starts a machine. Where it finds no memory, the module comes back, and the same call is made again.
 pub fn start<M: Module + Copy + Eq + Debug>(
-    rt: &impl Abort,
+    rt: &Host<impl Abort>,
     alloc: Global,
     begin: &Begin<M, M::Arg>,
 ) -> Result<Start<M>, Refused<M>> {
@@ -56,6 +57,7 @@ pub fn start<M: Module + Copy + Eq + Debug>(
     assert_eq!(rt; refused.value, begin.module);
     // A start that is refused for its moment takes no memory.
     assert!(rt; begin.now < 1 << 63);
+    rt.retry();
     call_start(rt, alloc, begin)
 }
 
@@ -71,7 +73,7 @@ fn wanted_of<M: Module>(begin: &Begin<M, M::Arg>, state: M::State) -> Did<M::Sta
 
 /// A machine that has started, and whose report says what it did.
 fn running<M: Module + Copy + Eq + Debug>(
-    rt: &impl Abort,
+    rt: &Host<impl Abort>,
     alloc: Global,
     begin: &Begin<M, M::Arg>,
 ) -> Core<M>
@@ -90,7 +92,7 @@ where
 }
 
 /// Looks that a machine has only started.
-fn has_begun<M: Module>(rt: &impl Abort, core: &Core<M>, begin: &Begin<M, M::Arg>)
+fn has_begun<M: Module>(rt: &Host<impl Abort>, core: &Core<M>, begin: &Begin<M, M::Arg>)
 where
     M::State: Debug,
     M::Data: Copy + Eq + Debug,
@@ -119,7 +121,7 @@ fn is_lawful<M: Module>(core: &Core<M>, module: &M) {
 
 /// A machine that has started, and is looked at.
 pub fn begun<M: Module + Copy + Eq + Debug>(
-    rt: &impl Abort,
+    rt: &Host<impl Abort>,
     alloc: Global,
     begin: &Begin<M, M::Arg>,
 ) -> Core<M>

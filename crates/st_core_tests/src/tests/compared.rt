@@ -1,4 +1,5 @@
 //! The same commands by single calls, and by one run.
+use super::host::Host;
 use super::machine::{Machine, read_all};
 use super::seen::{Running, Seen, Whole, ends, same};
 use super::shown::{Shown, agree, read};
@@ -12,7 +13,7 @@ use std::process::Abort;
 /// Looks at the answers to commands, and at what they leave, with the time-outs that run. They are told to four
 /// machines that have started alike, though not to each in each case.
 pub fn all_alike<T: Machine>(
-    rt: &impl Abort,
+    rt: &Host<impl Abort>,
     alloc: Global,
     single: &mut T,
     at_once: &mut T,
@@ -29,7 +30,7 @@ pub fn all_alike<T: Machine>(
 
 /// What commands leave that are done by single calls. Their answers are looked at.
 fn by_single_calls<T: Machine>(
-    rt: &impl Abort,
+    rt: &Host<impl Abort>,
     single: &mut T,
     steps: &[(Told<T::Content>, Shown<T::State, T::Content>)],
 ) -> Whole<T::State, T::Data, T::Content> {
@@ -42,7 +43,7 @@ fn by_single_calls<T: Machine>(
 /// Looks that commands leave by one run what they left by single calls. Where a command of the run found no
 /// memory, the run is made once more, of another machine.
 fn runs_alike<T: Machine>(
-    rt: &impl Abort,
+    rt: &Host<impl Abort>,
     alloc: Global,
     at_once: &mut T,
     again: &mut T,
@@ -53,7 +54,7 @@ fn runs_alike<T: Machine>(
     if by_one_run(rt, alloc, at_once, without, steps) {
         same(rt, &read_all(rt, at_once), whole);
     } else {
-        // One allocation alone is refused.
+        rt.retry();
         assert!(rt; by_one_run(rt, alloc, again, without, steps));
         same(rt, &read_all(rt, again), whole);
     }
@@ -62,7 +63,7 @@ fn runs_alike<T: Machine>(
 /// Does commands by one run, and looks at their answers. Says whether each found memory; where one found none,
 /// all is as by single calls without that command.
 fn by_one_run<T: Machine>(
-    rt: &impl Abort,
+    rt: &Host<impl Abort>,
     alloc: Global,
     at_once: &mut T,
     without: &mut T,
@@ -92,7 +93,7 @@ fn all_found_memory<S: Copy, C: Copy>(answers: &[Answer<S, C>]) -> bool {
 
 /// Looks that each answer is the one that is wanted.
 fn answers_agree<S: Copy + Eq + Debug, C: Copy + Eq + Debug>(
-    rt: &impl Abort,
+    rt: &Host<impl Abort>,
     answers: &[Answer<S, C>],
     steps: &[(Told<C>, Shown<S, C>)],
 ) {
@@ -103,7 +104,7 @@ fn answers_agree<S: Copy + Eq + Debug, C: Copy + Eq + Debug>(
 
 /// Does commands by single calls, but for the one that found no memory. Each answers as in the run.
 fn without_refused<T: Machine>(
-    rt: &impl Abort,
+    rt: &Host<impl Abort>,
     without: &mut T,
     steps: &[(Told<T::Content>, Shown<T::State, T::Content>)],
     answers: &[Answer<T::State, T::Content>],

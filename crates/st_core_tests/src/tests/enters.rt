@@ -2,13 +2,13 @@
 use super::answers::{handled, started, turn};
 use super::begin::{Begin, start};
 use super::few::Few;
+use super::host::Host;
 use super::machine::{Machine, timers_of};
 use super::seen::Seen;
 use super::shown::Shown::{Idle, NotPosted, NotTurned, Posted, Ticked};
 use super::shown::read_report;
 use super::table::Table;
 use super::table_machine::{BEGIN, answers_are, at_end, at_rest, cast, postponing, timers_are};
-use super::tell_refusals;
 use super::tested::does;
 use super::told::Told;
 use st_core::{Due, Kind, Refusal, Start, Time, Timer};
@@ -24,6 +24,7 @@ fn begin_as(number: u64) -> Begin<Table, u32> {
 /// A `NextState` to the state in which the machine is makes no enter call and retries nothing.
 #[test]
 fn the_same_state_is_not_entered(rt: HostRuntime) {
+    let rt = Host::new(rt);
     let steps = [
         (cast(10), Posted(1)),
         turn(0, handled(1, Kind::Cast, 0, 0).put_off()),
@@ -33,11 +34,12 @@ fn the_same_state_is_not_entered(rt: HostRuntime) {
     ];
     let end = postponing(1, 0, 7, 0);
     answers_are(&rt, rt.alloc(), &begin_as(60), &steps, &end);
-    tell_refusals(rt);
+    rt.end();
 }
 
 #[test]
 fn a_repeated_state_is_entered_and_retries_nothing(rt: HostRuntime) {
+    let rt = Host::new(rt);
     let steps = [
         (cast(10), Posted(1)),
         turn(0, handled(1, Kind::Cast, 0, 0).put_off()),
@@ -49,12 +51,13 @@ fn a_repeated_state_is_entered_and_retries_nothing(rt: HostRuntime) {
     ];
     let end = postponing(1, 0, 9, 0);
     answers_are(&rt, rt.alloc(), &begin_as(60), &steps, &end);
-    tell_refusals(rt);
+    rt.end();
 }
 
 /// Without enter calls a repeated state is a state that is kept.
 #[test]
 fn without_enter_calls_a_repeated_state_is_kept(rt: HostRuntime) {
+    let rt = Host::new(rt);
     let steps = [
         (cast(10), Posted(1)),
         turn(0, handled(1, Kind::Cast, 0, 0).put_off()),
@@ -66,11 +69,12 @@ fn without_enter_calls_a_repeated_state_is_kept(rt: HostRuntime) {
     ];
     let end = postponing(1, 0, 9, 0);
     answers_are(&rt, rt.alloc(), &BEGIN, &steps, &end);
-    tell_refusals(rt);
+    rt.end();
 }
 
 #[test]
 fn a_repeated_state_keeps_its_time_out(rt: HostRuntime) {
+    let rt = Host::new(rt);
     let steps = [
         (cast(28), Posted(1)),
         turn(
@@ -88,12 +92,13 @@ fn a_repeated_state_keeps_its_time_out(rt: HostRuntime) {
     };
     let timers = [(Timer::State, 2, Due::At(5))];
     timers_are(&rt, rt.alloc(), &begin_as(60), &steps, &end, &timers);
-    tell_refusals(rt);
+    rt.end();
 }
 
 /// The event of a repeated state is postponed, as its own list says.
 #[test]
 fn the_event_of_a_repeated_state_is_postponed(rt: HostRuntime) {
+    let rt = Host::new(rt);
     let steps = [
         (cast(36), Posted(1)),
         turn(0, handled(1, Kind::Cast, 0, 0).entered().put_off()),
@@ -101,12 +106,13 @@ fn the_event_of_a_repeated_state_is_postponed(rt: HostRuntime) {
     ];
     let end = postponing(1, 0, 7, 0);
     answers_are(&rt, rt.alloc(), &begin_as(60), &steps, &end);
-    tell_refusals(rt);
+    rt.end();
 }
 
 /// The enter call of the module tells from which state it was entered.
 #[test]
 fn a_new_state_is_entered_from_the_old_one(rt: HostRuntime) {
+    let rt = Host::new(rt);
     let steps = [
         (cast(3), Posted(1)),
         turn(0, handled(1, Kind::Cast, 0, 1).entered()),
@@ -121,25 +127,27 @@ fn a_new_state_is_entered_from_the_old_one(rt: HostRuntime) {
         &at_rest(1, 31, 0),
     );
     answers_are(&rt, rt.alloc(), &begin_as(61), &steps, &at_rest(0, 32, 0));
-    tell_refusals(rt);
+    rt.end();
 }
 
 /// The start's enter call is handed the data of `init`, the turn's those of `handle`.
 #[test]
 fn an_enter_call_is_handed_the_new_data(rt: HostRuntime) {
+    let rt = Host::new(rt);
     let steps = [
         (cast(34), Posted(1)),
         turn(0, handled(1, Kind::Cast, 0, 2).entered()),
     ];
     answers_are(&rt, rt.alloc(), &begin_as(64), &[], &at_rest(0, 41, 0));
     answers_are(&rt, rt.alloc(), &begin_as(64), &steps, &at_rest(2, 40, 0));
-    tell_refusals(rt);
+    rt.end();
 }
 
 /// The actions of both calls count as one list: of a timer the later request decides, in the place where it
 /// stands. The state time-out of the start is cancelled, for the state changes.
 #[test]
 fn the_actions_of_an_enter_call_follow_those_of_the_event(rt: HostRuntime) {
+    let rt = Host::new(rt);
     let begin = Begin {
         set: &[
             (Timer::State, Time::After(20)),
@@ -168,12 +176,13 @@ fn the_actions_of_an_enter_call_follow_those_of_the_event(rt: HostRuntime) {
         (Timer::Named(1), 6, Due::At(13)),
     ];
     timers_are(&rt, rt.alloc(), &begin, &steps, &end, &timers);
-    tell_refusals(rt);
+    rt.end();
 }
 
 /// Memory is wanted inside `enter`, after `handle` has answered, and for what both ask for.
 #[test]
 fn memory_is_wanted_inside_an_enter_call(rt: HostRuntime) {
+    let rt = Host::new(rt);
     let steps = [
         (cast(10), Posted(1)),
         (cast(11), Posted(2)),
@@ -192,12 +201,13 @@ fn memory_is_wanted_inside_an_enter_call(rt: HostRuntime) {
         ..postponing(3, 1, 7, 0)
     };
     answers_are(&rt, rt.alloc(), &begin_as(63), &steps, &end);
-    tell_refusals(rt);
+    rt.end();
 }
 
 /// The first enter call stops: there is a machine, and it has ended.
 #[test]
 fn the_first_enter_call_stops(rt: HostRuntime) {
+    let rt = Host::new(rt);
     match start(&rt, rt.alloc(), &begin_as(70)) {
         Ok(Start::Running(mut core, report)) => {
             assert_eq!(rt; read_report(&report), started(0).entered().ended(4, 7));
@@ -213,12 +223,13 @@ fn the_first_enter_call_stops(rt: HostRuntime) {
         }
         _ => panic!(rt; "no machine"),
     }
-    tell_refusals(rt);
+    rt.end();
 }
 
 /// What `terminate` is handed is the new state, with the data of `handle` or those of the enter call.
 #[test]
 fn an_enter_call_stops(rt: HostRuntime) {
+    let rt = Host::new(rt);
     for (number, held) in [(71, 8), (72, 9)] {
         let steps = [
             (cast(10), Posted(1)),
@@ -234,5 +245,5 @@ fn an_enter_call_stops(rt: HostRuntime) {
         };
         answers_are(&rt, rt.alloc(), &begin_as(number), &steps, &end);
     }
-    tell_refusals(rt);
+    rt.end();
 }

@@ -1,9 +1,9 @@
 //! Runs that are put together from steps, from calls and from other runs.
 use super::begin::begun;
-use super::room::room;
+use super::host::Host;
+use super::reserved::with_reserved;
 use super::table::Table;
 use super::table_machine::BEGIN;
-use super::tell_refusals;
 use super::told::tag;
 use crate::{AnswersOf, step_alone, turn_and_collect, two_runs, two_steps};
 use st_core::{Answer, Collected, Command, Core, Refusal, Turned};
@@ -11,8 +11,8 @@ use std::alloc::Global;
 use std::process::Abort;
 
 /// A tick at each moment.
-fn ticks(rt: &impl Abort, alloc: Global, moments: &[u64]) -> Vec<Command<u32>> {
-    let mut commands = room(rt, alloc, moments.len());
+fn ticks(rt: &Host<impl Abort>, alloc: Global, moments: &[u64]) -> Vec<Command<u32>> {
+    let mut commands = with_reserved(rt, alloc, moments.len());
     for moment in moments {
         assert!(rt; commands.push(Command::Tick(*moment)).is_ok());
     }
@@ -21,7 +21,7 @@ fn ticks(rt: &impl Abort, alloc: Global, moments: &[u64]) -> Vec<Command<u32>> {
 
 /// Two runs. Where there is no place for the answers, they are made again.
 fn run_twice(
-    rt: &impl Abort,
+    rt: &Host<impl Abort>,
     alloc: Global,
     core: &mut Core<Table>,
 ) -> (AnswersOf<Table>, AnswersOf<Table>) {
@@ -30,6 +30,7 @@ fn run_twice(
         Ok(answers) => return answers,
         Err(refused) => assert_eq!(rt; refused.refusal, Refusal::NoMemory),
     }
+    rt.retry();
     let (first, second) = (ticks(rt, alloc, &[6]), ticks(rt, alloc, &[7, 8]));
     match two_runs(core, first, second) {
         Ok(answers) => answers,
@@ -40,6 +41,7 @@ fn run_twice(
 /// The steps take no memory, so that none is refused.
 #[test]
 fn runs_are_put_together(rt: HostRuntime) {
+    let rt = Host::new(rt);
     let mut core = begun(&rt, rt.alloc(), &BEGIN);
     let (first, second) = two_steps(&mut core, Command::Tick(3), Command::Tick(4));
     assert!(rt; matches!(&first, Answer::Tick(Ok(0))));
@@ -53,5 +55,5 @@ fn runs_are_put_together(rt: HostRuntime) {
     assert_eq!(rt; core.latest(), 8);
     let stopped = step_alone(&mut core, Command::Stop(9));
     assert!(rt; matches!(&stopped, Answer::Stop(Ok(7))));
-    tell_refusals(rt);
+    rt.end();
 }

@@ -1,6 +1,6 @@
 //! A machine as a test sees it: what it is told, and what can be read of it.
 use super::few::Few;
-use super::lamp::{Bulb, Lamp, Light, Press};
+use super::host::Host;
 use super::seen::{Kept, Running, Seen, Whole};
 use super::table::Table;
 use super::told::{Told, tag};
@@ -113,43 +113,13 @@ impl Machine for Core<Table> {
     }
 }
 
-impl Machine for Core<Lamp> {
-    type State = Light;
-
-    type Data = Bulb;
-
-    type Content = Press;
-
-    fn call(&mut self, told: Told<Press>) -> Answer<Light, Press> {
-        call(self, told)
-    }
-
-    fn call_run(
-        &mut self,
-        commands: Vec<Command<Press>>,
-    ) -> Result<Vec<Answer<Light, Press>>, Refused<Vec<Command<Press>>>> {
-        self.run(commands)
-    }
-
-    fn see(&self) -> Seen<Light, Bulb> {
-        see(self)
-    }
-
-    fn kept(&self) -> Kept<Press> {
-        kept_in(self)
-    }
-
-    fn try_timers(&self) -> Result<Few<Running>, Refusal> {
-        try_timers(self)
-    }
-}
-
 /// The running time-outs. Where memory was refused, they are asked for again.
-pub fn timers_of<T: Machine>(rt: &impl Abort, machine: &T) -> Few<Running> {
+pub fn timers_of<T: Machine>(rt: &Host<impl Abort>, machine: &T) -> Few<Running> {
     let running = match machine.try_timers() {
         Ok(running) => running,
         Err(refusal) => {
             assert_eq!(rt; refusal, Refusal::NoMemory);
+            rt.retry();
             machine
                 .try_timers()
                 .expect(rt, "one allocation alone is refused")
@@ -160,7 +130,10 @@ pub fn timers_of<T: Machine>(rt: &impl Abort, machine: &T) -> Few<Running> {
 }
 
 /// All that can be read of a machine.
-pub fn read_all<T: Machine>(rt: &impl Abort, machine: &T) -> Whole<T::State, T::Data, T::Content> {
+pub fn read_all<T: Machine>(
+    rt: &Host<impl Abort>,
+    machine: &T,
+) -> Whole<T::State, T::Data, T::Content> {
     Whole {
         seen: machine.see(),
         kept: machine.kept(),

@@ -1,16 +1,20 @@
 //! Events that are postponed and inserted.
 use super::answers::{handled, turn};
-use super::begin::Begin;
+use super::begin::{Begin, begun};
+use super::host::Host;
+use super::machine::Machine;
 use super::seen::Seen;
 use super::shown::Shown::{Idle, NotPosted, NotTurned, Posted};
+use super::shown::{agree, read};
 use super::table_machine::{BEGIN, answers_are, at_rest, cast, postponing};
-use super::tell_refusals;
+use super::tested::does;
 use super::told::Told;
 use st_core::{Kind, Refusal};
 
 /// Two casts are postponed, and the third changes the state.
 #[test]
 fn postponed_casts_keep_their_places(rt: HostRuntime) {
+    let rt = Host::new(rt);
     let steps = [
         (cast(10), Posted(1)),
         (cast(10), Posted(2)),
@@ -25,13 +29,13 @@ fn postponed_casts_keep_their_places(rt: HostRuntime) {
         (Told::Turn(0), Idle),
     ];
     answers_are(&rt, rt.alloc(), &BEGIN, &steps, &at_rest(1, 7, 0));
-    tell_refusals(rt);
+    rt.end();
 }
 
-/// One cast is postponed; another changes the state, is postponed itself and inserts two events. Where
-/// a growth of that turn is refused, all is as it was, and tried again it answers the same.
+/// One cast is postponed; another changes the state, is postponed itself and inserts two events.
 #[test]
 fn inserted_events_come_before_retried_ones(rt: HostRuntime) {
+    let rt = Host::new(rt);
     let steps = [
         (cast(10), Posted(1)),
         (cast(11), Posted(2)),
@@ -44,11 +48,42 @@ fn inserted_events_come_before_retried_ones(rt: HostRuntime) {
         (Told::Turn(0), Idle),
     ];
     answers_are(&rt, rt.alloc(), &BEGIN, &steps, &at_rest(1, 7, 0));
-    tell_refusals(rt);
+    rt.end();
+}
+
+/// A growth of the second turn is refused: state, data and what waits are as they were, and tried again the turn
+/// reports the same.
+#[test]
+fn a_refused_turn_changes_nothing(rt: HostRuntime) {
+    let rt = Host::new(rt);
+    let mut core = begun(&rt, rt.alloc(), &BEGIN);
+    does(&rt, &mut core, cast(10), &Posted(1));
+    does(&rt, &mut core, cast(11), &Posted(2));
+    let (told, wanted) = turn(0, handled(1, Kind::Cast, 0, 0).put_off());
+    does(&rt, &mut core, told, &wanted);
+    let before = Seen {
+        is_ready: true,
+        state: 0,
+        held: 7,
+        latest: 0,
+        waiting: 2,
+        ended: None,
+    };
+    assert_eq!(rt; core.see(), before);
+    let (told, wanted) = turn(0, handled(2, Kind::Cast, 0, 1).put_off().inserting(&[3, 4]));
+    let mut answer = core.call(told);
+    if read(&answer).found_no_memory() {
+        assert_eq!(rt; core.see(), before);
+        rt.retry();
+        answer = core.call(told);
+    }
+    agree(&rt, &answer, &wanted);
+    rt.end();
 }
 
 #[test]
 fn postponed_events_stay_without_a_change(rt: HostRuntime) {
+    let rt = Host::new(rt);
     let steps = [
         (cast(10), Posted(1)),
         (cast(12), Posted(2)),
@@ -60,11 +95,12 @@ fn postponed_events_stay_without_a_change(rt: HostRuntime) {
     ];
     let end = postponing(2, 0, 7, 0);
     answers_are(&rt, rt.alloc(), &BEGIN, &steps, &end);
-    tell_refusals(rt);
+    rt.end();
 }
 
 #[test]
 fn the_same_state_retries_nothing(rt: HostRuntime) {
+    let rt = Host::new(rt);
     let steps = [
         (cast(10), Posted(1)),
         (cast(9), Posted(2)),
@@ -74,11 +110,12 @@ fn the_same_state_retries_nothing(rt: HostRuntime) {
     ];
     let end = postponing(1, 0, 7, 0);
     answers_are(&rt, rt.alloc(), &BEGIN, &steps, &end);
-    tell_refusals(rt);
+    rt.end();
 }
 
 #[test]
 fn the_last_postpone_decides(rt: HostRuntime) {
+    let rt = Host::new(rt);
     let steps = [
         (cast(13), Posted(1)),
         (cast(14), Posted(2)),
@@ -88,12 +125,13 @@ fn the_last_postpone_decides(rt: HostRuntime) {
     ];
     let end = postponing(1, 0, 7, 0);
     answers_are(&rt, rt.alloc(), &BEGIN, &steps, &end);
-    tell_refusals(rt);
+    rt.end();
 }
 
 /// One event was posted before the insertion, and one is posted after it.
 #[test]
 fn inserted_events_come_before_posted_ones(rt: HostRuntime) {
+    let rt = Host::new(rt);
     let steps = [
         (cast(7), Posted(1)),
         (cast(0), Posted(2)),
@@ -106,11 +144,12 @@ fn inserted_events_come_before_posted_ones(rt: HostRuntime) {
         (Told::Turn(0), Idle),
     ];
     answers_are(&rt, rt.alloc(), &BEGIN, &steps, &at_rest(0, 7, 0));
-    tell_refusals(rt);
+    rt.end();
 }
 
 #[test]
 fn inserted_events_stand_behind_postponed_ones(rt: HostRuntime) {
+    let rt = Host::new(rt);
     let steps = [
         (cast(10), Posted(1)),
         (cast(12), Posted(2)),
@@ -124,12 +163,13 @@ fn inserted_events_stand_behind_postponed_ones(rt: HostRuntime) {
     ];
     let end = postponing(2, 0, 7, 0);
     answers_are(&rt, rt.alloc(), &BEGIN, &steps, &end);
-    tell_refusals(rt);
+    rt.end();
 }
 
 /// What an inserted event inserts comes before what was inserted with it.
 #[test]
 fn inserted_events_come_before_inserted_ones(rt: HostRuntime) {
+    let rt = Host::new(rt);
     let steps = [
         (cast(8), Posted(1)),
         turn(0, handled(1, Kind::Cast, 0, 0).inserting(&[2, 3])),
@@ -140,11 +180,12 @@ fn inserted_events_come_before_inserted_ones(rt: HostRuntime) {
         (Told::Turn(0), Idle),
     ];
     answers_are(&rt, rt.alloc(), &BEGIN, &steps, &at_rest(0, 7, 0));
-    tell_refusals(rt);
+    rt.end();
 }
 
 #[test]
 fn inserted_at_the_start_come_first(rt: HostRuntime) {
+    let rt = Host::new(rt);
     let steps = [
         (cast(0), Posted(7)),
         turn(0, handled(5, Kind::Internal, 0, 0)),
@@ -160,12 +201,13 @@ fn inserted_at_the_start_come_first(rt: HostRuntime) {
         ..BEGIN
     };
     answers_are(&rt, rt.alloc(), &begin, &steps, &at_rest(0, 7, 12));
-    tell_refusals(rt);
+    rt.end();
 }
 
 /// Two events are to be inserted, and one number is left. A moment out of range is told first.
 #[test]
 fn inserts_need_numbers(rt: HostRuntime) {
+    let rt = Host::new(rt);
     let steps = [
         (cast(7), Posted(9_223_372_036_854_775_806)),
         (Told::Turn(20), NotTurned(Refusal::Exhausted)),
@@ -188,11 +230,12 @@ fn inserts_need_numbers(rt: HostRuntime) {
         ..at_rest(0, 7, 3)
     };
     answers_are(&rt, rt.alloc(), &begin, &steps, &end);
-    tell_refusals(rt);
+    rt.end();
 }
 
 #[test]
 fn the_last_numbers_are_inserted(rt: HostRuntime) {
+    let rt = Host::new(rt);
     let steps = [
         (cast(7), Posted(9_223_372_036_854_775_805)),
         turn(
@@ -213,5 +256,5 @@ fn the_last_numbers_are_inserted(rt: HostRuntime) {
         ..BEGIN
     };
     answers_are(&rt, rt.alloc(), &begin, &steps, &at_rest(0, 7, 20));
-    tell_refusals(rt);
+    rt.end();
 }

@@ -1,6 +1,7 @@
 //! Calls, replies, and what is collected.
 use super::answers::{handled, handled_call, turn};
 use super::begin::{Begin, begun};
+use super::host::Host;
 use super::machine::Machine;
 use super::seen::{Kept, Seen};
 use super::shown::Shown::{
@@ -8,7 +9,6 @@ use super::shown::Shown::{
 };
 use super::table::Table;
 use super::table_machine::{BEGIN, answers_are, at_end, at_rest, call, cast};
-use super::tell_refusals;
 use super::tested::does;
 use super::told::{ID, Told, tag};
 use st_core::{Kind, MachineId, Refusal, Tag};
@@ -35,6 +35,7 @@ const FOREIGN: Tag = Tag {
 /// itself and to the second, which has its reply.
 #[test]
 fn a_stop_answers_some_and_closes_the_others(rt: HostRuntime) {
+    let rt = Host::new(rt);
     let steps = [
         (call(37), Posted(1)),
         (call(0), Posted(2)),
@@ -47,11 +48,12 @@ fn a_stop_answers_some_and_closes_the_others(rt: HostRuntime) {
         (Told::Collect(tag(3)), Gone),
     ];
     answers_are(&rt, rt.alloc(), &BEGIN, &steps, &at_end(9, 7, 7, 0));
-    tell_refusals(rt);
+    rt.end();
 }
 
 #[test]
 fn a_reply_is_collected_once(rt: HostRuntime) {
+    let rt = Host::new(rt);
     let steps = [
         (call(5), Posted(1)),
         (Told::Collect(FIRST), Waiting),
@@ -64,12 +66,13 @@ fn a_reply_is_collected_once(rt: HostRuntime) {
         (Told::Turn(5), Idle),
     ];
     answers_are(&rt, rt.alloc(), &BEGIN, &steps, &at_rest(0, 7, 5));
-    tell_refusals(rt);
+    rt.end();
 }
 
 /// Two replies to one request in one list, and then a reply from outside.
 #[test]
 fn the_first_reply_is_taken(rt: HostRuntime) {
+    let rt = Host::new(rt);
     let steps = [
         (call(39), Posted(1)),
         turn(0, handled_call(FIRST, 0, 0).replying(&[FIRST])),
@@ -77,12 +80,13 @@ fn the_first_reply_is_taken(rt: HostRuntime) {
         (Told::Collect(FIRST), Collected(50)),
     ];
     answers_are(&rt, rt.alloc(), &BEGIN, &steps, &at_rest(0, 7, 0));
-    tell_refusals(rt);
+    rt.end();
 }
 
 /// A cast whose number a tag has, a number that was not given, a request to another machine.
 #[test]
 fn a_reply_to_an_unknown_tag_is_let_go(rt: HostRuntime) {
+    let rt = Host::new(rt);
     let steps = [
         (cast(0), Posted(1)),
         (call(40), Posted(2)),
@@ -97,12 +101,13 @@ fn a_reply_to_an_unknown_tag_is_let_go(rt: HostRuntime) {
         (Told::Collect(FOREIGN), Gone),
     ];
     answers_are(&rt, rt.alloc(), &BEGIN, &steps, &at_rest(0, 7, 0));
-    tell_refusals(rt);
+    rt.end();
 }
 
 /// `handle` replies to the second request, and `enter` after it to the first.
 #[test]
 fn replies_of_an_enter_call_come_later(rt: HostRuntime) {
+    let rt = Host::new(rt);
     let steps = [
         (call(38), Posted(1)),
         (call(0), Posted(2)),
@@ -125,12 +130,13 @@ fn replies_of_an_enter_call_come_later(rt: HostRuntime) {
         ..at_rest(1, 7, 0)
     };
     answers_are(&rt, rt.alloc(), &begin, &steps, &end);
-    tell_refusals(rt);
+    rt.end();
 }
 
 /// `handle` replies to the second request, and the enter call stops with a reply to the first.
 #[test]
 fn an_enter_call_stops_with_the_replies_of_both(rt: HostRuntime) {
+    let rt = Host::new(rt);
     let steps = [
         (call(38), Posted(1)),
         (call(0), Posted(2)),
@@ -155,12 +161,13 @@ fn an_enter_call_stops_with_the_replies_of_both(rt: HostRuntime) {
         ..at_rest(1, 8, 0)
     };
     answers_are(&rt, rt.alloc(), &begin, &steps, &end);
-    tell_refusals(rt);
+    rt.end();
 }
 
 /// A reply that was kept stays, and the open request is closed. From then on no reply is taken.
 #[test]
 fn a_stop_from_outside_closes_open_requests(rt: HostRuntime) {
+    let rt = Host::new(rt);
     let steps = [
         (call(0), Posted(1)),
         (call(0), Posted(2)),
@@ -175,12 +182,13 @@ fn a_stop_from_outside_closes_open_requests(rt: HostRuntime) {
         (Told::Collect(FIRST), Gone),
     ];
     answers_are(&rt, rt.alloc(), &BEGIN, &steps, &at_end(5, 7, 7, 0));
-    tell_refusals(rt);
+    rt.end();
 }
 
 /// A reply is shown as often as is asked, until it is collected.
 #[test]
 fn a_reply_is_shown(rt: HostRuntime) {
+    let rt = Host::new(rt);
     let mut core = begun(&rt, rt.alloc(), &BEGIN);
     does(&rt, &mut core, call(0), &Posted(1));
     does(&rt, &mut core, call(0), &Posted(2));
@@ -195,12 +203,13 @@ fn a_reply_is_shown(rt: HostRuntime) {
     assert_eq!(rt; core.kept(), shown);
     does(&rt, &mut core, Told::Collect(SECOND), &Collected(6));
     assert_eq!(rt; core.kept(), Kept::none());
-    tell_refusals(rt);
+    rt.end();
 }
 
 /// A call that comes where the last number is given.
 #[test]
 fn a_call_takes_the_last_number(rt: HostRuntime) {
+    let rt = Host::new(rt);
     let last = tag(9_223_372_036_854_775_807);
     let steps = [
         (call(0), Posted(9_223_372_036_854_775_807)),
@@ -215,5 +224,5 @@ fn a_call_takes_the_last_number(rt: HostRuntime) {
         ..BEGIN
     };
     answers_are(&rt, rt.alloc(), &begin, &steps, &at_rest(0, 7, 0));
-    tell_refusals(rt);
+    rt.end();
 }

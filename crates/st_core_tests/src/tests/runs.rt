@@ -1,15 +1,16 @@
 //! Events that come one after another: their kinds, numbers and moments.
 use super::answers::{handled, turn};
 use super::begin::{Begin, begun};
+use super::host::Host;
 use super::machine::Machine;
 use super::shown::Shown::{Idle, NotPosted, NotTurned, Posted};
 use super::table_machine::{BEGIN, answers_are, at_rest, cast, info};
-use super::tell_refusals;
 use super::told::Told;
 use st_core::{Kind, Refusal};
 
 #[test]
 fn casts_come_in_order(rt: HostRuntime) {
+    let rt = Host::new(rt);
     let steps = [
         (cast(3), Posted(1)),
         (cast(5), Posted(2)),
@@ -18,11 +19,12 @@ fn casts_come_in_order(rt: HostRuntime) {
         (Told::Turn(30), Idle),
     ];
     answers_are(&rt, rt.alloc(), &BEGIN, &steps, &at_rest(1, 7, 30));
-    tell_refusals(rt);
+    rt.end();
 }
 
 #[test]
 fn an_info_comes_as_info(rt: HostRuntime) {
+    let rt = Host::new(rt);
     let steps = [
         (info(5), Posted(1)),
         (cast(4), Posted(2)),
@@ -30,11 +32,12 @@ fn an_info_comes_as_info(rt: HostRuntime) {
         turn(0, handled(2, Kind::Cast, 0, 0)),
     ];
     answers_are(&rt, rt.alloc(), &BEGIN, &steps, &at_rest(0, 9, 0));
-    tell_refusals(rt);
+    rt.end();
 }
 
 #[test]
 fn the_last_number_is_given_once(rt: HostRuntime) {
+    let rt = Host::new(rt);
     let steps = [
         (cast(5), Posted(9_223_372_036_854_775_807)),
         (cast(6), NotPosted(Refusal::Exhausted, 6)),
@@ -46,11 +49,12 @@ fn the_last_number_is_given_once(rt: HostRuntime) {
         ..BEGIN
     };
     answers_are(&rt, rt.alloc(), &begin, &steps, &at_rest(0, 7, 0));
-    tell_refusals(rt);
+    rt.end();
 }
 
 #[test]
 fn moments_end(rt: HostRuntime) {
+    let rt = Host::new(rt);
     let steps = [
         (
             Told::Turn(9_223_372_036_854_775_808),
@@ -65,13 +69,14 @@ fn moments_end(rt: HostRuntime) {
     ];
     let end = at_rest(1, 7, 9_223_372_036_854_775_807);
     answers_are(&rt, rt.alloc(), &BEGIN, &steps, &end);
-    tell_refusals(rt);
+    rt.end();
 }
 
 /// Each call that takes memory, and among them those that take none: an idle turn, and a post for
 /// which no number is left.
 #[test]
 fn refused_memory_changes_nothing(rt: HostRuntime) {
+    let rt = Host::new(rt);
     let begin = Begin {
         arg: 2,
         now: 12,
@@ -99,5 +104,5 @@ fn refused_memory_changes_nothing(rt: HostRuntime) {
         (Told::Turn(23), Idle),
     ];
     answers_are(&rt, rt.alloc(), &begin, &steps, &at_rest(1, 9, 23));
-    tell_refusals(rt);
+    rt.end();
 }

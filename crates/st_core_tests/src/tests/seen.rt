@@ -1,5 +1,6 @@
 //! What can be read of a machine.
 use super::few::Few;
+use super::host::Host;
 use st_core::{Due, Reason, Timer};
 use std::alloc::AllocError;
 use std::fmt::Debug;
@@ -68,7 +69,7 @@ impl<S: Copy, D: Copy, C: Copy> Clone for Whole<S, D, C> {
 
 /// Looks that all is the same that can be read of a machine.
 pub fn same<S: Eq + Debug, D: Eq + Debug, C: Eq + Debug>(
-    rt: &impl Abort,
+    rt: &Host<impl Abort>,
     whole: &Whole<S, D, C>,
     wanted: &Whole<S, D, C>,
 ) {
@@ -77,7 +78,7 @@ pub fn same<S: Eq + Debug, D: Eq + Debug, C: Eq + Debug>(
 
 /// Looks that commands end as is wanted, with these time-outs.
 pub fn ends<S: Eq + Debug, D: Eq + Debug, C>(
-    rt: &impl Abort,
+    rt: &Host<impl Abort>,
     whole: &Whole<S, D, C>,
     seen: &Seen<S, D>,
     timers: &[Running],
@@ -87,11 +88,15 @@ pub fn ends<S: Eq + Debug, D: Eq + Debug, C>(
 }
 
 /// Looks that a machine is seen as is wanted.
-pub fn sees<S: Eq + Debug, D: Eq + Debug>(rt: &impl Abort, seen: &Seen<S, D>, wanted: &Seen<S, D>) {
+pub fn sees<S: Eq + Debug, D: Eq + Debug>(
+    rt: &Host<impl Abort>,
+    seen: &Seen<S, D>,
+    wanted: &Seen<S, D>,
+) {
     assert_eq!(rt; *seen, *wanted);
 }
 
 /// Looks that the replies that are kept are those that are wanted.
-pub fn keeps<C: Eq + Debug>(rt: &impl Abort, kept: &Kept<C>, wanted: &Kept<C>) {
+pub fn keeps<C: Eq + Debug>(rt: &Host<impl Abort>, kept: &Kept<C>, wanted: &Kept<C>) {
     assert_eq!(rt; *kept, *wanted);
 }

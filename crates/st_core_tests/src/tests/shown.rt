@@ -1,5 +1,6 @@
 //! Answers and reports as values that can be copied and compared.
 use super::few::Few;
+use super::host::Host;
 use st_core::{
     Answer, Call, Collected, Done, Kind, Reason, Refusal, Report, Tag, Time, Timer, Turned,
 };
@@ -106,7 +107,7 @@ pub fn read<S: Copy, C: Copy>(answer: &Answer<S, C>) -> Shown<S, C> {
 /// Looks that an answer is the one that is wanted. Each look at a machine's answer is this one, for the traits
 /// of all these types are found once, here.
 pub fn agree<S: Copy + Eq + Debug, C: Copy + Eq + Debug>(
-    rt: &impl Abort,
+    rt: &Host<impl Abort>,
     answer: &Answer<S, C>,
     wanted: &Shown<S, C>,
 ) {
@@ -114,7 +115,7 @@ pub fn agree<S: Copy + Eq + Debug, C: Copy + Eq + Debug>(
 }
 
 /// Looks that a report says what is wanted.
-pub fn reports<S: Copy + Eq + Debug>(rt: &impl Abort, report: &Report<S>, wanted: &Did<S>) {
+pub fn reports<S: Copy + Eq + Debug>(rt: &Host<impl Abort>, report: &Report<S>, wanted: &Did<S>) {
     assert_eq!(rt; read_report(report), *wanted);
 }
 

@@ -1,18 +1,19 @@
 //! What comes of a start, and copies by a module.
 use super::begin::{Begin, begun, start};
 use super::few::Few;
-use super::lamp::{Bulb, Lamp, Press};
+use super::host::Host;
 use super::machine::{Machine, timers_of};
 use super::seen::Seen;
-use super::shown::Shown::NotPosted;
+use super::shown::Shown::{NotPosted, Stopped, Ticked};
 use super::table::Table;
 use super::table_machine::{at_rest, cast};
-use super::tell_refusals;
 use super::tested::does;
+use super::told::Told;
 use st_core::{Due, Module, Refusal, Start, Time, Timer};
 
 #[test]
 fn a_start_is_ignored_stopped_or_refused(rt: HostRuntime) {
+    let rt = Host::new(rt);
     let module = Table { number: 50 };
     for first in [None, Some(7)] {
         let begin = Begin {
@@ -45,26 +46,22 @@ fn a_start_is_ignored_stopped_or_refused(rt: HostRuntime) {
             }
         }
     }
-    tell_refusals(rt);
+    rt.end();
 }
 
 #[test]
 fn copies_are_equal(rt: HostRuntime) {
+    let rt = Host::new(rt);
     let table = Table { number: 50 };
     assert_eq!(rt; table.copy_content(rt.alloc(), &3), Ok(3));
     assert_eq!(rt; table.copy_data(rt.alloc(), &7), Ok(7));
-    let bulb = Bulb { left: 2 };
-    assert_eq!(rt;
-        Lamp.copy_content(rt.alloc(), &Press::Renew(bulb)),
-        Ok(Press::Renew(bulb))
-    );
-    assert_eq!(rt; Lamp.copy_data(rt.alloc(), &bulb), Ok(bulb));
-    tell_refusals(rt);
+    rt.end();
 }
 
 /// A start that inserts two events needs two numbers. Its moment is looked at first.
 #[test]
 fn inserts_of_a_start_need_numbers(rt: HostRuntime) {
+    let rt = Host::new(rt);
     let module = Table { number: 50 };
     let begin = Begin {
         module,
@@ -100,12 +97,13 @@ fn inserts_of_a_start_need_numbers(rt: HostRuntime) {
             Ok(_) => panic!(rt; "a start with too few numbers"),
         }
     }
-    tell_refusals(rt);
+    rt.end();
 }
 
 /// A start that sets three timers needs three numbers.
 #[test]
 fn time_outs_of_a_start_need_numbers(rt: HostRuntime) {
+    let rt = Host::new(rt);
     let module = Table { number: 50 };
     let begin = Begin {
         module,
@@ -131,7 +129,7 @@ fn time_outs_of_a_start_need_numbers(rt: HostRuntime) {
         ],
         ..begin
     };
-    let core = begun(&rt, rt.alloc(), &begin);
+    let mut core = begun(&rt, rt.alloc(), &begin);
     assert_eq!(rt; core.see(), at_rest(0, 7, 12));
     assert_eq!(rt;
         timers_of(&rt, &core),
@@ -141,5 +139,10 @@ fn time_outs_of_a_start_need_numbers(rt: HostRuntime) {
             (Timer::Named(3), 9_223_372_036_854_775_807, Due::At(32)),
         ])
     );
-    tell_refusals(rt);
+    assert_eq!(rt; core.next_due(), Some(22));
+    does(&rt, &mut core, Told::Tick(22), &Ticked(1));
+    assert_eq!(rt; core.next_due(), Some(32));
+    does(&rt, &mut core, Told::Stop(9), &Stopped(7));
+    assert_eq!(rt; core.next_due(), None);
+    rt.end();
 }

@@ -1,9 +1,9 @@
 //! Machines that end.
 use super::answers::{handled, turn};
 use super::begin::Begin;
+use super::host::Host;
 use super::shown::Shown::{NotPosted, NotStopped, NotTurned, Posted, Stopped};
 use super::table_machine::{BEGIN, answers_are, at_end, cast};
-use super::tell_refusals;
 use super::told::Told;
 use st_core::{Kind, Refusal};
 use std::alloc::Global;
@@ -12,6 +12,7 @@ use std::process::Abort;
 /// One event is postponed, and two wait. From the stop on all is refused, also at a moment out of range.
 #[test]
 fn a_stop_from_outside_acts_at_once(rt: HostRuntime) {
+    let rt = Host::new(rt);
     let steps = [
         (cast(10), Posted(1)),
         (cast(0), Posted(2)),
@@ -27,11 +28,12 @@ fn a_stop_from_outside_acts_at_once(rt: HostRuntime) {
         (Told::Stop(4), NotStopped(Refusal::Stopped(9))),
     ];
     answers_are(&rt, rt.alloc(), &BEGIN, &steps, &at_end(9, 7, 7, 5));
-    tell_refusals(rt);
+    rt.end();
 }
 
 #[test]
 fn a_machine_has_ended_also_where_no_number_is_left(rt: HostRuntime) {
+    let rt = Host::new(rt);
     let steps = [
         (cast(0), Posted(9_223_372_036_854_775_807)),
         (Told::Stop(9), Stopped(7)),
@@ -42,12 +44,12 @@ fn a_machine_has_ended_also_where_no_number_is_left(rt: HostRuntime) {
         ..BEGIN
     };
     answers_are(&rt, rt.alloc(), &begin, &steps, &at_end(9, 7, 7, 0));
-    tell_refusals(rt);
+    rt.end();
 }
 
 /// A machine whose second event stops it, while the first is postponed and the third waits. The word
 /// is that of the data after it.
-fn stops_at(rt: &impl Abort, alloc: Global, content: u32, word: u32) {
+fn stops_at(rt: &Host<impl Abort>, alloc: Global, content: u32, word: u32) {
     let steps = [
         (cast(10), Posted(1)),
         (cast(content), Posted(2)),
@@ -63,18 +65,21 @@ fn stops_at(rt: &impl Abort, alloc: Global, content: u32, word: u32) {
 
 #[test]
 fn a_callback_stops_with_the_old_data(rt: HostRuntime) {
+    let rt = Host::new(rt);
     stops_at(&rt, rt.alloc(), 15, 7);
-    tell_refusals(rt);
+    rt.end();
 }
 
 #[test]
 fn a_callback_stops_with_new_data(rt: HostRuntime) {
+    let rt = Host::new(rt);
     stops_at(&rt, rt.alloc(), 16, 8);
-    tell_refusals(rt);
+    rt.end();
 }
 
 #[test]
 fn a_callback_stops_with_a_reply(rt: HostRuntime) {
+    let rt = Host::new(rt);
     stops_at(&rt, rt.alloc(), 17, 8);
-    tell_refusals(rt);
+    rt.end();
 }

@@ -1,6 +1,7 @@
 //! A table's machine: what it is told, how it begins, and what is read of it.
 use super::begin::{Begin, begun};
 use super::compared::all_alike;
+use super::host::Host;
 use super::seen::{Running, Seen};
 use super::shown::Shown;
 use super::table::Table;
@@ -61,7 +62,7 @@ pub fn at_end(reason: Reason, word: u32, held: u32, latest: u64) -> Seen<u32, u3
 
 /// Looks at the answers to commands, and at what they leave, with no time-out that runs.
 pub fn answers_are(
-    rt: &impl Abort,
+    rt: &Host<impl Abort>,
     alloc: Global,
     begin: &Begin<Table, u32>,
     steps: &[(Told<u32>, Shown<u32, u32>)],
@@ -72,7 +73,7 @@ pub fn answers_are(
 
 /// Looks at the answers to commands, and at what they leave, with the time-outs that run.
 pub fn timers_are(
-    rt: &impl Abort,
+    rt: &Host<impl Abort>,
     alloc: Global,
     begin: &Begin<Table, u32>,
     steps: &[(Told<u32>, Shown<u32, u32>)],

@@ -1,4 +1,5 @@
 //! Calls of a machine: where one finds no memory, the machine is looked at, and the call is made again.
+use super::host::Host;
 use super::machine::{Machine, read_all};
 use super::seen::same;
 use super::shown::{Shown, agree, read};
@@ -9,7 +10,7 @@ use std::process::Abort;
 
 /// Makes the call of one command. A refusal changes nothing that can be read.
 fn try_tell<T: Machine>(
-    rt: &impl Abort,
+    rt: &Host<impl Abort>,
     machine: &mut T,
     told: Told<T::Content>,
 ) -> Answer<T::State, T::Content> {
@@ -24,7 +25,7 @@ fn try_tell<T: Machine>(
 /// Does one command by a call of its own. Where it finds no memory, the content comes back, and the
 /// same call is made again.
 pub fn tell<T: Machine>(
-    rt: &impl Abort,
+    rt: &Host<impl Abort>,
     machine: &mut T,
     told: Told<T::Content>,
 ) -> Answer<T::State, T::Content> {
@@ -33,6 +34,7 @@ pub fn tell<T: Machine>(
         return answer;
     }
     agree(rt, &answer, &without_memory(told));
+    rt.retry();
     let again = try_tell(rt, machine, told);
     assert!(rt; read(&again).takes_memory());
     again
@@ -40,7 +42,7 @@ pub fn tell<T: Machine>(
 
 /// Does one command, and looks at its answer.
 pub fn does<T: Machine>(
-    rt: &impl Abort,
+    rt: &Host<impl Abort>,
     machine: &mut T,
     told: Told<T::Content>,
     wanted: &Shown<T::State, T::Content>,
@@ -52,7 +54,7 @@ pub fn does<T: Machine>(
 /// Does commands by one run. Where there is no memory for the answers, nothing that can be read
 /// has changed, the commands come back, and the same run is made again.
 pub fn run<T: Machine>(
-    rt: &impl Abort,
+    rt: &Host<impl Abort>,
     alloc: Global,
     machine: &mut T,
     steps: &[(Told<T::Content>, Shown<T::State, T::Content>)],
@@ -65,6 +67,7 @@ pub fn run<T: Machine>(
     assert_eq!(rt; refused.refusal, Refusal::NoMemory);
     same(rt, &read_all(rt, machine), &before);
     assert!(rt; are_commands(refused.value.as_slice(), steps));
+    rt.retry();
     match machine.call_run(refused.value) {
         Ok(answers) => answers,
         Err(_) => panic!(rt; "one allocation alone is refused"),

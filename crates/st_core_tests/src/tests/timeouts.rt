@@ -1,11 +1,11 @@
 //! Time-outs: set, stopped, expired, and cancelled.
 use super::answers::{handled, turn};
 use super::begin::Begin;
+use super::host::Host;
 use super::seen::Seen;
 use super::shown::Shown::{Idle, NotPosted, NotTicked, NotTurned, Posted, Stopped, Ticked};
 use super::table::Table;
 use super::table_machine::{BEGIN, answers_are, at_end, at_rest, cast, timers_are};
-use super::tell_refusals;
 use super::told::Told;
 use st_core::{Due, Kind, Refusal, Time, Timer};
 
@@ -23,6 +23,7 @@ const ONE_TIMER: Begin<Table, u32> = Begin {
 /// Its expiry waits no more, and the machine is not ready.
 #[test]
 fn a_time_out_that_has_expired_can_be_stopped(rt: HostRuntime) {
+    let rt = Host::new(rt);
     let steps = [
         (cast(24), Posted(2)),
         (Told::Tick(5), Ticked(1)),
@@ -33,11 +34,12 @@ fn a_time_out_that_has_expired_can_be_stopped(rt: HostRuntime) {
         (Told::Turn(5), Idle),
     ];
     answers_are(&rt, rt.alloc(), &ONE_TIMER, &steps, &at_rest(0, 7, 5));
-    tell_refusals(rt);
+    rt.end();
 }
 
 #[test]
 fn a_named_time_out_comes(rt: HostRuntime) {
+    let rt = Host::new(rt);
     let steps = [
         (Told::Tick(4), Ticked(0)),
         (Told::Tick(5), Ticked(1)),
@@ -46,12 +48,13 @@ fn a_named_time_out_comes(rt: HostRuntime) {
         (Told::Tick(20), Ticked(0)),
     ];
     answers_are(&rt, rt.alloc(), &ONE_TIMER, &steps, &at_rest(0, 7, 20));
-    tell_refusals(rt);
+    rt.end();
 }
 
 /// Its expiry waits, and no other comes of it.
 #[test]
 fn a_time_out_runs_until_it_is_handled(rt: HostRuntime) {
+    let rt = Host::new(rt);
     let steps = [(Told::Tick(5), Ticked(1)), (Told::Tick(9), Ticked(0))];
     let timers = [(Timer::Named(5), 1, Due::At(5))];
     timers_are(
@@ -65,12 +68,13 @@ fn a_time_out_runs_until_it_is_handled(rt: HostRuntime) {
         },
         &timers,
     );
-    tell_refusals(rt);
+    rt.end();
 }
 
 /// The last moment is accepted, and the one after it is refused.
 #[test]
 fn a_time_out_may_be_due_beyond_the_last_moment(rt: HostRuntime) {
+    let rt = Host::new(rt);
     let begin = Begin {
         arg: 6,
         now: 9_223_372_036_854_775_807,
@@ -93,12 +97,13 @@ fn a_time_out_may_be_due_beyond_the_last_moment(rt: HostRuntime) {
         &at_rest(0, 7, 9_223_372_036_854_775_807),
         &timers,
     );
-    tell_refusals(rt);
+    rt.end();
 }
 
 /// Two of them are due at one moment.
 #[test]
 fn time_outs_expire_by_moment_and_then_by_number(rt: HostRuntime) {
+    let rt = Host::new(rt);
     let begin = Begin {
         arg: 7,
         set: &[
@@ -116,11 +121,12 @@ fn time_outs_expire_by_moment_and_then_by_number(rt: HostRuntime) {
         (Told::Turn(20), Idle),
     ];
     answers_are(&rt, rt.alloc(), &begin, &steps, &at_rest(0, 7, 20));
-    tell_refusals(rt);
+    rt.end();
 }
 
 #[test]
 fn time_outs_are_listed_in_the_order_of_their_requests(rt: HostRuntime) {
+    let rt = Host::new(rt);
     let begin = Begin {
         arg: 7,
         set: &[
@@ -139,11 +145,12 @@ fn time_outs_are_listed_in_the_order_of_their_requests(rt: HostRuntime) {
         (Timer::Named(3), 3, Due::At(20)),
     ];
     timers_are(&rt, rt.alloc(), &begin, &steps, &at_rest(0, 7, 10), &timers);
-    tell_refusals(rt);
+    rt.end();
 }
 
 #[test]
 fn the_event_time_out_comes_where_no_event_does(rt: HostRuntime) {
+    let rt = Host::new(rt);
     let steps = [
         (cast(29), Posted(1)),
         turn(
@@ -155,11 +162,12 @@ fn the_event_time_out_comes_where_no_event_does(rt: HostRuntime) {
         (Told::Turn(5), Idle),
     ];
     answers_are(&rt, rt.alloc(), &BEGIN, &steps, &at_rest(0, 7, 5));
-    tell_refusals(rt);
+    rt.end();
 }
 
 #[test]
 fn any_event_cancels_the_event_time_out(rt: HostRuntime) {
+    let rt = Host::new(rt);
     let steps = [
         (cast(29), Posted(1)),
         (cast(0), Posted(2)),
@@ -172,12 +180,13 @@ fn any_event_cancels_the_event_time_out(rt: HostRuntime) {
         (Told::Turn(5), Idle),
     ];
     answers_are(&rt, rt.alloc(), &BEGIN, &steps, &at_rest(0, 7, 5));
-    tell_refusals(rt);
+    rt.end();
 }
 
 /// Its expiry waits behind that event, and goes with it.
 #[test]
 fn an_event_cancels_the_event_time_out_that_has_expired(rt: HostRuntime) {
+    let rt = Host::new(rt);
     let steps = [
         (cast(29), Posted(1)),
         turn(
@@ -190,12 +199,13 @@ fn an_event_cancels_the_event_time_out_that_has_expired(rt: HostRuntime) {
         (Told::Turn(5), Idle),
     ];
     answers_are(&rt, rt.alloc(), &BEGIN, &steps, &at_rest(0, 7, 5));
-    tell_refusals(rt);
+    rt.end();
 }
 
 /// The one that the same actions request runs.
 #[test]
 fn a_state_change_cancels_the_old_state_time_out_alone(rt: HostRuntime) {
+    let rt = Host::new(rt);
     let steps = [
         (cast(28), Posted(1)),
         (cast(27), Posted(2)),
@@ -213,11 +223,12 @@ fn a_state_change_cancels_the_old_state_time_out_alone(rt: HostRuntime) {
         (Told::Turn(10), Idle),
     ];
     answers_are(&rt, rt.alloc(), &BEGIN, &steps, &at_rest(1, 7, 10));
-    tell_refusals(rt);
+    rt.end();
 }
 
 #[test]
 fn a_state_change_cancels_the_state_time_out_that_has_expired(rt: HostRuntime) {
+    let rt = Host::new(rt);
     let steps = [
         (cast(28), Posted(1)),
         (cast(3), Posted(2)),
@@ -230,11 +241,12 @@ fn a_state_change_cancels_the_state_time_out_that_has_expired(rt: HostRuntime) {
         (Told::Turn(5), Idle),
     ];
     answers_are(&rt, rt.alloc(), &BEGIN, &steps, &at_rest(1, 7, 5));
-    tell_refusals(rt);
+    rt.end();
 }
 
 #[test]
 fn the_same_state_keeps_the_state_time_out(rt: HostRuntime) {
+    let rt = Host::new(rt);
     let steps = [
         (cast(28), Posted(1)),
         (cast(9), Posted(2)),
@@ -247,11 +259,12 @@ fn the_same_state_keeps_the_state_time_out(rt: HostRuntime) {
         turn(5, handled(3, Kind::Timeout(Timer::State), 0, 0)),
     ];
     answers_are(&rt, rt.alloc(), &BEGIN, &steps, &at_rest(0, 7, 5));
-    tell_refusals(rt);
+    rt.end();
 }
 
 #[test]
 fn a_state_change_keeps_a_named_time_out(rt: HostRuntime) {
+    let rt = Host::new(rt);
     let steps = [(cast(3), Posted(2)), turn(1, handled(2, Kind::Cast, 0, 1))];
     let timers = [(Timer::Named(5), 1, Due::At(5))];
     timers_are(
@@ -262,12 +275,13 @@ fn a_state_change_keeps_a_named_time_out(rt: HostRuntime) {
         &at_rest(1, 7, 1),
         &timers,
     );
-    tell_refusals(rt);
+    rt.end();
 }
 
 /// The last setting of a list decides; the expiry that waits is passed over.
 #[test]
 fn a_time_out_that_has_expired_can_be_set_anew(rt: HostRuntime) {
+    let rt = Host::new(rt);
     let steps = [
         (cast(31), Posted(1)),
         (cast(26), Posted(2)),
@@ -287,12 +301,13 @@ fn a_time_out_that_has_expired_can_be_set_anew(rt: HostRuntime) {
         (Told::Turn(12), Idle),
     ];
     answers_are(&rt, rt.alloc(), &BEGIN, &steps, &at_rest(0, 7, 12));
-    tell_refusals(rt);
+    rt.end();
 }
 
 /// In a tick, in a turn, and for the time-out that the turn sets.
 #[test]
 fn an_earlier_moment_counts_as_the_latest(rt: HostRuntime) {
+    let rt = Host::new(rt);
     let steps = [
         (Told::Tick(10), Ticked(0)),
         (cast(28), Posted(1)),
@@ -304,12 +319,13 @@ fn an_earlier_moment_counts_as_the_latest(rt: HostRuntime) {
     ];
     let timers = [(Timer::State, 2, Due::At(15))];
     timers_are(&rt, rt.alloc(), &BEGIN, &steps, &at_rest(0, 7, 10), &timers);
-    tell_refusals(rt);
+    rt.end();
 }
 
 /// Two are to begin, and one number is left.
 #[test]
 fn time_outs_need_numbers(rt: HostRuntime) {
+    let rt = Host::new(rt);
     let begin = Begin {
         first: Some(9_223_372_036_854_775_806),
         ..BEGIN
@@ -329,11 +345,12 @@ fn time_outs_need_numbers(rt: HostRuntime) {
             ..at_rest(0, 7, 0)
         },
     );
-    tell_refusals(rt);
+    rt.end();
 }
 
 #[test]
 fn the_last_numbers_are_of_time_outs(rt: HostRuntime) {
+    let rt = Host::new(rt);
     let begin = Begin {
         first: Some(9_223_372_036_854_775_805),
         ..BEGIN
@@ -364,11 +381,12 @@ fn the_last_numbers_are_of_time_outs(rt: HostRuntime) {
         },
         &timers,
     );
-    tell_refusals(rt);
+    rt.end();
 }
 
 #[test]
 fn a_time_out_that_is_stopped_needs_no_number(rt: HostRuntime) {
+    let rt = Host::new(rt);
     let begin = Begin {
         first: Some(9_223_372_036_854_775_807),
         ..BEGIN
@@ -384,12 +402,13 @@ fn a_time_out_that_is_stopped_needs_no_number(rt: HostRuntime) {
         ),
     ];
     answers_are(&rt, rt.alloc(), &begin, &steps, &at_rest(0, 7, 4));
-    tell_refusals(rt);
+    rt.end();
 }
 
 /// From then on a tick is refused, also at a moment out of range.
 #[test]
 fn a_stop_ends_the_time_outs(rt: HostRuntime) {
+    let rt = Host::new(rt);
     let steps = [
         (Told::Stop(9), Stopped(7)),
         (Told::Tick(5), NotTicked(Refusal::Stopped(9))),
@@ -399,11 +418,12 @@ fn a_stop_ends_the_time_outs(rt: HostRuntime) {
         ),
     ];
     answers_are(&rt, rt.alloc(), &ONE_TIMER, &steps, &at_end(9, 7, 7, 0));
-    tell_refusals(rt);
+    rt.end();
 }
 
 #[test]
 fn a_callback_that_stops_ends_the_time_outs(rt: HostRuntime) {
+    let rt = Host::new(rt);
     let steps = [
         (Told::Tick(5), Ticked(1)),
         (cast(15), Posted(2)),
@@ -411,5 +431,5 @@ fn a_callback_that_stops_ends_the_time_outs(rt: HostRuntime) {
         turn(6, handled(2, Kind::Cast, 0, 0).ended(9, 7)),
     ];
     answers_are(&rt, rt.alloc(), &ONE_TIMER, &steps, &at_end(9, 7, 7, 6));
-    tell_refusals(rt);
+    rt.end();
 }

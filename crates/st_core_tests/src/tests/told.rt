@@ -1,5 +1,6 @@
 //! Commands that can be told again.
-use super::room::room;
+use super::host::Host;
+use super::reserved::with_reserved;
 use super::shown::Shown;
 use st_core::{Command, Entry, MachineId, Reason, Refusal, Tag};
 use std::alloc::Global;
@@ -67,13 +68,13 @@ fn is_command<C: Copy + Eq>(command: &Command<C>, told: Told<C>) -> bool {
     }
 }
 
-/// The commands of a run. Where memory was refused, room is got again.
+/// The commands of a run. Where memory was refused, it is asked for again.
 pub fn commands<S, C: Copy>(
-    rt: &impl Abort,
+    rt: &Host<impl Abort>,
     alloc: Global,
     steps: &[(Told<C>, Shown<S, C>)],
 ) -> Vec<Command<C>> {
-    let mut commands = room(rt, alloc, steps.len());
+    let mut commands = with_reserved(rt, alloc, steps.len());
     for (told, _) in steps {
         assert!(rt; commands.push(command_of(*told)).is_ok());
     }

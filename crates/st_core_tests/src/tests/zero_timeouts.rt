@@ -1,10 +1,10 @@
 //! Time-outs that are due at once.
 use super::answers::{handled, turn};
 use super::begin::Begin;
+use super::host::Host;
 use super::seen::Seen;
 use super::shown::Shown::{Idle, Posted, Ticked};
 use super::table_machine::{BEGIN, answers_are, at_rest, cast, timers_are};
-use super::tell_refusals;
 use super::told::Told;
 use st_core::{Due, Kind, Time, Timer};
 
@@ -13,6 +13,7 @@ const AT_ONCE: Time = Time::After(0);
 /// Of two time-outs that are due at once the first requested comes, and it cancels that of the event.
 #[test]
 fn the_first_zero_time_out_cancels_that_of_the_event(rt: HostRuntime) {
+    let rt = Host::new(rt);
     let steps = [
         (cast(22), Posted(1)),
         turn(
@@ -26,11 +27,12 @@ fn the_first_zero_time_out_cancels_that_of_the_event(rt: HostRuntime) {
         (Told::Turn(0), Idle),
     ];
     answers_are(&rt, rt.alloc(), &BEGIN, &steps, &at_rest(0, 7, 0));
-    tell_refusals(rt);
+    rt.end();
 }
 
 #[test]
 fn both_zero_time_outs_come_where_that_of_the_event_is_first(rt: HostRuntime) {
+    let rt = Host::new(rt);
     let steps = [
         (cast(23), Posted(1)),
         turn(
@@ -45,12 +47,13 @@ fn both_zero_time_outs_come_where_that_of_the_event_is_first(rt: HostRuntime) {
         (Told::Turn(0), Idle),
     ];
     answers_are(&rt, rt.alloc(), &BEGIN, &steps, &at_rest(0, 7, 0));
-    tell_refusals(rt);
+    rt.end();
 }
 
 /// As long as they have not come they run, and a moment that passes does not make them expire.
 #[test]
 fn zero_time_outs_run_until_they_come(rt: HostRuntime) {
+    let rt = Host::new(rt);
     let steps = [
         (cast(22), Posted(1)),
         turn(
@@ -74,11 +77,12 @@ fn zero_time_outs_run_until_they_come(rt: HostRuntime) {
         },
         &timers,
     );
-    tell_refusals(rt);
+    rt.end();
 }
 
 #[test]
 fn a_zero_time_out_comes_before_a_posted_event(rt: HostRuntime) {
+    let rt = Host::new(rt);
     let steps = [
         (cast(22), Posted(1)),
         (cast(0), Posted(2)),
@@ -94,12 +98,13 @@ fn a_zero_time_out_comes_before_a_posted_event(rt: HostRuntime) {
         (Told::Turn(0), Idle),
     ];
     answers_are(&rt, rt.alloc(), &BEGIN, &steps, &at_rest(0, 7, 0));
-    tell_refusals(rt);
+    rt.end();
 }
 
 /// While an inserted event is left it waits, and that event sets it for 5.
 #[test]
 fn a_waiting_zero_time_out_that_is_set_anew_comes_later(rt: HostRuntime) {
+    let rt = Host::new(rt);
     let steps = [
         (cast(25), Posted(1)),
         turn(
@@ -119,12 +124,13 @@ fn a_waiting_zero_time_out_that_is_set_anew_comes_later(rt: HostRuntime) {
         (Told::Turn(5), Idle),
     ];
     answers_are(&rt, rt.alloc(), &BEGIN, &steps, &at_rest(0, 7, 5));
-    tell_refusals(rt);
+    rt.end();
 }
 
 /// It is an event like any other from then on, and comes again when the state has changed.
 #[test]
 fn the_event_of_a_zero_time_out_can_be_postponed(rt: HostRuntime) {
+    let rt = Host::new(rt);
     let steps = [
         (cast(30), Posted(1)),
         turn(
@@ -142,11 +148,12 @@ fn the_event_of_a_zero_time_out_can_be_postponed(rt: HostRuntime) {
         (Told::Turn(0), Idle),
     ];
     answers_are(&rt, rt.alloc(), &BEGIN, &steps, &at_rest(1, 7, 0));
-    tell_refusals(rt);
+    rt.end();
 }
 
 #[test]
 fn the_event_of_a_time_out_waits_where_it_is_postponed(rt: HostRuntime) {
+    let rt = Host::new(rt);
     let steps = [
         (cast(30), Posted(1)),
         turn(
@@ -168,12 +175,13 @@ fn the_event_of_a_time_out_waits_where_it_is_postponed(rt: HostRuntime) {
             ..at_rest(0, 7, 0)
         },
     );
-    tell_refusals(rt);
+    rt.end();
 }
 
 /// They have the lower numbers too, though the time-out stands first in the list.
 #[test]
 fn inserted_events_of_a_start_come_before_its_zero_time_out(rt: HostRuntime) {
+    let rt = Host::new(rt);
     let begin = Begin {
         arg: 8,
         inserted: &[1, 2],
@@ -189,5 +197,5 @@ fn inserted_events_of_a_start_come_before_its_zero_time_out(rt: HostRuntime) {
         (Told::Turn(0), Idle),
     ];
     answers_are(&rt, rt.alloc(), &begin, &steps, &at_rest(0, 7, 0));
-    tell_refusals(rt);
+    rt.end();
 }
