@@ -11,16 +11,14 @@ use Rattle.st_core.specs.declared.command.Command.TheVariants as command
 use Rattle.st_core.specs.declared.report.Report.{Report}
 use Rattle.st_core.specs.declared.turned.Turned.{Turned}
 use Rattle.st_core.specs.declared.turned.Turned.TheVariants.{Reported, Idle}
-use Rattle.st_core.specs.declared.turns.Turns.{Turns}
-use Rattle.st_core.specs.declared.turns_end.TurnsEnd.{TurnsEnd}
 use Rattle.st_core.specs.declared.turns_end.TurnsEnd.TheVariants as end
 use Rattle.st_core.specs.MachineState.{MachineState, Machine}
 use Rattle.st_core.specs.Callbacks.{Callbacks, called_of}
 use Rattle.st_core.specs.Choice.{is_ready_of, next_event_of}
-use Rattle.st_core.specs.Transition.{with_moment, concluded, transition_of, unless_refused, turn_running, turn_of}
+use Rattle.st_core.specs.Transition.{with_moment, concluded, transition_of, unless_refused, turn_running}
 use Rattle.st_core.specs.Stop.{unless_ended}
 use Rattle.st_core.specs.Run.{Does, Runs, turn_takes_memory}
-use Rattle.st_core.specs.UntilIdle.{HasTurned, IsEndOf, turns_at, answers_with, last_turn, last_answer, end_of}
+use Rattle.st_core.specs.UntilIdle.{HasTurned, turns_at, answers_with}
 use Rattle.st_core.proofs.RunLemmas.{run_more}
 use Rattle.st_core.proofs.TransitionLemmas.{concluded_takes_memory}
 
