@@ -1,18 +1,11 @@
 //! What lists ask for, with memory and while an allocation is refused.
+mod host;
+
 use crate::{Planned, join, plan, plan_enter};
+use host::Host;
 use st_events::{Action, Actions, EnterAction, EnterActions, Kind, MachineId, Tag, Time, Timer};
 use std::alloc::Global;
 use std::process::Abort;
-
-/// Says so where no allocation of this test was refused: then one of those that follow is.
-fn tell_refusals(rt: HostRuntime) {
-    for _ in 0..10_000 {
-        if Box::new(rt.alloc(), 'x').is_err() {
-            let _ = println!(rt; "nothing was refused");
-            return;
-        }
-    }
-}
 
 /// The tag of a request.
 fn tag(request: u64) -> Tag {
@@ -63,10 +56,11 @@ fn is_action(found: &Action<u64>, letter: char) -> bool {
 }
 
 /// A list of the actions that letters name. Where memory was refused, it is asked for again.
-fn list(rt: &impl Abort, alloc: Global, letters: &[char]) -> Actions<u64> {
+fn list(rt: &Host<impl Abort>, alloc: Global, letters: &[char]) -> Actions<u64> {
     let mut actions = Actions::new(alloc);
     for letter in letters {
         if let Err(failed) = actions.push(action(*letter)) {
+            rt.retry();
             assert!(rt;
                 actions.push(failed.value).is_ok(),
                 "one allocation alone is refused"
@@ -86,12 +80,13 @@ fn has(rt: &impl Abort, actions: &Actions<u64>, letters: &[char]) {
 }
 
 /// What letters ask for. A call that finds no memory gives the list back, and is made again.
-fn planned(rt: &impl Abort, alloc: Global, letters: &[char]) -> Planned<u64> {
+fn planned(rt: &Host<impl Abort>, alloc: Global, letters: &[char]) -> Planned<u64> {
     match plan(alloc, list(rt, alloc, letters)) {
         Ok(planned) => planned,
         Err(failed) => {
             assert!(rt; letters.len() > 4);
             has(rt, &failed.value, letters);
+            rt.retry();
             match plan(alloc, failed.value) {
                 Ok(planned) => planned,
                 Err(_) => panic!(rt; "one allocation alone is refused"),
@@ -124,10 +119,11 @@ fn is_enter_action(found: &EnterAction<u64>, letter: char) -> bool {
 }
 
 /// A list of the enter call's actions that letters name, as `list` makes one.
-fn enter_list(rt: &impl Abort, alloc: Global, letters: &[char]) -> EnterActions<u64> {
+fn enter_list(rt: &Host<impl Abort>, alloc: Global, letters: &[char]) -> EnterActions<u64> {
     let mut actions = EnterActions::new(alloc);
     for letter in letters {
         if let Err(failed) = actions.push(enter_action(*letter)) {
+            rt.retry();
             assert!(rt;
                 actions.push(failed.value).is_ok(),
                 "one allocation alone is refused"
@@ -148,12 +144,13 @@ fn enter_has(rt: &impl Abort, actions: &EnterActions<u64>, letters: &[char]) {
 
 /// What letters ask for in an enter call. A call that finds no memory gives the list back, and is made
 /// again.
-fn entered(rt: &impl Abort, alloc: Global, letters: &[char]) -> Planned<u64> {
+fn entered(rt: &Host<impl Abort>, alloc: Global, letters: &[char]) -> Planned<u64> {
     match plan_enter(alloc, enter_list(rt, alloc, letters)) {
         Ok(planned) => planned,
         Err(failed) => {
             assert!(rt; letters.len() > 4);
             enter_has(rt, &failed.value, letters);
+            rt.retry();
             match plan_enter(alloc, failed.value) {
                 Ok(planned) => planned,
                 Err(_) => panic!(rt; "one allocation alone is refused"),
@@ -194,7 +191,7 @@ fn same(rt: &impl Abort, found: &Planned<u64>, wanted: &Planned<u64>) {
 /// What two plans ask for together. A call that finds no memory gives both back, equal to `copies`, and is
 /// made again.
 fn joined(
-    rt: &impl Abort,
+    rt: &Host<impl Abort>,
     alloc: Global,
     plans: (Planned<u64>, Planned<u64>),
     copies: &(Planned<u64>, Planned<u64>),
@@ -205,6 +202,7 @@ fn joined(
             let (first, second) = failed.value;
             same(rt, &first, &copies.0);
             same(rt, &second, &copies.1);
+            rt.retry();
             match join(alloc, first, second) {
                 Ok(planned) => planned,
                 Err(_) => panic!(rt; "one allocation alone is refused"),
@@ -215,7 +213,7 @@ fn joined(
 
 /// What an event's letters ask for, and what an enter call's do.
 fn event_and_enter(
-    rt: &impl Abort,
+    rt: &Host<impl Abort>,
     alloc: Global,
     event: &[char],
     enter: &[char],
@@ -225,7 +223,7 @@ fn event_and_enter(
 
 /// What the letters of two events ask for.
 fn two_events(
-    rt: &impl Abort,
+    rt: &Host<impl Abort>,
     alloc: Global,
     first: &[char],
     second: &[char],
@@ -268,6 +266,7 @@ fn settings(rt: &impl Abort, planned: &Planned<u64>, wanted: &[(Timer, Time, u64
 
 #[test]
 fn each_call_answers(rt: HostRuntime) {
+    let rt = Host::new(rt);
     let nothing = planned(&rt, rt.alloc(), &[]);
     replies(&rt, &nothing, &[]);
     assert!(rt; !nothing.postpone);
@@ -310,11 +309,12 @@ fn each_call_answers(rt: HostRuntime) {
         &seven,
         &[(Kind::Internal, 30), (Kind::Timeout(Timer::State), 40)],
     );
-    tell_refusals(rt);
+    rt.end();
 }
 
 #[test]
 fn the_last_setting_of_each_timer_decides(rt: HostRuntime) {
+    let rt = Host::new(rt);
     let both = planned(&rt, rt.alloc(), &['1', '2']);
     settings(
         &rt,
@@ -346,11 +346,12 @@ fn the_last_setting_of_each_timer_decides(rt: HostRuntime) {
             (Timer::Event, Time::After(0), 90),
         ],
     );
-    tell_refusals(rt);
+    rt.end();
 }
 
 #[test]
 fn refused_memory_changes_nothing(rt: HostRuntime) {
+    let rt = Host::new(rt);
     let letters = ['r', 'i', 's', 'k', '1', 't', 'p', 'x', '9'];
     let nine = planned(&rt, rt.alloc(), &letters);
     replies(&rt, &nine, &[(tag(1), 10), (tag(2), 20)]);
@@ -368,11 +369,12 @@ fn refused_memory_changes_nothing(rt: HostRuntime) {
             (Timer::Named(1), Time::After(9), 70),
         ],
     );
-    tell_refusals(rt);
+    rt.end();
 }
 
 #[test]
 fn an_enter_call_replies_and_sets_timers(rt: HostRuntime) {
+    let rt = Host::new(rt);
     let nothing = entered(&rt, rt.alloc(), &[]);
     replies(&rt, &nothing, &[]);
     assert!(rt; !nothing.postpone);
@@ -403,11 +405,12 @@ fn an_enter_call_replies_and_sets_timers(rt: HostRuntime) {
             (Timer::Named(1), Time::After(9), 70),
         ],
     );
-    tell_refusals(rt);
+    rt.end();
 }
 
 #[test]
 fn an_enter_calls_settings_replace_the_events(rt: HostRuntime) {
+    let rt = Host::new(rt);
     let event = ['r', 'p', 'i', '1', 'e'];
     let enter = ['s', '0', 'h'];
     let copies = event_and_enter(&rt, rt.alloc(), &event, &enter);
@@ -443,11 +446,12 @@ fn an_enter_calls_settings_replace_the_events(rt: HostRuntime) {
         &kept,
         &[(Kind::Internal, 30), (Kind::Timeout(Timer::State), 40)],
     );
-    tell_refusals(rt);
+    rt.end();
 }
 
 #[test]
 fn a_refused_join_changes_nothing(rt: HostRuntime) {
+    let rt = Host::new(rt);
     let first = ['r', 'i', 's', 't', '1', 'p', 'i', 'e', '2', 'x', 'r'];
     let second = ['s', 't', 'k', 'i', '9', 'r'];
     let copies = two_events(&rt, rt.alloc(), &first, &second);
@@ -490,5 +494,5 @@ fn a_refused_join_changes_nothing(rt: HostRuntime) {
             (Timer::Named(1), Time::After(9), 70),
         ],
     );
-    tell_refusals(rt);
+    rt.end();
 }

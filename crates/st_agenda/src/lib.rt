@@ -8,6 +8,7 @@ mod pending;
 mod slot;
 #[cfg(test)]
 mod tests;
+mod uncounted_queue;
 
 pub use agenda::Agenda;
 pub use st_events::{Inserts, Kind, PlainList, Settings, Timer};

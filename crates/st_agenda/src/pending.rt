@@ -6,8 +6,8 @@ ghost use Rattle.st_agenda.specs.Slots.{inserted_slots, is_event, content_in};
 ghost use Rattle.st_agenda.specs.Waiting.{Seen, Unseen, IsOrdered, first_seen, next_of, next_number_of, with_next_seen, without_slot, put_in, inserted_at, place_numbers};
 
 use crate::slot::Slot;
+use crate::uncounted_queue::UncountedQueue;
 use st_events::{Event, Insert, Inserts, Kind, Timer};
-use st_queue::EventQueue;
 use std::alloc::{AllocError, AllocFailed, Global};
 use std::marker::Model;
 
@@ -15,7 +15,7 @@ use std::marker::Model;
 /// were received. Numbers are given here.
 #[derive(Drop)]
 pub(crate) struct Pending<C> {
-    queue: EventQueue<Slot<C>>,
+    queue: UncountedQueue<Slot<C>>,
     // How many slots were received. The cursor stands among them or behind the last one.
     received: usize,
     // The number that the next event gets.
@@ -44,7 +44,7 @@ impl<C> Pending<C> {
         ensures { result ≡ record { items = []; postponed = []; next_number = first; staged = 0 } }
     {
         Pending {
-            queue: EventQueue::new(alloc),
+            queue: UncountedQueue::new(alloc),
             received: 0,
             next_number: first,
         }
@@ -227,7 +227,7 @@ impl<C: Drop> Pending<C> {
 }
 
 /// Puts events in at the cursor, in order, with numbers from this one on.
-fn insert_at_cursor<C: Drop>(queue: &mut EventQueue<Slot<C>>, inserts: Inserts<C>, first: u64)
+fn insert_at_cursor<C: Drop>(queue: &mut UncountedQueue<Slot<C>>, inserts: Inserts<C>, first: u64)
     requires within { queue.old.cursor ≤ length queue.old.items }
     requires reserved { length inserts ≤ queue.old.staged }
     requires numbers { first + length inserts ≤ 2 ^ 63 }

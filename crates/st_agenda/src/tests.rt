@@ -1,21 +1,14 @@
 //! Each call once with memory at hand, and all of them where one allocation is refused.
 ghost use Rattle.std.specs.Prelude.{◌≡◌, ◌+◌, ◌≤◌, ◌<◌, length};
 
+mod host;
+
 use crate::Agenda;
+use host::Host;
 use st_events::{Insert, Inserts, Kind, PlainList, Setting, Settings, Time, Timer};
 use st_timeouts::Due;
 use std::alloc::Global;
 use std::process::Abort;
-
-/// Says so where no allocation of this test was refused: then one of those that follow is.
-fn tell_refusals(rt: HostRuntime) {
-    for _ in 0..10_000 {
-        if Box::new(rt.alloc(), 'x').is_err() {
-            let _ = println!(rt; "nothing was refused");
-            return;
-        }
-    }
-}
 
 /// All that can be read of an agenda without memory: the next event with its kind and its content, how
 /// many events wait, the next number, and how many time-outs are due sooner or later.
@@ -30,17 +23,20 @@ fn readable(agenda: &Agenda<u64>) -> (Option<(u64, Kind)>, Option<u64>, usize, u
 }
 
 /// The time-outs that run. Where memory was refused, they are read again.
-fn listed(rt: &impl Abort, agenda: &Agenda<u64>) -> PlainList<(Timer, u64, Due)> {
+fn listed(rt: &Host<impl Abort>, agenda: &Agenda<u64>) -> PlainList<(Timer, u64, Due)> {
     match agenda.timers() {
         Ok(timers) => timers,
-        Err(_) => agenda
-            .timers()
-            .expect(rt, "one allocation alone is refused"),
+        Err(_) => {
+            rt.retry();
+            agenda
+                .timers()
+                .expect(rt, "one allocation alone is refused")
+        }
     }
 }
 
 /// Looks that these time-outs run, in this order, and no others.
-fn run(rt: &impl Abort, agenda: &Agenda<u64>, wanted: &[(Timer, u64, Due)]) {
+fn run(rt: &Host<impl Abort>, agenda: &Agenda<u64>, wanted: &[(Timer, u64, Due)]) {
     let found = listed(rt, agenda);
     let found = found.as_slice();
     assert_eq!(rt; found.len(), wanted.len());
@@ -67,7 +63,7 @@ fn nothing_comes(rt: &impl Abort, agenda: &Agenda<u64>, waiting: usize) {
 
 /// Posts a cast. Where memory was refused, nothing has changed, the content comes back, and it is
 /// posted again.
-fn push(rt: &impl Abort, agenda: &mut Agenda<u64>, content: u64, number: u64) {
+fn push(rt: &Host<impl Abort>, agenda: &mut Agenda<u64>, content: u64, number: u64) {
     assert!(rt; agenda.next_number() < 1_000);
     let (before, running) = (readable(agenda), listed(rt, agenda));
     match agenda.push(Kind::Cast, content) {
@@ -76,6 +72,7 @@ fn push(rt: &impl Abort, agenda: &mut Agenda<u64>, content: u64, number: u64) {
             assert_eq!(rt; failed.value, content);
             assert!(rt; readable(agenda) == before, "a refused push");
             run(rt, agenda, running.as_slice());
+            rt.retry();
             match agenda.push(Kind::Cast, content) {
                 Ok(given) => assert_eq!(rt; given, number),
                 Err(_) => panic!(rt; "one allocation alone is refused"),
@@ -86,7 +83,7 @@ fn push(rt: &impl Abort, agenda: &mut Agenda<u64>, content: u64, number: u64) {
 
 /// Reserves for inserted events and timers. Where memory was refused, nothing has changed, and the call
 /// is made again.
-fn reserve_for(rt: &impl Abort, agenda: &mut Agenda<u64>, inserts: usize, timers: usize)
+fn reserve_for(rt: &Host<impl Abort>, agenda: &mut Agenda<u64>, inserts: usize, timers: usize)
     requires { inserts ≤ 100 }
     ensures staged { inserts + 1 ≤ agenda.new.staged }
     ensures reserved { timers ≤ agenda.new.reserved }
@@ -98,6 +95,7 @@ fn reserve_for(rt: &impl Abort, agenda: &mut Agenda<u64>, inserts: usize, timers
     }
     assert!(rt; readable(agenda) == before, "refused reserved");
     run(rt, agenda, running.as_slice());
+    rt.retry();
     if agenda.reserve_for(inserts, timers).is_err() {
         panic!(rt; "one allocation alone is refused");
     }
@@ -106,7 +104,7 @@ fn reserve_for(rt: &impl Abort, agenda: &mut Agenda<u64>, inserts: usize, timers
 /// The next event, which has this number, is handled at a moment: it is postponed or not, the state
 /// changes or not, events are inserted and timers set.
 fn settle(
-    rt: &impl Abort,
+    rt: &Host<impl Abort>,
     agenda: &mut Agenda<u64>,
     now: u32,
     number: u64,
@@ -135,7 +133,7 @@ fn settle(
 }
 
 /// Time passes to a moment, and so many time-outs expire.
-fn tick(rt: &impl Abort, agenda: &mut Agenda<u64>, now: u32, expired: usize) {
+fn tick(rt: &Host<impl Abort>, agenda: &mut Agenda<u64>, now: u32, expired: usize) {
     let count = agenda.count_due(now as u64);
     assert_eq!(rt; count, expired);
     assert!(rt; count <= 100);
@@ -193,6 +191,7 @@ fn two(
 /// behind them, and a state change retries.
 #[test]
 fn events_come_in_their_order(rt: HostRuntime) {
+    let rt = Host::new(rt);
     let mut agenda = Agenda::new(rt.alloc(), 1);
     nothing_comes(&rt, &agenda, 0);
     assert_eq!(rt; agenda.next_number(), 1);
@@ -204,6 +203,7 @@ fn events_come_in_their_order(rt: HostRuntime) {
     assert!(rt; agenda.has_numbers(&inserts, &settings));
     settle(&rt, &mut agenda, 0, 1, true, false, inserts, settings);
     run(&rt, &agenda, &[(Timer::Named(1), 4, Due::At(5))]);
+    assert_eq!(rt; agenda.next_due(), Some(5));
     comes(&rt, &agenda, (3, Kind::Internal, 30), 3);
     settle(
         &rt,
@@ -218,6 +218,7 @@ fn events_come_in_their_order(rt: HostRuntime) {
     comes(&rt, &agenda, (2, Kind::Cast, 20), 2);
     tick(&rt, &mut agenda, 4, 0);
     tick(&rt, &mut agenda, 5, 1);
+    assert_eq!(rt; agenda.next_due(), None);
     tick(&rt, &mut agenda, 6, 0);
     comes(&rt, &agenda, (2, Kind::Cast, 20), 2);
     settle(
@@ -255,13 +256,14 @@ fn events_come_in_their_order(rt: HostRuntime) {
     nothing_comes(&rt, &agenda, 0);
     run(&rt, &agenda, &[]);
     assert_eq!(rt; agenda.next_number(), 5);
-    tell_refusals(rt);
+    rt.end();
 }
 
 /// Two time-outs of no length: the first one that was set comes, and the event time-out is
 /// cancelled by it.
 #[test]
 fn a_zero_timeout_comes_before_what_was_not_received(rt: HostRuntime) {
+    let rt = Host::new(rt);
     let mut agenda = Agenda::new(rt.alloc(), 1);
     push(&rt, &mut agenda, 10, 1);
     push(&rt, &mut agenda, 20, 2);
@@ -286,6 +288,7 @@ fn a_zero_timeout_comes_before_what_was_not_received(rt: HostRuntime) {
         &agenda,
         &[(Timer::State, 3, Due::Zero), (Timer::Event, 4, Due::Zero)],
     );
+    assert_eq!(rt; agenda.next_due(), None);
     comes(&rt, &agenda, (3, Kind::Timeout(Timer::State), 30), 1);
     settle(
         &rt,
@@ -299,13 +302,14 @@ fn a_zero_timeout_comes_before_what_was_not_received(rt: HostRuntime) {
     );
     comes(&rt, &agenda, (2, Kind::Cast, 20), 1);
     run(&rt, &agenda, &[]);
-    tell_refusals(rt);
+    rt.end();
 }
 
 /// An expiry waits, and its time-out is stopped: it never comes, and nothing is left that a turn could
 /// handle.
 #[test]
 fn an_expiry_of_a_stopped_timer_is_passed_over(rt: HostRuntime) {
+    let rt = Host::new(rt);
     let mut agenda = Agenda::new(rt.alloc(), 1);
     push(&rt, &mut agenda, 10, 1);
     let settings = one(&rt, rt.alloc(), Timer::Named(5), Time::After(5), 30);
@@ -334,27 +338,32 @@ fn an_expiry_of_a_stopped_timer_is_passed_over(rt: HostRuntime) {
     );
     nothing_comes(&rt, &agenda, 0);
     run(&rt, &agenda, &[]);
-    tell_refusals(rt);
+    rt.end();
 }
 
 /// At a start events are inserted and timers set, though no event is handled.
 #[test]
 fn a_start_inserts_and_sets(rt: HostRuntime) {
+    let rt = Host::new(rt);
     let mut agenda = Agenda::new(rt.alloc(), 7);
     if agenda.stage(1).is_err() {
         nothing_comes(&rt, &agenda, 0);
+        rt.retry();
+        assert!(rt; agenda.stage(1).is_ok());
     }
     if agenda.reserve(1).is_err() {
         nothing_comes(&rt, &agenda, 0);
+        rt.retry();
+        assert!(rt; agenda.reserve(1).is_ok());
     }
     begin(&rt, &mut agenda, rt.alloc());
     comes(&rt, &agenda, (7, Kind::Internal, 30), 1);
     run(&rt, &agenda, &[(Timer::State, 8, Due::At(13))]);
-    tell_refusals(rt);
+    rt.end();
 }
 
 /// Inserts one event, and sets the state timer at the moment 3 for 10 milliseconds.
-fn begin(rt: &impl Abort, agenda: &mut Agenda<u64>, alloc: Global) {
+fn begin(rt: &Host<impl Abort>, agenda: &mut Agenda<u64>, alloc: Global) {
     let inserts = insert(rt, alloc, 30);
     let settings = one(rt, alloc, Timer::State, Time::After(10), 40);
     let (events, timers) = (inserts.len(), settings.len());

@@ -37,6 +37,13 @@ impl<R: Abort> Host<R> {
     }
 }
 
+impl<R: Print> Host<R> {
+    /// Says which push was refused.
+    pub fn tell(&self, number: u32) {
+        let _ = println!(self.rt; "push {number} was refused");
+    }
+}
+
 impl<R: Abort + AllocGlobal + Print> Host<R> {
     /// Ends a test. Where none of its allocations was refused, one of those made here may be: then no call may have
     /// been made again, and it prints a line that `tools/refuse-each` reads.
