@@ -1,0 +1,3 @@
+-- What the measured modules do.
+pub mod Latched
+pub mod Loaded

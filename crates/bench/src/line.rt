@@ -1,0 +1,165 @@
+//! What can be measured.
+use crate::drive::{
+    call_each, cycle, end, expire_each, finish_in_order, post_all_and_turn, post_and_turn,
+    post_and_turn_each, post_tick_and_turn, started, turn_each,
+};
+use crate::latch::{Latch, Press};
+use crate::load::{Load, Work};
+use st_core::{Core, MachineId, Refusal};
+use std::alloc::Global;
+
+/// The identity of a measured machine.
+const ID: MachineId = MachineId { slot: 0, serial: 1 };
+
+/// One line of the bench.
+#[derive(Clone, Copy, Debug, PartialEq, Eq)]
+pub enum Line {
+    /// Casts that keep the state.
+    Casts,
+    /// The same, with a tick before each turn.
+    CastsWithTicks,
+    /// All casts are posted first.
+    PostedFirst,
+    /// Buttons of a door that do not open it: each sets the event time-out anew.
+    WrongButtons,
+    /// A door: a button, one that opens it, one that is postponed, and a lock.
+    DoorCycle,
+    /// Calls, whose replies are collected.
+    Calls,
+    /// Casts to each of so many machines in turn.
+    Machines,
+    /// Events that are postponed, and so many state changes after which they are retried.
+    Postponed,
+    /// Events that are postponed and then retried after one state change: those that finish in the order of their
+    /// numbers are counted.
+    Retried,
+    /// Expiries, one after another, while so many other time-outs run.
+    Expiries,
+    /// A timer is set and stopped, while so many other time-outs run.
+    SetAndCancel,
+    /// Timers that are set in one list.
+    Settings,
+    /// Events that are inserted in one list.
+    Inserts,
+    /// Machines that are started and stopped.
+    StartAndStop,
+}
+
+/// Each line by its name.
+pub const LINES: [(&str, Line); 14] = [
+    ("casts", Line::Casts),
+    ("casts-with-ticks", Line::CastsWithTicks),
+    ("posted-first", Line::PostedFirst),
+    ("wrong-buttons", Line::WrongButtons),
+    ("door-cycle", Line::DoorCycle),
+    ("calls", Line::Calls),
+    ("machines", Line::Machines),
+    ("postponed", Line::Postponed),
+    ("retried", Line::Retried),
+    ("expiries", Line::Expiries),
+    ("set-and-cancel", Line::SetAndCancel),
+    ("settings", Line::Settings),
+    ("inserts", Line::Inserts),
+    ("start-and-stop", Line::StartAndStop),
+];
+
+impl Line {
+    /// Does the line so many times, and answers how many events were handled, replies collected or machines ended.
+    pub fn done(self, alloc: Global, count: u32, more: u32) -> Result<u64, Refusal> {
+        match self {
+            Line::WrongButtons | Line::DoorCycle => self.done_by_latch(alloc, count),
+            Line::Machines => many_machines(alloc, count, more),
+            Line::StartAndStop => started_and_stopped(alloc, count),
+            _ => self.done_by_load(alloc, count, more),
+        }
+    }
+
+    /// Does a line of the door.
+    fn done_by_latch(self, alloc: Global, count: u32) -> Result<u64, Refusal> {
+        let Some(mut door) = started(alloc, Latch, ID, &0)? else {
+            return Ok(0);
+        };
+        if self == Line::WrongButtons {
+            return post_and_turn_each(&mut door, Press::Button(9), count);
+        }
+        let presses = [
+            Press::Button(1),
+            Press::Button(2),
+            Press::Button(9),
+            Press::Lock,
+        ];
+        cycle(&mut door, &presses, count)
+    }
+
+    /// Does a line of one machine.
+    fn done_by_load(self, alloc: Global, count: u32, more: u32) -> Result<u64, Refusal> {
+        let Some(mut load) = started(alloc, Load, ID, &0)? else {
+            return Ok(0);
+        };
+        let core = &mut load;
+        match self {
+            Line::CastsWithTicks => post_tick_and_turn(core, Work::Keep, count),
+            Line::PostedFirst => post_all_and_turn(core, Work::Keep, count),
+            Line::Calls => call_each(core, Work::Answer, count),
+            Line::Postponed => postponed(core, count, more),
+            Line::Retried => retried(core, count),
+            Line::Expiries => {
+                post_and_turn(core, Work::SetMany(more), 0)?;
+                expire_each(core, Work::Set(more, 1), count)
+            }
+            Line::SetAndCancel => {
+                post_and_turn(core, Work::SetMany(more), 0)?;
+                cycle(core, &[Work::Set(more, 1_000), Work::Cancel(more)], count)
+            }
+            Line::Settings => post_and_turn(core, Work::SetMany(count), 0),
+            Line::Inserts => cycle(core, &[Work::InsertMany(count)], 1),
+            _ => post_and_turn_each(core, Work::Keep, count),
+        }
+    }
+}
+
+/// Postpones events, and changes the state until all are handled.
+fn postponed(core: &mut Core<Load>, count: u32, changes: u32) -> Result<u64, Refusal> {
+    let put_off = post_and_turn_each(core, Work::PutOffBefore(changes), count)?;
+    let retried = cycle(core, &[Work::Next], changes)?;
+    Ok(put_off.saturating_add(retried))
+}
+
+/// Postpones events, changes the state once, and counts those that finish in the order of their numbers.
+fn retried(core: &mut Core<Load>, count: u32) -> Result<u64, Refusal> {
+    post_and_turn_each(core, Work::PutOffBefore(1), count)?;
+    post_and_turn(core, Work::Next, 0)?;
+    finish_in_order(core, count)
+}
+
+/// Starts so many machines, and posts to each in turn.
+fn many_machines(alloc: Global, count: u32, many: u32) -> Result<u64, Refusal> {
+    let mut machines = Vec::new(alloc);
+    for slot in 0..many {
+        let id = MachineId {
+            slot: slot as usize,
+            serial: 1,
+        };
+        if let Some(core) = started(alloc, Load, id, &0)? {
+            if machines.push(core).is_err() {
+                return Err(Refusal::NoMemory);
+            }
+        }
+    }
+    let mut turns = 0u64;
+    for _ in 0..count {
+        turns = turns.saturating_add(turn_each(machines.as_mut_slice(), Work::Keep)?);
+    }
+    Ok(turns)
+}
+
+/// Starts and stops one machine after another.
+fn started_and_stopped(alloc: Global, count: u32) -> Result<u64, Refusal> {
+    let mut ended = 0u64;
+    for _ in 0..count {
+        if let Some(mut core) = started(alloc, Load, ID, &0)? {
+            ended = ended.saturating_add(end(&mut core)?);
+        }
+    }
+    Ok(ended)
+}
