@@ -178,10 +178,7 @@ where
 }
 
 /// Posts a cast to each machine and makes one turn of it.
-pub fn turn_each<M: Module>(
-    machines: &mut [Core<M>],
-    content: M::Content,
-) -> Result<u64, Refusal>
+pub fn turn_each<M: Module>(machines: &mut [Core<M>], content: M::Content) -> Result<u64, Refusal>
 where
     M::Content: Copy,
 {

@@ -10,9 +10,8 @@ mod load;
 use line::{LINES, Line};
 use st_core::Refusal;
 use std::alloc::Global;
-use std::env;
-use std::io;
 use std::process::ExitCode;
+use std::{env, io};
 
 /// The status of words that are not understood.
 const NOT_UNDERSTOOD: u8 = 2;

@@ -1,5 +1,5 @@
 -- What a step on the three chains of nodes makes of the queue as its callers see it.
-use Rattle.std.proofs.Common.{◌≡◌, ℕ, suc, is_some, IsSome, IsNone, OnSome, ◌+◌, ◌-◌, ◌<◌, List, [], ◌∷◌, ◌++◌, length, refl, sym, ap, subst, ◌∙◌, arith, Option, Some, None, slice_get, slice_index_or, insert, remove, Bool, false}
+use Rattle.std.proofs.Common.{◌≡◌, ℕ, suc, is_some, IsNone, OnSome, ◌+◌, ◌-◌, ◌<◌, List, [], ◌∷◌, ◌++◌, length, refl, sym, ap, subst, ◌∙◌, arith, Option, Some, None, slice_get, slice_index_or, insert, remove, Bool, false}
 use Rattle.std.proofs.lemmas.List.{length-append, append_assoc}
 use Rattle.std.proofs.lemmas.List.Edits.{insert-append_right, remove-append_right}
 use Rattle.std.proofs.lemmas.Bool.{true≢false}

@@ -3,11 +3,11 @@ ghost use Rattle.std.specs.Prelude.{◌≡◌, ◌^◌, ◌+◌, ◌<◌, ◌≤
 ghost use Rattle.st_queue.specs.Links.{Link, links_of, IsChained};
 ghost use Rattle.st_queue.specs.Ownership.{nodes_own, first_lent};
 
+use st_steps::Steps;
 use std::alloc::Allocator;
 use std::marker::{Brand, Model, Send};
 use std::mem::swap;
 use std::sync::ledger::{Blank, Ledger};
-use st_steps::Steps;
 use std_alloc::room::Vacant;
 
 /// `next` of the last node means nothing.
