@@ -15,7 +15,7 @@ use Rattle.st_core.specs.declared.turns_end.TurnsEnd.TheVariants as end
 use Rattle.st_core.specs.MachineState.{MachineState, Machine}
 use Rattle.st_core.specs.Callbacks.{Callbacks, called_of}
 use Rattle.st_core.specs.Choice.{is_ready_of, next_event_of}
-use Rattle.st_core.specs.Transition.{with_moment, concluded, transition_of, unless_refused, turn_running}
+use Rattle.st_core.specs.Transition.{with_moment, transition_of, unless_refused, turn_running}
 use Rattle.st_core.specs.Stop.{unless_ended}
 use Rattle.st_core.specs.Run.{Does, Runs, turn_takes_memory}
 use Rattle.st_core.specs.UntilIdle.{HasTurned, turns_at, answers_with}
