@@ -1,9 +1,14 @@
 -- Lists moved, one behind another, to a list in the making.
-use Rattle.std.proofs.Common.{◌≡◌, ℕ, ◌+◌, ◌≤◌, Bool, true, false, List, [], ◌∷◌, ◌++◌, ap, ◌∙◌, length, max, arith}
-use Rattle.std.specs.Prelude.{if◌then◌else◌}
+use Rattle.std.proofs.Common.{◌≡◌, ℕ, zero, suc, ◌+◌, ◌≤◌, ◌<◌, Bool, true, false, cond, Some, None, List, [], ◌∷◌, ◌++◌, refl, sym, ap, ◌∙◌, length, take, max, arith}
+use Rattle.std.specs.Prelude.{if◌then◌else◌, ◌||◌, not, filter, slice_get}
+use Rattle.std.proofs.Math.Bool.{or_comm}
+use Rattle.std.proofs.lemmas.List.Folds.{list_any_more}
+use Rattle.std.proofs.lemmas.Option.{slice_get_within, get_or_from_slice_get}
 use Rattle.st_events.specs.Building.{Building}
 use Rattle.st_events.specs.declared.setting.Setting.{Setting}
-use Rattle.st_actions.specs.Joined.{is_set_by, remaining_of, with_elements}
+use Rattle.st_events.specs.declared.timer.Timer.{Timer}
+use Rattle.st_events.specs.Timers.{same_timer}
+use Rattle.st_actions.specs.Joined.{is_setting_of, is_set_by, remaining_of, with_elements}
 use Rattle.st_actions.proofs.PlanLemmas.{goes_over}
 
 module _ {X : Type 0} where
@@ -30,12 +35,48 @@ module _ {C : Type 0} where
   no_more_remain [] later = omega arith
   no_more_remain (setting ∷ settings) later = one_or_none setting settings (remaining_of settings later) (is_set_by setting.timer later) (no_more_remain settings later)
 
-  -- a setting goes over, since no later one sets its timer
-  pub remaining_over : (setting : Setting C) (old new settings later whole : List (Setting C)) → is_set_by setting.timer later ≡ false
-      → new ≡ old ++ setting ∷ [] → old ++ remaining_of (setting ∷ settings) later ≡ whole → new ++ remaining_of settings later ≡ whole
-  remaining_over setting old new settings later whole none same all = goes_over old new (remaining_of settings later) whole setting same (rw none at all)
+  one_or_same : (setting : Setting C) (filtered remaining : List (Setting C)) (stays asked : Bool) → stays ≡ not asked → filtered ≡ remaining
+      → cond stays (setting ∷ filtered) filtered ≡ (if asked then remaining else setting ∷ remaining)
+  one_or_same setting filtered remaining stays true same_test same = rw (same_test, same) refl
+  one_or_same setting filtered remaining stays false same_test same = rw (same_test, same) refl
 
-  -- a later one does
-  pub remaining_replaced : (setting : Setting C) (old settings later whole : List (Setting C)) → is_set_by setting.timer later ≡ true
-      → old ++ remaining_of (setting ∷ settings) later ≡ whole → old ++ remaining_of settings later ≡ whole
-  remaining_replaced setting old settings later whole asked all = rw asked at all
+  -- the settings whose timers no later one sets are those that pass this test
+  remaining_pass : (stays : Setting C → Bool) (settings later : List (Setting C))
+      → ((setting : Setting C) → stays setting ≡ not (is_set_by setting.timer later)) → filter stays settings ≡ remaining_of settings later
+  remaining_pass stays [] later same = refl
+  remaining_pass stays (setting ∷ settings) later same =
+      one_or_same setting (filter stays settings) (remaining_of settings later) (stays setting) (is_set_by setting.timer later) (same setting) (remaining_pass stays settings later same)
+
+  -- what was moved is what remains
+  pub remaining_moved : (begun ended : Building (Setting C)) (stays : Setting C → Bool) (settings later : List (Setting C))
+      → ((setting : Setting C) → stays setting ≡ not (is_set_by setting.timer later)) → ended ≡ with_elements begun (filter stays settings)
+      → ended ≡ with_elements begun (remaining_of settings later)
+  remaining_moved begun ended stays settings later same moved = moved ∙ ap (with_elements begun) (remaining_pass stays settings later same)
+
+  -- the timer of one setting more is noted
+  pub one_more_noted : (timer : Timer) (settings : List (Setting C)) (index : ℕ) (setting : Setting C) (before after : Bool)
+      → Some setting ≡ slice_get settings index → before ≡ is_set_by timer (take index settings)
+      → after ≡ (same_timer timer setting.timer || before) → after ≡ is_set_by timer (take (index + 1) settings)
+  one_more_noted timer settings index setting before after found noted same =
+      let within = slice_get_within settings index setting (sym found) in
+      let read = get_or_from_slice_get settings index setting setting (sym found) in
+      let more = list_any_more (λ (one : Setting C). is_setting_of timer one) settings index setting within in
+      same ∙ (ap (λ b. same_timer timer setting.timer || b) noted
+      ∙ (or_comm (same_timer timer setting.timer) (is_set_by timer (take index settings)) ∙ sym (rw read at more)))
+
+module _ {X : Type 0} where
+  -- there is an element at each index
+  pub is_there : (elements : List X) (index : ℕ) → index < length elements → None ≡ slice_get elements index → ⊥
+  is_there [] index within none = omega (arith, within)
+  is_there (element ∷ elements) zero within none = cc
+  is_there (element ∷ elements) (suc index) within none = is_there elements index (omega (arith, within)) none
+
+  -- an element goes over, since it passes the test
+  pub passing_over : (stays : X → Bool) (element : X) (old new rest whole : List X) → stays element ≡ true
+      → new ≡ old ++ element ∷ [] → old ++ filter stays (element ∷ rest) ≡ whole → new ++ filter stays rest ≡ whole
+  passing_over stays element old new rest whole passes same all = goes_over old new (filter stays rest) whole element same (rw passes at all)
+
+  -- it does not pass
+  pub passed_by : (stays : X → Bool) (element : X) (old rest whole : List X) → stays element ≡ false
+      → old ++ filter stays (element ∷ rest) ≡ whole → old ++ filter stays rest ≡ whole
+  passed_by stays element old rest whole fails all = rw fails at all

@@ -1,12 +1,9 @@
 -- One action after another.
-use Rattle.std.proofs.Common.{◌≡◌, ℕ, ◌+◌, ◌≤◌, ◌<◌, Bool, true, false, Some, None, List, [], ◌∷◌, ◌++◌, refl, sym, ap, ◌∙◌, length, take, get_or, reverse, length-append, append-nil, append_assoc, ◌⊎◌, inl, inr, arith}
-use Rattle.std.specs.Prelude.{slice_get, ◌||◌, if◌then◌else◌}
-use Rattle.std.specs.List.{list_any}
-use Rattle.std.specs.Option.{option_to_list}
+use Rattle.std.proofs.Common.{◌≡◌, ◌+◌, Bool, true, false, Option, Some, None, unwrap_or, List, [], ◌∷◌, ◌++◌, refl, sym, ap, ◌∙◌, length, reverse, length-append, append_assoc}
+use Rattle.std.specs.Prelude.{◌||◌, if◌then◌else◌}
+use Rattle.std.specs.Option.{option_or}
 use Rattle.std.proofs.lemmas.List.{reverse-append}
-use Rattle.std.proofs.lemmas.List.Folds.{list_any-append, list_any_more, list_any_at}
-use Rattle.std.proofs.lemmas.Option.{slice_get_cases}
-use Rattle.std.proofs.lemmas.List.Sorted.{list_any-IsPermutation, IsPermutation-reverse}
+use Rattle.std.proofs.lemmas.List.Folds.{list_any-append}
 use Rattle.st_events.specs.declared.tag.Tag.{Tag}
 use Rattle.st_events.specs.declared.action.Action.{Action}
 use Rattle.st_events.specs.declared.action.Action.TheVariants.{Reply, Postpone, NextEvent, Set, Hibernate}
@@ -20,7 +17,7 @@ use Rattle.st_events.specs.Timers.{same_timer}
 use Rattle.st_events.proofs.ComparedLemmas.{timers_same}
 use Rattle.st_actions.specs.declared.planned.Planned.{Planned}
 use Rattle.st_actions.specs.Plan.{replies_of, inserts_of, postpone_or, postpone_of, is_set, sets, settings_of, plan_of}
-use Rattle.st_actions.specs.Joined.{as_action, as_actions, enter_plan_of, is_set_by, remaining_of, joined_of}
+use Rattle.st_actions.specs.Joined.{as_actions, enter_plan_of, is_set_by, remaining_of, joined_of}
 
 -- what was last is the first in the other order
 pub last_is_first : {X : Type 0} (old new : List X) (x : X) → old ≡ new ++ x ∷ [] → reverse old ≡ x ∷ reverse new
@@ -33,63 +30,31 @@ one_fewer old new x same = ap length same ∙ length-append new (x ∷ [])
 pub goes_over : {X : Type 0} (old new rest all : List X) (x : X) → new ≡ old ++ x ∷ [] → old ++ x ∷ rest ≡ all → new ++ rest ≡ all
 goes_over old new rest all x same whole = ap (λ t. t ++ rest) same ∙ (append_assoc old (x ∷ []) rest ∙ whole)
 
--- nothing is left
-pub all_taken : {X : Type 0} (taken all : List X) → taken ++ [] ≡ all → taken ≡ all
-all_taken taken all whole = sym (append-nil taken) ∙ whole
+-- what was last is taken before what was taken so far
+pub taken_before : {X : Type 0} (old new taken all : List X) (x : X) → old ≡ new ++ x ∷ [] → old ++ taken ≡ all → new ++ x ∷ taken ≡ all
+taken_before old new taken all x same whole =
+    sym (append_assoc new (x ∷ []) taken) ∙ (sym (ap (λ t. t ++ taken) same) ∙ whole)
 
--- ---- timers
-true_not_false : true ≡ false → ⊥
-true_not_false h = cc
+-- one more at the end is one more at the front in the other order
+pub one_before : {X : Type 0} (old new wanted : List X) (x : X) → new ≡ old ++ x ∷ [] → reverse old ≡ wanted → reverse new ≡ x ∷ wanted
+one_before old new wanted x same kept = last_is_first new old x same ∙ ap (λ t. x ∷ t) kept
 
-no_or : (first : Bool) → (first || false) ≡ false → first ≡ false
-no_or true h = h
-no_or false h = refl
-
-or_false : (first : Bool) → (first || false) ≡ true → first ≡ true
-or_false true h = refl
-or_false false h = h
-
--- ---- an element that passes a test
-module _ {X : Type 0} (passes : X → Bool) where
-  -- one element more was looked at
-  pub none_of_more : (elements : List X) (index : ℕ) → index < length elements → list_any passes (take index elements) ≡ false
-      → list_any passes (option_to_list (slice_get elements index)) ≡ false
-      → list_any passes (take (index + 1) elements) ≡ false
-  none_of_more elements index within none one = more (slice_get_cases elements index).1 where
-    more : ((element : X) × (index < length elements) × (slice_get elements index ≡ Some element) × (get_or elements index element ≡ element))
-        ⊎ ((length elements ≤ index) × (slice_get elements index ≡ None))
-        → list_any passes (take (index + 1) elements) ≡ false
-    more (inl (element, there, found, read)) =
-        list_any_more passes elements index element there ∙ rw (none, read) (no_or (passes element) (rw found at one))
-    more (inr (past, nothing)) = absurd (omega (arith, within, past))
-
-  -- one of them passes it
-  pub one_of_them : (elements : List X) (index : ℕ) → list_any passes (option_to_list (slice_get elements index)) ≡ true
-      → list_any passes elements ≡ true
-  one_of_them elements index one = there (slice_get_cases elements index).1 where
-    there : ((element : X) × (index < length elements) × (slice_get elements index ≡ Some element) × (get_or elements index element ≡ element))
-        ⊎ ((length elements ≤ index) × (slice_get elements index ≡ None))
-        → list_any passes elements ≡ true
-    there (inl (element, within, found, read)) =
-        list_any_at passes elements index element within (rw read (or_false (passes element) (rw found at one)))
-    there (inr (past, nothing)) = absurd (true_not_false (sym (rw nothing at one)))
-
--- the order of the actions does not matter
-pub sets-reverse : {C : Type 0} (timer : Timer) (actions : List (Action C)) → sets timer (reverse actions) ≡ sets timer actions
-sets-reverse {C} timer actions = sym (list_any-IsPermutation (λ (action : Action C). is_set timer action) actions (reverse actions) (IsPermutation-reverse actions))
+-- the one that was taken first decides
+pub first_decides : (postpone : Option Bool) (last given : Bool) → unwrap_or postpone last ≡ unwrap_or (option_or postpone (Some last)) given
+first_decides None last given = refl
+first_decides (Some decided) last given = refl
 
 module _ {C : Type 0} (timer : Timer) (time : Time) (content : C) where
-  -- a setting goes over, since no later action sets its timer
-  pub setting_over : (old new : List (Setting C)) (actions : List (Action C)) (all : List (Setting C)) → sets timer actions ≡ false
-      → new ≡ old ++ record { timer = timer; time = time; content = content } ∷ []
-      → old ++ settings_of (Set timer time content ∷ actions) ≡ all → new ++ settings_of actions ≡ all
-  setting_over old new actions all none same whole =
-      goes_over old new (settings_of actions) all (record { timer = timer; time = time; content = content }) same (rw none at whole)
+  -- no later action sets its timer
+  pub setting_stays : (settings : List (Setting C)) (later : List (Action C)) → sets timer later ≡ false
+      → settings ≡ record { timer = timer; time = time; content = content } ∷ settings_of later
+      → settings ≡ settings_of (Set timer time content ∷ later)
+  setting_stays settings later none same = rw none same
 
   -- a later action sets its timer
-  pub setting_later : (old : List (Setting C)) (actions : List (Action C)) (all : List (Setting C)) → sets timer actions ≡ true
-      → old ++ settings_of (Set timer time content ∷ actions) ≡ all → old ++ settings_of actions ≡ all
-  setting_later old actions all later whole = rw later at whole
+  pub setting_goes : (settings : List (Setting C)) (later : List (Action C)) → sets timer later ≡ true → settings ≡ settings_of later
+      → settings ≡ settings_of (Set timer time content ∷ later)
+  setting_goes settings later one same = rw one same
 
 abbrev planned_as : {C : Type 0} → List (Tag × C) → Bool → List (Insert C) → List (Setting C) → Planned C
 planned_as replies postpone inserts settings =
@@ -123,18 +88,6 @@ module _ {C : Type 0} where
   enter_planned_whole actions replies inserts settings same_replies none same_settings =
       planned_whole (as_actions actions) replies false inserts settings same_replies (sym (enter_postpones_nothing false actions))
       (none ∙ sym (enter_inserts_nothing actions)) same_settings
-
-  -- one of them sets a timer where one of the actions that they are does
-  sets-as_actions : (timer : Timer) (actions : List (EnterAction C))
-      → sets timer (as_actions actions) ≡ list_any (λ (action : EnterAction C). is_set timer (as_action action)) actions
-  sets-as_actions timer [] = refl
-  sets-as_actions timer (action ∷ actions) = ap (λ b. is_set timer (as_action action) || b) (sets-as_actions timer actions)
-
-  -- the order does not matter
-  pub enter_sets-reverse : (timer : Timer) (actions : List (EnterAction C))
-      → sets timer (as_actions (reverse actions)) ≡ list_any (λ (action : EnterAction C). is_set timer (as_action action)) actions
-  enter_sets-reverse timer actions = sets-as_actions timer (reverse actions)
-      ∙ sym (list_any-IsPermutation (λ (action : EnterAction C). is_set timer (as_action action)) actions (reverse actions) (IsPermutation-reverse actions))
 
 -- ---- two lists of actions, one after the other
 module _ {C : Type 0} where

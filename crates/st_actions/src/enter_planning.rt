@@ -4,13 +4,14 @@ ghost use Rattle.st_events.specs.Rows.{EnterActionsFit, RepliesFit, InsertsFit, 
 ghost use Rattle.st_actions.specs.Joined.{enter_plan_of};
 
 use crate::Planned;
-use crate::may_set::sets;
+use crate::in_order::in_order;
+use crate::noted_timers::NotedTimers;
 use st_events::{EnterAction, EnterActions, Inserts, Setting, SmallListBuilder};
 use std::alloc::{AllocFailed, Global};
 
 /// Takes an enter call's list of actions apart, into what is asked for: nothing is postponed or inserted.
 /// Of a list of at most four it takes no memory. Where memory is wanted and there is none, the list comes
-/// back.
+/// back. Each action is looked at once, and the timers that later ones set are noted.
 ///
 /// Manual: `enter_action()`: `reply_action()`, `timeout_action()`, `hibernate()`.
 pub fn plan_enter<C: Drop>(
@@ -27,18 +28,21 @@ pub fn plan_enter<C: Drop>(
     ensures value_returned { IfErr result (λ failed. failed.value ≡ actions) }
 {
     let count = actions.len();
+    let Ok(mut noted) = NotedTimers::with_room(alloc, count) else {
+        return Err(AllocFailed { value: actions });
+    };
     let Ok(mut replies) = SmallListBuilder::with_reserved(alloc, count) else {
         return Err(AllocFailed { value: actions });
     };
     let Ok(mut settings) = SmallListBuilder::with_reserved(alloc, count) else {
         return Err(AllocFailed { value: actions });
     };
-    actions.reverse();
+    // The last action comes first, for of each timer's settings the last decides.
     while let Some(action) = actions.pop() {
         match action {
             EnterAction::Reply(tag, content) => replies.push((tag, content)),
             EnterAction::Set(timer, time, content) => {
-                if !sets(&actions, timer) {
+                if noted.note(timer) {
                     settings.push(Setting {
                         timer,
                         time,
@@ -49,9 +53,9 @@ pub fn plan_enter<C: Drop>(
             EnterAction::Hibernate => {}
         }
     }
-    let replies = replies.finish();
+    let replies = in_order(replies);
     let inserts = Inserts::new(alloc);
-    let settings = settings.finish();
+    let settings = in_order(settings);
     Ok(Planned {
         replies,
         postpone: false,

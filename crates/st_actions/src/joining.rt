@@ -1,15 +1,17 @@
 //! What two lists of actions ask for, put together.
-ghost use Rattle.std.specs.Prelude.{◌≡◌, ◌+◌, ◌≤◌, List, [], ◌++◌, length, max, IsOk, IfOk, IfErr};
+ghost use Rattle.std.specs.Prelude.{◌≡◌, ◌+◌, ◌≤◌, List, [], ◌++◌, length, max, filter, not, IsOk, IfOk, IfErr};
 ghost use Rattle.std.specs.Mem.{FitsInMemory};
 ghost use Rattle.st_events.specs.Rows.{RepliesFit, InsertsFit, SettingsFit};
 ghost use Rattle.st_events.specs.contracts.small_list.SmallList.{the_row as list_row};
 ghost use Rattle.st_events.specs.declared.action.Action.{Action};
 ghost use Rattle.st_events.specs.declared.enter_action.EnterAction.{EnterAction};
-ghost use Rattle.st_actions.specs.Joined.{remaining_of, joined_of, enter_plan_of, as_actions, AreShort, with_elements};
+ghost use Rattle.st_events.specs.declared.timer.Timer.{Timer};
+ghost use Rattle.st_actions.specs.Joined.{is_set_by, joined_of, enter_plan_of, as_actions, AreShort, with_elements};
+ghost use Rattle.st_actions.specs.Noted.{is_noted};
 ghost use Rattle.st_actions.specs.Plan.{plan_of};
 
 use crate::Planned;
-use crate::may_set::sets;
+use crate::noted_timers::NotedTimers;
 use st_events::{Setting, Settings, SmallList, SmallListBuilder};
 use std::alloc::{AllocError, AllocFailed, Global};
 
@@ -17,7 +19,7 @@ use std::alloc::{AllocError, AllocFailed, Global};
 /// enter call that follows it. The first alone says whether the event is postponed. So what comes of the plans
 /// of two lists is the plan of both as one list. Where both together
 /// have at most four of each kind it takes no memory. Where memory is wanted and there is none, both
-/// come back.
+/// come back. Each setting is looked at once, and the timers of the second list's are noted.
 ///
 /// Manual: `state_enter()`; `action()`, on the last one that decides.
 pub fn join<C: Drop>(
@@ -50,12 +52,17 @@ pub fn join<C: Drop>(
             value: (first, second),
         });
     };
+    let Ok(later) = timers_of(alloc, &second.requests) else {
+        return Err(AllocFailed {
+            value: (first, second),
+        });
+    };
     let postpone = first.postpone;
     move_all(first.replies, &mut replies);
     move_all(second.replies, &mut replies);
     move_all(first.inserts, &mut inserts);
     move_all(second.inserts, &mut inserts);
-    move_remaining(first.requests, &second.requests, &mut settings);
+    move_remaining(first.requests, &later, &mut settings);
     move_all(second.requests, &mut settings);
     let replies = replies.finish();
     let inserts = inserts.finish();
@@ -97,19 +104,35 @@ fn move_all<T: Drop>(mut elements: SmallList<T>, onto: &mut SmallListBuilder<T>)
     }
 }
 
+/// The timers that settings set. For up to four settings this takes no memory.
+fn timers_of<C>(alloc: Global, settings: &Settings<C>) -> Result<NotedTimers, AllocError>
+    ensures noted { IfOk result (λ noted. (timer : Timer) → is_noted timer noted ≡ is_set_by timer settings.now) }
+
+    ensures inline { length settings.now ≤ 4 → IsOk result }
+{
+    let count = settings.len();
+    let mut noted = NotedTimers::with_room(alloc, count)?;
+    for index in 0..count {
+        if let Some(setting) = settings.get(index) {
+            noted.note(setting.timer);
+        }
+    }
+    Ok(noted)
+}
+
 /// Moves the settings whose timers no later one sets to the end of a list in the making, in their order.
 fn move_remaining<C: Drop>(
     mut settings: Settings<C>,
-    later: &Settings<C>,
+    later: &NotedTimers,
     onto: &mut SmallListBuilder<Setting<C>>,
 )
     requires settings_fit { SettingsFit C.row }
     requires reserved { length settings ≤ onto.old.reserved }
-    ensures moved { onto.new ≡ with_elements onto.old (remaining_of settings later.now) }
+    ensures moved { onto.new ≡ with_elements onto.old (filter (λ setting. not (is_noted setting.timer later.now)) settings) }
 {
     settings.reverse();
     while let Some(setting) = settings.pop() {
-        if !sets(later, setting.timer) {
+        if !later.has(setting.timer) {
             onto.push(setting);
         }
     }

@@ -2,8 +2,9 @@
 #![tactic(auto)]
 
 mod enter_planning;
+mod in_order;
 mod joining;
-mod may_set;
+mod noted_timers;
 mod planned;
 mod planning;
 #[cfg(test)]

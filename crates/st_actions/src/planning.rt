@@ -4,12 +4,14 @@ ghost use Rattle.st_events.specs.Rows.{ActionsFit, RepliesFit, InsertsFit, Setti
 ghost use Rattle.st_actions.specs.Plan.{plan_of};
 
 use crate::Planned;
-use crate::may_set::sets;
+use crate::in_order::in_order;
+use crate::noted_timers::NotedTimers;
 use st_events::{Action, Actions, Insert, Setting, SmallListBuilder};
 use std::alloc::{AllocFailed, Global};
 
 /// Takes a list of actions apart, into what is asked for. Of a list of at most four it takes no memory.
-/// Where memory is wanted and there is none, the list comes back.
+/// Where memory is wanted and there is none, the list comes back. Each action is looked at once, and the timers
+/// that later ones set are noted.
 ///
 /// Manual: `action()`: `reply_action()`, `postpone()`, `next_event`, `timeout_action()`,
 /// `hibernate()`.
@@ -27,6 +29,9 @@ pub fn plan<C: Drop>(
     ensures value_returned { IfErr result (λ failed. failed.value ≡ actions) }
 {
     let count = actions.len();
+    let Ok(mut noted) = NotedTimers::with_room(alloc, count) else {
+        return Err(AllocFailed { value: actions });
+    };
     let Ok(mut replies) = SmallListBuilder::with_reserved(alloc, count) else {
         return Err(AllocFailed { value: actions });
     };
@@ -36,15 +41,15 @@ pub fn plan<C: Drop>(
     let Ok(mut settings) = SmallListBuilder::with_reserved(alloc, count) else {
         return Err(AllocFailed { value: actions });
     };
-    let mut postpone = false;
-    actions.reverse();
+    // The last action comes first: of the postpones the last decides, and of each timer's settings.
+    let mut postpone = None;
     while let Some(action) = actions.pop() {
         match action {
             Action::Reply(tag, content) => replies.push((tag, content)),
-            Action::Postpone(last) => postpone = last,
+            Action::Postpone(last) => postpone = postpone.or(Some(last)),
             Action::NextEvent(kind, content) => inserts.push(Insert { kind, content }),
             Action::Set(timer, time, content) => {
-                if !sets(&actions, timer) {
+                if noted.note(timer) {
                     settings.push(Setting {
                         timer,
                         time,
@@ -55,12 +60,12 @@ pub fn plan<C: Drop>(
             Action::Hibernate => {}
         }
     }
-    let replies = replies.finish();
-    let inserts = inserts.finish();
-    let settings = settings.finish();
+    let replies = in_order(replies);
+    let inserts = in_order(inserts);
+    let settings = in_order(settings);
     Ok(Planned {
         replies,
-        postpone,
+        postpone: postpone.unwrap_or(false),
         inserts,
         requests: settings,
     })

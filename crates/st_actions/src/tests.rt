@@ -15,11 +15,29 @@ fn tag(request: u64) -> Tag {
     }
 }
 
-/// The action that a letter names: `r` and `s` reply 10 and 20 to the requests 1 and 2, `p` and `k`
+/// Forty letters that set thirteen timers.
+const FORTY: [char; 40] = [
+    'A', 'B', 'C', 'D', 'E', 'F', 'X', 'G', 'A', 'B', 'H', 'C', 'I', 'E', 'D', 'J', 'A', 'X', 'B',
+    'B', 'F', 'K', 'C', 'A', 'H', 'L', 'G', 'E', 'A', 'I', 'C', 'X', 'J', 'D', 'B', 'A', 'X', 'L',
+    'A', 'E',
+];
+
+/// The timer that a capital letter names: `E` is the event's, `X` the state's, and each other has its code for a
+/// name.
+fn timer(letter: char) -> Timer {
+    match letter {
+        'E' => Timer::Event,
+        'X' => Timer::State,
+        _ => Timer::Named(letter as u32),
+    }
+}
+
+/// The action that a letter at a place of a list names: `r` and `s` reply 10 and 20 to the requests 1 and 2, `p` and `k`
 /// say that the event is postponed and that it is not, `i` and `t` insert 30 and 40, `1` and `2` set the
 /// named timers 1 and 2 for as many milliseconds, `9` sets the timer 1 for 9, `0` stops it, `e` and `x`
-/// set the event and the state time-out, and every other hibernates.
-fn action(letter: char) -> Action<u64> {
+/// set the event and the state time-out, a capital letter sets its timer for 4, with its place as the content, and every
+/// other hibernates.
+fn action(place: usize, letter: char) -> Action<u64> {
     match letter {
         'r' => Action::Reply(tag(1), 10),
         's' => Action::Reply(tag(2), 20),
@@ -33,13 +51,14 @@ fn action(letter: char) -> Action<u64> {
         '0' => Action::Set(Timer::Named(1), Time::Infinity, 80),
         'e' => Action::Set(Timer::Event, Time::After(0), 90),
         'x' => Action::Set(Timer::State, Time::After(3), 100),
+        'A'..='Z' => Action::Set(timer(letter), Time::After(4), place as u64),
         _ => Action::Hibernate,
     }
 }
 
-/// Says whether an action is the one that a letter names.
-fn is_action(found: &Action<u64>, letter: char) -> bool {
-    match (found, action(letter)) {
+/// Says whether an action is the one that a letter at a place names.
+fn is_action(found: &Action<u64>, place: usize, letter: char) -> bool {
+    match (found, action(place, letter)) {
         (Action::Reply(tag, content), Action::Reply(other, wanted)) => {
             *tag == other && *content == wanted
         }
@@ -58,8 +77,8 @@ fn is_action(found: &Action<u64>, letter: char) -> bool {
 /// A list of the actions that letters name. Where memory was refused, it is asked for again.
 fn list(rt: &Host<impl Abort>, alloc: Global, letters: &[char]) -> Actions<u64> {
     let mut actions = Actions::new(alloc);
-    for letter in letters {
-        if let Err(failed) = actions.push(action(*letter)) {
+    for (place, letter) in letters.iter().enumerate() {
+        if let Err(failed) = actions.push(action(place, *letter)) {
             rt.retry();
             assert!(rt;
                 actions.push(failed.value).is_ok(),
@@ -75,7 +94,7 @@ fn has(rt: &impl Abort, actions: &Actions<u64>, letters: &[char]) {
     assert_eq!(rt; actions.len(), letters.len());
     for (index, letter) in letters.iter().enumerate() {
         let found = actions.get(index).expect(rt, "there are so many");
-        assert!(rt; is_action(found, *letter), "at {index}");
+        assert!(rt; is_action(found, index, *letter), "at {index}");
     }
 }
 
@@ -95,18 +114,18 @@ fn planned(rt: &Host<impl Abort>, alloc: Global, letters: &[char]) -> Planned<u6
     }
 }
 
-/// The enter call's action that a letter names, as it names an action. Those that name none hibernate.
-fn enter_action(letter: char) -> EnterAction<u64> {
-    match action(letter) {
+/// The enter call's action that a letter at a place names, as it names an action. Those that name none hibernate.
+fn enter_action(place: usize, letter: char) -> EnterAction<u64> {
+    match action(place, letter) {
         Action::Reply(tag, content) => EnterAction::Reply(tag, content),
         Action::Set(timer, time, content) => EnterAction::Set(timer, time, content),
         Action::Postpone(_) | Action::NextEvent(_, _) | Action::Hibernate => EnterAction::Hibernate,
     }
 }
 
-/// Says whether an enter call's action is the one that a letter names.
-fn is_enter_action(found: &EnterAction<u64>, letter: char) -> bool {
-    match (found, enter_action(letter)) {
+/// Says whether an enter call's action is the one that a letter at a place names.
+fn is_enter_action(found: &EnterAction<u64>, place: usize, letter: char) -> bool {
+    match (found, enter_action(place, letter)) {
         (EnterAction::Reply(tag, content), EnterAction::Reply(other, wanted)) => {
             *tag == other && *content == wanted
         }
@@ -121,8 +140,8 @@ fn is_enter_action(found: &EnterAction<u64>, letter: char) -> bool {
 /// A list of the enter call's actions that letters name, as `list` makes one.
 fn enter_list(rt: &Host<impl Abort>, alloc: Global, letters: &[char]) -> EnterActions<u64> {
     let mut actions = EnterActions::new(alloc);
-    for letter in letters {
-        if let Err(failed) = actions.push(enter_action(*letter)) {
+    for (place, letter) in letters.iter().enumerate() {
+        if let Err(failed) = actions.push(enter_action(place, *letter)) {
             rt.retry();
             assert!(rt;
                 actions.push(failed.value).is_ok(),
@@ -138,7 +157,7 @@ fn enter_has(rt: &impl Abort, actions: &EnterActions<u64>, letters: &[char]) {
     assert_eq!(rt; actions.len(), letters.len());
     for (index, letter) in letters.iter().enumerate() {
         let found = actions.get(index).expect(rt, "there are so many");
-        assert!(rt; is_enter_action(found, *letter), "at {index}");
+        assert!(rt; is_enter_action(found, index, *letter), "at {index}");
     }
 }
 
@@ -259,6 +278,20 @@ fn settings(rt: &impl Abort, planned: &Planned<u64>, wanted: &[(Timer, Time, u64
         let setting = planned.requests.get(index).expect(rt, "there are so many");
         assert!(rt;
             setting.timer == *timer && setting.time == *time && setting.content == *content,
+            "at {index}"
+        );
+    }
+}
+
+/// Looks that the settings of these capital letters at these places are asked for, and no others.
+fn places(rt: &impl Abort, planned: &Planned<u64>, wanted: &[(char, u64)]) {
+    assert_eq!(rt; planned.requests.len(), wanted.len());
+    for (index, (letter, place)) in wanted.iter().enumerate() {
+        let setting = planned.requests.get(index).expect(rt, "there are so many");
+        assert!(rt;
+            setting.timer == timer(*letter)
+                && setting.time == Time::After(4)
+                && setting.content == *place,
             "at {index}"
         );
     }
@@ -492,6 +525,68 @@ fn a_refused_join_changes_nothing(rt: HostRuntime) {
             (Timer::Named(2), Time::After(2), 60),
             (Timer::State, Time::After(3), 100),
             (Timer::Named(1), Time::After(9), 70),
+        ],
+    );
+    rt.end();
+}
+
+#[test]
+fn the_last_setting_decides_also_in_long_lists(rt: HostRuntime) {
+    let rt = Host::new(rt);
+    let lasts = [
+        ('F', 20),
+        ('K', 21),
+        ('H', 24),
+        ('G', 26),
+        ('I', 29),
+        ('C', 30),
+        ('J', 32),
+        ('D', 33),
+        ('B', 34),
+        ('X', 36),
+        ('L', 37),
+        ('A', 38),
+        ('E', 39),
+    ];
+    places(&rt, &planned(&rt, rt.alloc(), &FORTY), &lasts);
+    places(&rt, &entered(&rt, rt.alloc(), &FORTY), &lasts);
+    rt.end();
+}
+
+#[test]
+fn the_last_setting_decides_also_in_long_plans(rt: HostRuntime) {
+    let rt = Host::new(rt);
+    let twelve = ['M', 'B', 'N', 'A', 'O', 'X', 'A', 'P', 'B', 'Q', 'M', 'N'];
+    let copies = event_and_enter(&rt, rt.alloc(), &FORTY, &twelve);
+    let both = joined(
+        &rt,
+        rt.alloc(),
+        event_and_enter(&rt, rt.alloc(), &FORTY, &twelve),
+        &copies,
+    );
+    // Those of the forty whose timers none of the twelve sets, and then the last ones of the twelve.
+    places(
+        &rt,
+        &both,
+        &[
+            ('F', 20),
+            ('K', 21),
+            ('H', 24),
+            ('G', 26),
+            ('I', 29),
+            ('C', 30),
+            ('J', 32),
+            ('D', 33),
+            ('L', 37),
+            ('E', 39),
+            ('O', 4),
+            ('X', 5),
+            ('A', 6),
+            ('P', 7),
+            ('B', 8),
+            ('Q', 9),
+            ('M', 10),
+            ('N', 11),
         ],
     );
     rt.end();

@@ -16,6 +16,7 @@ ghost use Rattle.st_agenda.specs.Agenda.{Agrees, IsAlive, items_in, next_in, zer
 use crate::numbers::numbers_taken;
 use crate::pending::Pending;
 use crate::slot::Slot;
+use crate::uncounted_timeouts::{count_due, next_expiry};
 use st_events::{Event, Inserts, Kind, NUMBER_LIMIT, PlainList, Setting, Settings, Time, Timer};
 use st_timeouts::{Due, Timeouts};
 use std::alloc::{AllocError, AllocFailed, Global};
@@ -156,7 +157,7 @@ impl<C> Agenda<C> {
     pub fn count_due(&self, now: u64) -> usize
         ensures { result ≡ length (expiring_by now self.now.schedule.pending self.now.schedule.running) }
     {
-        self.timeouts.count_due(now)
+        count_due(&self.timeouts, now)
     }
 
     /// The moment, in milliseconds, at which the next time-out expires that has not expired yet. One that is
@@ -281,7 +282,7 @@ impl<C: Drop> Agenda<C> {
         ensures rest { expiring_by now self.new.schedule.pending self.new.schedule.running ≡ all_but_first (expiring_by now self.old.schedule.pending self.old.schedule.running) }
         ensures staged { self.new.staged + 1 ≡ self.old.staged }
     {
-        let Some((timer, number)) = self.timeouts.next_expiry(now) else {
+        let Some((timer, number)) = next_expiry(&mut self.timeouts, now) else {
             unreachable!()
         };
         self.pending.push_expiry(timer, number);

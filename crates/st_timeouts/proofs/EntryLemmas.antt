@@ -12,7 +12,7 @@ use Rattle.st_events.proofs.ComparedLemmas.{same_timer_self, timers_same, same_t
 use Rattle.st_timeouts.specs.declared.entry.Entry.{Entry}
 use Rattle.st_timeouts.specs.Running.{Running, is_zero, is_before, running_of, first_zero_of, OneEach, put_in_order, in_order}
 use Rattle.st_timeouts.specs.Timeouts.{Listed, Timeouts, all_of, name_of, shown, without_listed, content_of, runs, expiring, first_of, with_expired, with_first_expired, live}
-use Rattle.st_timeouts.specs.Entries.{running, listed_of, is_for, is_due, waits, waiting, is_before_any, IsSound}
+use Rattle.st_timeouts.specs.Entries.{running, listed_of, is_for}
 use Rattle.st_timeouts.proofs.OrderLemmas.{not_first, all_of_with_expired, one_each_set}
 
 module _ {C : Type 0} where
@@ -78,7 +78,7 @@ module _ {C : Type 0} where
       rw (← parts.1) (removed timer entries each)
 
   -- ---- the expiry of an entry is handed out
-  expired_none : (timer : Timer) (listed : List (Listed C)) → running_of timer (all_of listed) ≡ None → with_expired timer listed ≡ listed
+  pub expired_none : (timer : Timer) (listed : List (Listed C)) → running_of timer (all_of listed) ≡ None → with_expired timer listed ≡ listed
   expired_none timer [] h = refl
   expired_none timer (one ∷ listed) h =
       let parts = not_first timer one.running (all_of listed) h in
@@ -115,24 +115,11 @@ module _ {C : Type 0} where
   one_each_expired entries place entry at each within =
       rw (expired_at entries place entry at each within, all_of_with_expired entry.timer (map listed_of entries)) each
 
-  pub first_expired : (expiring : List (Running C)) (old : Timeouts C) (first : Running C) → first_of expiring ≡ Some first
-      → with_first_expired expiring old ≡ record old { listed = with_expired first.timer old.listed }
-  first_expired [] old first h = cc
-  first_expired (one ∷ others) old first h = let same : one ≡ first = cc in rw same refl
-
   -- ---- a timer's entry is set anew
   pub one_each_pushed : (entries fewer : List (Entry C)) (entry : Entry C) → OneEach (all_of (map listed_of entries))
       → map listed_of fewer ≡ without_listed entry.timer (map listed_of entries) → OneEach (all_of (map listed_of (fewer ++ entry ∷ [])))
   one_each_pushed entries fewer entry each fewer_is =
       rw (map-append listed_of fewer (entry ∷ []), fewer_is) (one_each_set entry.timer (listed_of entry) (map listed_of entries) refl each)
-
-  pub sound_pushed : (entries fewer : List (Entry C)) (entry : Entry C) (ready left old_capacity capacity : ℕ) → IsSound entries ready old_capacity
-      → map listed_of fewer ≡ without_listed entry.timer (map listed_of entries) → capacity ≡ old_capacity
-      → length fewer + 1 + left ≤ length entries + ready → IsSound (fewer ++ entry ∷ []) left capacity
-  sound_pushed entries fewer entry ready left old_capacity capacity sound fewer_is same within = record {
-    one_each = one_each_pushed entries fewer entry sound.one_each fewer_is;
-    fits = omega (arith, sound.fits, length-append fewer (entry ∷ []));
-  }
 
   room_if : (found : Option (Running C)) (reserved : ℕ) → is_some (option_map (λ (one : Running C). one.content) found) ≡ false
       → (is_some found ≡ true) ⊎ (0 < reserved) → 0 < reserved
@@ -145,79 +132,6 @@ module _ {C : Type 0} where
       → (runs timer listed ≡ true) ⊎ (0 < reserved) → 0 < reserved
   room_left timer listed reserved h k = room_if (running_of timer (all_of listed)) reserved h k
 
-  -- ---- which is due first
-  first_of_put_by : (b : Bool) (one other : Running C) (others put : List (Running C))
-      → first_of (if b then one ∷ other ∷ others else other ∷ put) ≡ (if b then Some one else Some other)
-  first_of_put_by true one other others put = refl
-  first_of_put_by false one other others put = refl
-
-  first_of_put : (one : Running C) (others : List (Running C))
-      → first_of (put_in_order one others) ≡ (if is_before_any one (first_of others) then Some one else first_of others)
-  first_of_put one [] = refl
-  first_of_put one (other ∷ others) = first_of_put_by (is_before one other) one other others (put_in_order one others)
-
-  first_waiting_by : (w b : Bool) (entry : Entry C) (rest : List (Listed C)) → is_before_any (running entry) (first_of (in_order (all_of rest))) ≡ b
-      → first_of (in_order (all_of (if w then listed_of entry ∷ rest else rest)))
-      ≡ (if w && b then Some (running entry) else first_of (in_order (all_of rest)))
-  first_waiting_by true true entry rest e = first_of_put (running entry) (in_order (all_of rest)) ∙ (rw e refl)
-  first_waiting_by true false entry rest e = first_of_put (running entry) (in_order (all_of rest)) ∙ (rw e refl)
-  first_waiting_by false b entry rest e = refl
-
-  -- with one more in front, the first is this one where it waits and comes before the first of the others
-  pub first_waiting : (by : Option ℕ) (entry : Entry C) (entries : List (Entry C))
-      → first_of (in_order (waiting by (entry ∷ entries)))
-      ≡ (if waits by entry && is_before_any (running entry) (first_of (in_order (waiting by entries))) then Some (running entry) else first_of (in_order (waiting by entries)))
-  first_waiting by entry entries =
-      first_waiting_by (waits by entry) (is_before_any (running entry) (first_of (in_order (waiting by entries)))) entry
-      (filter (λ (one : Listed C). is_due by one.running.due && not one.expired) (map listed_of entries)) refl
-
-  -- ---- how many are due, and which first at once
-  length_put_by : (b : Bool) (one other : Running C) (others put : List (Running C)) → length put ≡ suc (length others)
-      → length (if b then one ∷ other ∷ others else other ∷ put) ≡ suc (suc (length others))
-  length_put_by true one other others put h = refl
-  length_put_by false one other others put h = ap suc h
-
-  length_put : (one : Running C) (others : List (Running C)) → length (put_in_order one others) ≡ suc (length others)
-  length_put one [] = refl
-  length_put one (other ∷ others) = length_put_by (is_before one other) one other others (put_in_order one others) (length_put one others)
-
-  pub length_in_order : (running : List (Running C)) → length (in_order running) ≡ length running
-  length_in_order [] = refl
-  length_in_order (one ∷ running) = length_put one (in_order running) ∙ ap suc (length_in_order running)
-
-  counted_by : (b : Bool) (entry : Entry C) (rest : List (Listed C)) (n : ℕ) → length (all_of rest) ≡ n
-      → length (all_of (if b then listed_of entry ∷ rest else rest)) ≡ cond b 1 0 + n
-  counted_by true entry rest n h = omega (arith, h)
-  counted_by false entry rest n h = omega (arith, h)
-
-  counted : (now : ℕ) (entries : List (Entry C)) → length (waiting (Some now) entries) ≡ count_by (waits (Some now)) entries
-  counted now [] = refl
-  counted now (entry ∷ entries) =
-      counted_by (waits (Some now) entry) entry (filter (λ (one : Listed C). is_due (Some now) one.running.due && not one.expired) (map listed_of entries))
-      (count_by (waits (Some now)) entries) (counted now entries)
-      ∙ sym (sum_by-cons (λ (one : Entry C). cond (waits (Some now) one) 1 0) entry entries)
-
-  -- so many expire as wait
-  pub count_expiring : (now : ℕ) (entries : List (Entry C)) → count_by (waits (Some now)) entries ≡ length (expiring now (map listed_of entries))
-  count_expiring now entries = sym (length_in_order (waiting (Some now) entries) ∙ counted now entries)
-
-  zero_by : (b : Bool) (entry : Entry C) (rest : Option (Running C)) (found : Option (Entry C)) → rest ≡ option_map running found
-      → (if b then Some (running entry) else rest) ≡ option_map running (cond b (Some entry) found)
-  zero_by true entry rest found h = refl
-  zero_by false entry rest found h = h
-
-  pub first_zero_is : (entries : List (Entry C))
-      → first_zero_of (all_of (map listed_of entries)) ≡ option_map running (find (λ (entry : Entry C). is_zero entry.due) entries)
-  first_zero_is [] = refl
-  first_zero_is (entry ∷ entries) =
-      zero_by (is_zero entry.due) entry (first_zero_of (all_of (map listed_of entries))) (find (λ (entry : Entry C). is_zero entry.due) entries) (first_zero_is entries)
-
-  -- the timer and the number of the first entry that is due at once
-  pub first_zero_named : (entries : List (Entry C)) (found : Option (Entry C)) → found ≡ find (λ (entry : Entry C). is_zero entry.due) entries
-      → option_map (λ (entry : Entry C). (entry.timer, entry.number)) found ≡ option_map name_of (first_zero_of (all_of (map listed_of entries)))
-  first_zero_named entries None h = rw (first_zero_is entries, ← h) refl
-  first_zero_named entries (Some entry) h = rw (first_zero_is entries, ← h) refl
-
   -- ---- the content of a timer's entry, where its number is this one, and where it is another
   pub content_live : (timer : Timer) (number : ℕ) (listed : List (Listed C)) (one : Running C) → running_of timer (all_of listed) ≡ Some one → one.number ≡ number
       → Some one.content ≡ option_map (λ (one : Running C). one.content) (live timer number listed)
@@ -228,14 +142,6 @@ module _ {C : Type 0} where
       → None ≡ option_map (λ (one : Running C). one.content) (live timer number listed)
   none_live timer number listed one runs other =
       let test : (one.number == number) ≡ false = grind (arith, other) in rw (runs, test) refl
-
-  -- ---- the earliest of those from a place on
-  pub earliest_more : (entries : List (Entry C)) (place next : ℕ) (by : Option ℕ) (entry : Entry C) (old : Option (Running C)) → next ≡ suc place
-      → place < length entries → entry ≡ get_or entries place entry → old ≡ first_of (in_order (waiting by (drop next entries)))
-      → first_of (in_order (waiting by (drop place entries))) ≡ (if waits by entry && is_before_any (running entry) old then Some (running entry) else old)
-  earliest_more entries place next by entry old after within at h =
-      let split : drop place entries ≡ entry ∷ drop next entries = rw after (drop-cons entries place entry within ∙ ap (λ t. t ∷ drop (suc place) entries) (sym at)) in
-      rw (split, h) (first_waiting by entry (drop next entries))
 
   pub at_place : (entries : List (Entry C)) (place : ℕ) (entry : Entry C) → place < length entries → entry ≡ get_or entries place entry
       → slice_get entries place ≡ Some entry

@@ -3,9 +3,13 @@
 
 mod due;
 mod entry;
+mod key;
+mod moment;
+mod order;
 #[cfg(test)]
 mod tests;
 mod timeouts;
+mod zeros;
 
 pub use due::Due;
 pub use st_events::{PlainList, Timer};

@@ -1,17 +1,26 @@
-//! The running time-outs: in the order in which they were set, searched for what is due.
-ghost use Rattle.std.specs.Prelude.{◌≡◌, ◌+◌, ◌<◌, ◌≤◌, ◌^◌, ◌⊎◌, true, [], length, map, max, is_some, option_copied, position, count_by, Some, if◌then◌else◌, IsOk, IfOk, IfSome, OnOk, OnErr};
+//! The running time-outs: in the order in which they were set, and those that wait in the order in which they are due.
+ghost use Rattle.std.specs.Prelude.{◌≡◌, ◌+◌, ◌<◌, ◌≤◌, ◌^◌, ◌⊎◌, true, [], length, map, max, is_some, option_copied, position, Some, if◌then◌else◌, IsOk, IfOk, OnOk, OnErr};
 ghost use Rattle.std.specs.Option.{option_map};
-ghost use Rattle.std.specs.List.{find};
 ghost use Rattle.std.specs.Vec.{vec_capacity};
-ghost use Rattle.st_timeouts.specs.Running.{is_zero, first_zero_of, due_after, in_order, OneEach};
-ghost use Rattle.st_timeouts.specs.Entries.{listed_of, is_for, running, running_at, waits, waiting, is_before_any};
-ghost use Rattle.st_timeouts.specs.Timeouts.{all_of, name_of, shown, begun, content_of, runs, with_set, with_cancelled, without_listed, expiring, first_of, with_first_expired, next_due_of, live, with_taken};
+ghost use Rattle.st_timeouts.specs.Entries.{listed_of, is_for};
+ghost use Rattle.st_timeouts.specs.Keys.{key_at};
+ghost use Rattle.st_timeouts.specs.Order.{with_key};
+ghost use Rattle.st_timeouts.specs.Running.{is_zero, first_zero_of, moment_of, due_after, in_order, OneEach};
+ghost use Rattle.st_timeouts.specs.Timeouts.{all_of, name_of, shown, begun, content_of, runs, with_set, with_cancelled, without_listed, expiring, first_of, with_expired, with_first_expired, next_due_of, live, with_taken};
+ghost use Rattle.st_timeouts.specs.Waiting.{waiting_of, due_keys, zeros_of};
+ghost use Rattle.st_timeouts.specs.Zeros.{with_zero};
 
 use crate::Due;
 use crate::entry::Entry;
+use crate::key::Key;
+use crate::moment::Moment;
+use crate::order::Order;
+use crate::zeros::Zeros;
 use st_events::{PlainList, Timer};
+use st_steps::Steps;
 use std::alloc::{AllocError, Global};
 use std::marker::Model;
+use std::sync::ledger::Ledger;
 
 /// The running time-outs of one machine, each timer at most once, in the order in which they were set.
 ///
@@ -22,6 +31,10 @@ use std::marker::Model;
 #[derive(Drop)]
 pub struct Timeouts<C> {
     entries: Vec<Entry<C>>,
+    // Those that are due at once.
+    zeros: Zeros,
+    // Those that wait for a moment.
+    order: Order,
     // How many can be set that do not run, without memory.
     ready: usize,
 }
@@ -36,7 +49,7 @@ impl<C> Model for Timeouts<C> {
 
     ghost view = { λ timeouts. record { listed = map listed_of timeouts.entries.items; reserved = timeouts.ready } };
 
-    ghost invariant = { λ timeouts. IsSound timeouts.entries.items timeouts.ready (vec_capacity timeouts.entries) };
+    ghost invariant = { λ timeouts. IsSound timeouts.entries.items timeouts.ready (vec_capacity timeouts.entries) timeouts.zeros timeouts.order };
 }
 
 impl<C> Timeouts<C> {
@@ -48,6 +61,8 @@ impl<C> Timeouts<C> {
     {
         Timeouts {
             entries: Vec::new(alloc),
+            zeros: Zeros::new(alloc),
+            order: Order::new(alloc),
             ready: 0,
         }
     }
@@ -58,31 +73,48 @@ impl<C> Timeouts<C> {
     pub fn first_zero(&self) -> Option<(Timer, u64)>
         ensures { result ≡ option_map name_of (first_zero_of (all_of self.now.listed)) }
     {
-        let entry = zero_of(&self.entries)?;
-        Some((entry.timer, entry.number))
+        self.zeros.first()
     }
 
-    /// Says how many time-outs are due by a moment, in milliseconds, and not handed out yet.
+    /// Says how many time-outs are due by a moment, in milliseconds, and not handed out yet. It looks at these and at
+    /// no more than one other: a step is a look.
     ///
     /// Ours: docs/TRANSITIONS.md, Time-outs.
-    pub fn count_due(&self, now: u64) -> usize
-        ensures { result ≡ length (expiring now self.now.listed) }
+    pub fn count_due<L: Ledger>(&self, now: u64, steps: &mut Steps<L>) -> usize
+        ensures count { result ≡ length (expiring now self.now.listed) }
+        ensures looks { steps.new ≤ steps.old + result + 1 }
     {
-        count_waiting(&self.entries, now)
+        self.order.count_due(now, steps)
     }
 
     /// Hands out the first expiry that is due by a moment, in milliseconds: by the moment at which it
-    /// is due, then by number. Each is handed out once.
+    /// is due, then by number. Each is handed out once. It looks at one.
     ///
     /// Ours: docs/TRANSITIONS.md, Time-outs.
-    pub fn next_expiry(&mut self, now: u64) -> Option<(Timer, u64)>
+    pub fn next_expiry<L: Ledger>(&mut self, now: u64, steps: &mut Steps<L>) -> Option<(Timer, u64)>
         ensures expiry { result ≡ option_map name_of (first_of (expiring now self.old.listed)) }
         ensures handed_out { self.new ≡ with_first_expired (expiring now self.old.listed) self.old }
+        ensures looks { steps.new ≤ steps.old + 1 }
     {
-        let place = earliest(&self.entries, Some(now))?;
-        let entry = &mut self.entries[place];
-        entry.expired = true;
-        Some((entry.timer, entry.number))
+        let first = self.order.first()?;
+        if !first.moment.reached(now, steps) {
+            return None;
+        }
+        self.take_due()
+    }
+
+    /// Hands out the first expiry of those that wait for a moment, whether it has come or not: by the moment at which
+    /// it is due, then by number. Each is handed out once. It looks at none: who has counted those that are due knows
+    /// that it has come.
+    ///
+    /// Ours: docs/TRANSITIONS.md, Time-outs.
+    pub fn take_due(&mut self) -> Option<(Timer, u64)>
+        ensures expiry { result ≡ option_map name_of (first_of (in_order (waiting_of self.old.listed))) }
+        ensures handed_out { self.new ≡ with_first_expired (in_order (waiting_of self.old.listed)) self.old }
+    {
+        let first = self.order.take()?;
+        mark(&mut self.entries, first.timer);
+        Some((first.timer, first.number))
     }
 
     /// The moment, in milliseconds, at which the next expiry is due that was not handed out yet.
@@ -91,8 +123,8 @@ impl<C> Timeouts<C> {
     pub fn next_due(&self) -> Option<u64>
         ensures { result ≡ next_due_of self.now.listed }
     {
-        let place = earliest(&self.entries, None)?;
-        Some(self.entries[place].moment())
+        let first = self.order.first()?;
+        Some(first.moment.milliseconds())
     }
 
     /// The content of the time-out of a timer whose event has this number, if it runs.
@@ -141,10 +173,14 @@ impl<C: Drop> Timeouts<C> {
         ensures enough { count ≤ self.old.reserved → IsOk result }
         ensures unchanged { OnErr result (self.new ≡ self.old) }
     {
-        if self.ready < count {
-            self.entries.reserve(count)?;
-            self.ready = count;
+        if count <= self.ready {
+            return Ok(());
         }
+        let total = self.entries.len().checked_add(count).ok_or(AllocError)?;
+        self.zeros.reserve(total.saturating_sub(self.zeros.len()))?;
+        self.order.reserve(total.saturating_sub(self.order.len()))?;
+        self.entries.reserve(count)?;
+        self.ready = count;
         Ok(())
     }
 
@@ -159,14 +195,17 @@ impl<C: Drop> Timeouts<C> {
         ensures returned { result ≡ content_of timer self.old.listed }
         ensures set { self.new ≡ with_set self.old (begun timer time content number now) }
     {
+        forget(&self.entries, &mut self.zeros, &mut self.order, timer); // before it waits anew
         let old = remove_of(&mut self.entries, timer);
         if old.is_none() {
             self.ready -= 1;
         }
+        let due = due_after(time, now);
+        line_up(&mut self.zeros, &mut self.order, timer, number, due);
         self.entries.push_reserved(Entry {
             timer,
             number,
-            due: due_after(time, now),
+            due,
             content,
             expired: false,
         });
@@ -180,6 +219,7 @@ impl<C: Drop> Timeouts<C> {
         ensures returned { result ≡ content_of timer self.old.listed }
         ensures cancelled { self.new ≡ with_cancelled self.old timer }
     {
+        forget(&self.entries, &mut self.zeros, &mut self.order, timer);
         remove_of(&mut self.entries, timer)
     }
 
@@ -206,21 +246,65 @@ fn place_of<C>(entries: &[Entry<C>], timer: Timer) -> Option<usize>
     entries.iter().position(|entry| entry.timer == timer)
 }
 
-/// The first entry that is due at once.
-fn zero_of<C>(entries: &[Entry<C>]) -> Option<&Entry<C>>
-    ensures { option_copied result ≡ find (λ entry. is_zero entry.due) entries.now }
+/// The expiry of a timer's entry was handed out.
+fn mark<C>(entries: &mut Vec<Entry<C>>, timer: Timer)
+    requires { OneEach (all_of (map listed_of entries.old.items)) }
+    ensures marked { map listed_of entries.new.items ≡ with_expired timer (map listed_of entries.old.items) }
+    ensures length { length entries.new.items ≡ length entries.old.items }
+    ensures capacity { vec_capacity entries.new ≡ vec_capacity entries.old }
 {
-    entries.iter().find(|entry| entry.due == Due::Zero)
+    if let Some(place) = place_of(entries, timer) {
+        let entry = &mut entries[place];
+        entry.expired = true;
+    }
 }
 
-/// How many expiries come by a moment and were not handed out.
-fn count_waiting<C>(entries: &[Entry<C>], now: u64) -> usize
-    ensures { result ≡ count_by (waits (Some now)) entries.now }
+/// Takes a timer out of those that wait.
+fn forget<C>(entries: &[Entry<C>], zeros: &mut Zeros, order: &mut Order, timer: Timer)
+    requires one_each { OneEach (all_of (map listed_of entries.now)) }
+    requires zeros { zeros.old.items ≡ zeros_of (map listed_of entries.now) }
+    requires keys { order.old.keys ≡ due_keys (map listed_of entries.now) }
+    ensures zeros { zeros.new.items ≡ zeros_of (without_listed timer (map listed_of entries.now)) }
+    ensures keys { order.new.keys ≡ due_keys (without_listed timer (map listed_of entries.now)) }
+    ensures zeros_places { zeros.new.reserved + length zeros.new.items ≡ zeros.old.reserved + length zeros.old.items }
+    ensures keys_places { order.new.reserved + length order.new.keys ≡ order.old.reserved + length order.old.keys }
 {
-    entries
-        .iter()
-        .filter(|entry| entry.waits(Some(now)))
-        .count()
+    let Some(place) = place_of(entries, timer) else {
+        return;
+    };
+    let entry = &entries[place];
+    match entry.due {
+        Due::Zero => zeros.forget(timer),
+        Due::At(moment) => {
+            if !entry.expired {
+                order.forget(&key(timer, entry.number, moment));
+            }
+        }
+    }
+}
+
+/// Puts a timer that is set behind those that wait as it does.
+fn line_up(zeros: &mut Zeros, order: &mut Order, timer: Timer, number: u64, due: Due)
+    requires zeros_reserved { 0 < zeros.old.reserved }
+    requires keys_reserved { 0 < order.old.reserved }
+    ensures zeros { zeros.new ≡ (if is_zero due then with_zero zeros.old timer number else zeros.old) }
+    ensures keys { order.new ≡ (if is_zero due then order.old else with_key order.old (key_at timer number (moment_of due))) }
+{
+    match due {
+        Due::Zero => zeros.put(timer, number),
+        Due::At(moment) => order.put(key(timer, number, moment)),
+    }
+}
+
+/// Where a time-out stands that is due at a moment, in milliseconds.
+fn key(timer: Timer, number: u64, moment: u64) -> Key
+    ensures { result ≡ key_at timer number moment }
+{
+    Key {
+        moment: Moment::new(moment),
+        number,
+        timer,
+    }
 }
 
 /// Each entry's timer, number and when it is due.
@@ -231,35 +315,6 @@ fn rows_of<C>(alloc: Global, entries: &[Entry<C>]) -> Result<Vec<(Timer, u64, Du
         .iter()
         .map(|entry| (entry.timer, entry.number, entry.due))
         .collect(alloc)
-}
-
-/// The place of the first in order of those whose expiry comes by a moment, or at any where none is
-/// given, and was not handed out.
-fn earliest<C>(entries: &[Entry<C>], by: Option<u64>) -> Option<usize>
-    ensures within { IfSome result (λ place. place < length entries.now) }
-    ensures first { running_at entries.now result ≡ first_of (in_order (waiting by entries.now)) }
-{
-    let mut earliest: Option<usize> = None;
-    let mut place = entries.len();
-    while place > 0 {
-        place -= 1;
-        let entry = &entries[place];
-        if entry.waits(by) && comes_first(entry, entries, earliest) {
-            earliest = Some(place);
-        }
-    }
-    earliest
-}
-
-/// Says whether an entry is due before the one at a place, or there is none.
-fn comes_first<C>(entry: &Entry<C>, entries: &[Entry<C>], other: Option<usize>) -> bool
-    requires { IfSome other (λ place. place < length entries.now) }
-    ensures { result ≡ is_before_any (running entry.now) (running_at entries.now other) }
-{
-    match other {
-        None => true,
-        Some(place) => entry.is_before(&entries[place]),
-    }
 }
 
 /// When a time-out is due that is set for so many milliseconds at a moment.

@@ -1,110 +1,146 @@
-use Rattle.std.proofs.Common.{◌≡◌, false, true, ◌∷◌, arith, refl, sym, ap, ◌∙◌, length, reverse}
-use Rattle.std.proofs.lemmas.List.{reverse-reverse, length-reverse}
-use Rattle.st_actions.specs.Plan.{sets}
+use Rattle.std.proofs.Common.{◌≡◌, false, true, List, [], ◌∷◌, ◌++◌, ◌||◌, arith, refl, sym, ap, ◌∙◌, append-nil, reverse}
+use Rattle.std.proofs.lemmas.Bool.{not-true, not-false}
+use Rattle.st_events.specs.declared.enter_action.EnterAction.{EnterAction}
+use Rattle.st_events.specs.declared.enter_action.EnterAction.TheVariants.{Reply, Set, Hibernate}
+use Rattle.st_events.specs.Timers.{same_timer}
+use Rattle.st_actions.specs.Plan.{sets, replies_of, settings_of}
 use Rattle.st_actions.specs.Joined.{as_actions}
-use Rattle.st_actions.proofs.PlanLemmas.{last_is_first, one_fewer, goes_over, all_taken, enter_sets-reverse, setting_over, setting_later, enter_planned_whole}
+use Rattle.st_actions.proofs.PlanLemmas.{one_fewer, taken_before, one_before, setting_stays, setting_goes, enter_planned_whole}
 use Rattle.st_actions.proofs.enter_planning.plan_enter.Goals as goal
 
+-- nothing was taken
 pub loop-action-init : goal.loop-action-init
 loop-action-init g c =
-    let turned = c.reverse.ensures.reversed in
-    let back = reverse-reverse c.args.actions in
-    let as_long = ap length turned ∙ length-reverse c.args.actions in
-    let replies = ap (λ b. b.items) c.in-Ok.ensures.reserved in
-    let settings = ap (λ b. b.items) c.in-Ok-with_reserved.ensures.reserved in
-    let replies_reserved = ap (λ b. b.reserved) c.in-Ok.ensures.reserved in
-    let settings_reserved = ap (λ b. b.reserved) c.in-Ok-with_reserved.ensures.reserved in
-    record {
-      replies = rw (replies, turned, back) refl;
-      settings = rw (settings, turned, back) refl;
-      reserved_for_replies = omega (arith, as_long, replies_reserved, c.len-count.ensures.length);
-      reserved_for_settings = omega (arith, as_long, settings_reserved, c.len-count.ensures.length);
-    }
+    let replies = ap (λ b. b.items) c.in-Ok-with_reserved.ensures.reserved in
+    let settings = ap (λ b. b.items) c.in-Ok-with_reserved-2.ensures.reserved in
+    let replies_reserved = ap (λ b. b.reserved) c.in-Ok-with_reserved.ensures.reserved in
+    let settings_reserved = ap (λ b. b.reserved) c.in-Ok-with_reserved-2.ensures.reserved in (
+      [],
+      record {
+        whole = append-nil c.args.actions;
+        replies = ap reverse replies;
+        settings = ap reverse settings;
+        noted = c.in-Ok.ensures.empty;
+        reserved_for_replies = omega (arith, replies_reserved, c.len-count.ensures.length);
+        reserved_for_settings = omega (arith, settings_reserved, c.len-count.ensures.length);
+        room = omega (arith, c.in-Ok.ensures.room, c.len-count.ensures.length);
+      },
+    )
 
 pub loop-action-smaller-in-Reply : goal.loop-action-smaller-in-Reply
 loop-action-smaller-in-Reply g c = omega (arith, one_fewer _ _ _ c.in-Some.ensures.popped)
 
+pub loop-action-smaller-then-note : goal.loop-action-smaller-then-note
+loop-action-smaller-then-note g c = omega (arith, one_fewer _ _ _ c.in-Some.ensures.popped)
+
+pub loop-action-smaller-else-note : goal.loop-action-smaller-else-note
+loop-action-smaller-else-note g c = omega (arith, one_fewer _ _ _ c.in-Some.ensures.popped)
+
 pub loop-action-smaller : goal.loop-action-smaller
 loop-action-smaller g c = omega (arith, one_fewer _ _ _ c.in-Some.ensures.popped)
-
-pub loop-action-smaller-then-not-sets : goal.loop-action-smaller-then-not-sets
-loop-action-smaller-then-not-sets g c = omega (arith, one_fewer _ _ _ c.in-Some.ensures.popped)
-
-pub loop-action-smaller-else-not-sets : goal.loop-action-smaller-else-not-sets
-loop-action-smaller-else-not-sets g c = omega (arith, one_fewer _ _ _ c.in-Some.ensures.popped)
 
 pub push-requires : goal.push-requires
 push-requires g c =
     let fewer = one_fewer _ _ _ c.in-Some.ensures.popped in
-    (c.requires.replies_fit, omega (arith, fewer, c.loop-action.invariant.reserved_for_replies))
+    (c.requires.replies_fit, omega (arith, fewer, c.loop-action.invariant.1.reserved_for_replies))
+
+pub note-requires : goal.note-requires
+note-requires g c =
+    let fewer = one_fewer _ _ _ c.in-Some.ensures.popped in
+    omega (arith, fewer, c.loop-action.invariant.1.room)
+
+pub push-requires-then-note : goal.push-requires-then-note
+push-requires-then-note g c =
+    let fewer = one_fewer _ _ _ c.in-Some.ensures.popped in
+    (c.requires.settings_fit, omega (arith, fewer, c.loop-action.invariant.1.reserved_for_settings))
 
 pub loop-action-preserved-in-Reply : goal.loop-action-preserved-in-Reply
 loop-action-preserved-in-Reply g c =
-    let kept = c.loop-action.invariant in
+    let taken = c.loop-action.invariant.0 in
+    let kept = c.loop-action.invariant.1 in
     let fewer = one_fewer _ _ _ c.in-Some.ensures.popped in
-    let next = last_is_first _ _ _ c.in-Some.ensures.popped ∙ ap (λ action. action ∷ reverse c.pop.new.self) c.in-Reply.is in
-    let reserved = ap (λ b. b.reserved) c.push.ensures.pushed in
-    record {
-      replies = goes_over _ _ _ _ (c.in-Reply.tag, c.in-Reply.content) (ap (λ b. b.items) c.push.ensures.pushed) (rw next at kept.replies);
-      settings = rw next at kept.settings;
-      reserved_for_replies = omega (arith, fewer, reserved, kept.reserved_for_replies);
-      reserved_for_settings = omega (arith, fewer, kept.reserved_for_settings);
-    }
+    let popped = c.in-Some.ensures.popped ∙ ap (λ action. c.pop.new.self ++ action ∷ []) c.in-Reply.is in
+    let reserved = ap (λ b. b.reserved) c.push.ensures.pushed in (
+      Reply c.in-Reply.tag c.in-Reply.content ∷ taken,
+      record {
+        whole = taken_before _ _ _ _ _ popped kept.whole;
+        replies = one_before _ _ _ (c.in-Reply.tag, c.in-Reply.content) (ap (λ b. b.items) c.push.ensures.pushed) kept.replies;
+        settings = kept.settings;
+        noted = kept.noted;
+        reserved_for_replies = omega (arith, fewer, reserved, kept.reserved_for_replies);
+        reserved_for_settings = omega (arith, fewer, kept.reserved_for_settings);
+        room = omega (arith, fewer, kept.room);
+      },
+    )
 
 pub loop-action-preserved : goal.loop-action-preserved
 loop-action-preserved g c =
-    let kept = c.loop-action.invariant in
+    let taken = c.loop-action.invariant.0 in
+    let kept = c.loop-action.invariant.1 in
     let fewer = one_fewer _ _ _ c.in-Some.ensures.popped in
-    let next = last_is_first _ _ _ c.in-Some.ensures.popped ∙ ap (λ action. action ∷ reverse c.pop.new.self) c.in-Hibernate.is in
-    record {
-      replies = rw next at kept.replies;
-      settings = rw next at kept.settings;
-      reserved_for_replies = omega (arith, fewer, kept.reserved_for_replies);
-      reserved_for_settings = omega (arith, fewer, kept.reserved_for_settings);
-    }
+    let popped = c.in-Some.ensures.popped ∙ ap (λ action. c.pop.new.self ++ action ∷ []) c.in-Hibernate.is in (
+      Hibernate ∷ taken,
+      record {
+        whole = taken_before _ _ _ _ _ popped kept.whole;
+        replies = kept.replies;
+        settings = kept.settings;
+        noted = kept.noted;
+        reserved_for_replies = omega (arith, fewer, kept.reserved_for_replies);
+        reserved_for_settings = omega (arith, fewer, kept.reserved_for_settings);
+        room = omega (arith, fewer, kept.room);
+      },
+    )
 
 -- the setting is the last of its timer
-pub push-requires-then-not-sets : goal.push-requires-then-not-sets
-push-requires-then-not-sets g c =
+pub loop-action-preserved-then-note : goal.loop-action-preserved-then-note
+loop-action-preserved-then-note g c =
+    let taken = c.loop-action.invariant.0 in
+    let kept = c.loop-action.invariant.1 in
     let fewer = one_fewer _ _ _ c.in-Some.ensures.popped in
-    (c.requires.settings_fit, omega (arith, fewer, c.loop-action.invariant.reserved_for_settings))
-
-pub loop-action-preserved-then-not-sets : goal.loop-action-preserved-then-not-sets
-loop-action-preserved-then-not-sets g c =
-    let kept = c.loop-action.invariant in
-    let fewer = one_fewer _ _ _ c.in-Some.ensures.popped in
-    let next = last_is_first _ _ _ c.in-Some.ensures.popped ∙ ap (λ action. action ∷ reverse c.pop.new.self) c.in-Set.is in
-    let last : sets c.in-Set.timer (as_actions (reverse c.pop.new.self)) ≡ false =
-    enter_sets-reverse c.in-Set.timer c.pop.new.self ∙ (sym c.sets.ensures ∙ c.if-not-sets.true) in
-    let reserved = ap (λ b. b.reserved) c.push-then-not-sets.ensures.pushed in
-    record {
-      replies = rw next at kept.replies;
-      settings = setting_over c.in-Set.timer c.in-Set.time c.in-Set.content _ _ (as_actions (reverse c.pop.new.self)) _ last
-          (ap (λ b. b.items) c.push-then-not-sets.ensures.pushed) (rw next at kept.settings);
-      reserved_for_replies = omega (arith, fewer, kept.reserved_for_replies);
-      reserved_for_settings = omega (arith, fewer, reserved, kept.reserved_for_settings);
-    }
+    let popped = c.in-Some.ensures.popped ∙ ap (λ action. c.pop.new.self ++ action ∷ []) c.in-Set.is in
+    let reserved = ap (λ b. b.reserved) c.push-then-note.ensures.pushed in
+    let last : sets c.in-Set.timer (as_actions taken) ≡ false =
+    sym (kept.noted c.in-Set.timer) ∙ not-true _ (sym c.note.ensures.was_new ∙ c.if-note.true) in (
+      Set c.in-Set.timer c.in-Set.time c.in-Set.content ∷ taken,
+      record {
+        whole = taken_before _ _ _ _ _ popped kept.whole;
+        replies = kept.replies;
+        settings = setting_stays c.in-Set.timer c.in-Set.time c.in-Set.content _ (as_actions taken) last
+            (one_before _ _ _ _ (ap (λ b. b.items) c.push-then-note.ensures.pushed) kept.settings);
+        noted = λ other. c.note.ensures.noted other ∙ ap (λ noted. same_timer other c.in-Set.timer || noted) (kept.noted other);
+        reserved_for_replies = omega (arith, fewer, kept.reserved_for_replies);
+        reserved_for_settings = omega (arith, fewer, reserved, kept.reserved_for_settings);
+        room = omega (arith, fewer, c.note.ensures.room, kept.room);
+      },
+    )
 
 -- a later setting of its timer decides
-pub loop-action-preserved-else-not-sets : goal.loop-action-preserved-else-not-sets
-loop-action-preserved-else-not-sets g c =
-    let kept = c.loop-action.invariant in
+pub loop-action-preserved-else-note : goal.loop-action-preserved-else-note
+loop-action-preserved-else-note g c =
+    let taken = c.loop-action.invariant.0 in
+    let kept = c.loop-action.invariant.1 in
     let fewer = one_fewer _ _ _ c.in-Some.ensures.popped in
-    let next = last_is_first _ _ _ c.in-Some.ensures.popped ∙ ap (λ action. action ∷ reverse c.pop.new.self) c.in-Set.is in
-    let later : sets c.in-Set.timer (as_actions (reverse c.pop.new.self)) ≡ true =
-    enter_sets-reverse c.in-Set.timer c.pop.new.self ∙ (sym c.sets.ensures ∙ c.if-not-sets.false) in
-    record {
-      replies = rw next at kept.replies;
-      settings = setting_later c.in-Set.timer c.in-Set.time c.in-Set.content _ (as_actions (reverse c.pop.new.self)) _ later (rw next at kept.settings);
-      reserved_for_replies = omega (arith, fewer, kept.reserved_for_replies);
-      reserved_for_settings = omega (arith, fewer, kept.reserved_for_settings);
-    }
+    let popped = c.in-Some.ensures.popped ∙ ap (λ action. c.pop.new.self ++ action ∷ []) c.in-Set.is in
+    let later : sets c.in-Set.timer (as_actions taken) ≡ true =
+    sym (kept.noted c.in-Set.timer) ∙ not-false _ (sym c.note.ensures.was_new ∙ c.if-note.false) in (
+      Set c.in-Set.timer c.in-Set.time c.in-Set.content ∷ taken,
+      record {
+        whole = taken_before _ _ _ _ _ popped kept.whole;
+        replies = kept.replies;
+        settings = setting_goes c.in-Set.timer c.in-Set.time c.in-Set.content _ (as_actions taken) later kept.settings;
+        noted = λ other. c.note.ensures.noted other ∙ ap (λ noted. same_timer other c.in-Set.timer || noted) (kept.noted other);
+        reserved_for_replies = omega (arith, fewer, kept.reserved_for_replies);
+        reserved_for_settings = omega (arith, fewer, kept.reserved_for_settings);
+        room = omega (arith, fewer, c.note.ensures.room, kept.room);
+      },
+    )
 
+-- all was taken
 pub returns-clause-planned : goal.returns-clause-planned
 returns-clause-planned g c =
-    let kept = c.loop-action.invariant in
-    let empty = c.in_default-pop.ensures.end.0 refl in
-    enter_planned_whole c.args.actions c.finish-replies.result c.new-inserts.result c.finish-settings.result
-    (c.finish-replies.ensures ∙ all_taken _ _ (rw empty at kept.replies))
+    let kept = c.loop-action.invariant.1 in
+    let all = rw (c.in_default-pop.ensures.end.0 refl) at kept.whole in
+    enter_planned_whole c.args.actions c.in_order-replies.result c.new-inserts.result c.in_order-settings.result
+    (c.in_order-replies.ensures ∙ (kept.replies ∙ ap (λ (actions : List (EnterAction _)). replies_of (as_actions actions)) all))
     c.new-inserts.ensures
-    (c.finish-settings.ensures ∙ all_taken _ _ (rw empty at kept.settings))
+    (c.in_order-settings.ensures ∙ (kept.settings ∙ ap (λ (actions : List (EnterAction _)). settings_of (as_actions actions)) all))

@@ -1,6 +1,7 @@
 use Rattle.std.proofs.Common.{arith, ap}
+use Rattle.std.specs.Prelude.{not}
 use Rattle.st_actions.proofs.PlanLemmas.{joined_whole, joined_is}
-use Rattle.st_actions.proofs.JoinLemmas.{reserved_behind, both_moved, no_more_remain}
+use Rattle.st_actions.proofs.JoinLemmas.{reserved_behind, both_moved, no_more_remain, remaining_moved}
 use Rattle.st_actions.proofs.joining.join.Goals as goal
 
 pub move_all-requires : goal.move_all-requires
@@ -24,16 +25,18 @@ move_remaining-requires g c = (c.requires.settings_fit, omega (arith, ap (λ b. 
 
 pub move_all-requires-5 : goal.move_all-requires-5
 move_all-requires-5 g c =
+    let moved = remaining_moved _ _ _ _ c.args.second.requests (λ setting. ap not (c.in-Ok-timers_of.ensures.noted setting.timer)) c.move_remaining.ensures.moved in
     let few = no_more_remain c.args.first.requests c.args.second.requests in
-    let reserved = reserved_behind _ _ _ _ _ c.in-Ok-reserved_for-2.ensures.reserved few c.move_remaining.ensures.moved in
+    let reserved = reserved_behind _ _ _ _ _ c.in-Ok-reserved_for-2.ensures.reserved few moved in
     (c.requires.settings_fit, omega (arith, reserved))
 
 pub returns-clause-joined : goal.returns-clause-joined
 returns-clause-joined g c =
+    let moved = remaining_moved _ _ _ _ c.args.second.requests (λ setting. ap not (c.in-Ok-timers_of.ensures.noted setting.timer)) c.move_remaining.ensures.moved in
     joined_whole c.args.first c.args.second c.finish-replies.result c.finish-inserts.result c.finish-settings.result
     (both_moved _ _ _ _ _ _ _ c.in-Ok.ensures.reserved c.move_all.ensures.moved c.move_all-2.ensures.moved c.finish-replies.ensures)
     (both_moved _ _ _ _ _ _ _ c.in-Ok-reserved_for.ensures.reserved c.move_all-3.ensures.moved c.move_all-4.ensures.moved c.finish-inserts.ensures)
-    (both_moved _ _ _ _ _ _ _ c.in-Ok-reserved_for-2.ensures.reserved c.move_remaining.ensures.moved c.move_all-5.ensures.moved c.finish-settings.ensures)
+    (both_moved _ _ _ _ _ _ _ c.in-Ok-reserved_for-2.ensures.reserved moved c.move_all-5.ensures.moved c.finish-settings.ensures)
 
 -- plans of two lists, joined, are the plan of both
 pub returns-clause-plan_of_both : goal.returns-clause-plan_of_both

@@ -1,17 +1,23 @@
-use Rattle.std.proofs.Common.{◌≡◌, ◌≤◌, ◌++◌, length, reverse}
-use Rattle.st_actions.specs.Plan.{replies_of, inserts_of, postpone_of, postpone_or, settings_of}
+use Rattle.std.proofs.Common.{◌≡◌, ◌≤◌, Bool, List, ◌++◌, length, reverse, unwrap_or}
+use Rattle.st_events.specs.declared.action.Action.{Action}
+use Rattle.st_events.specs.declared.timer.Timer.{Timer}
+use Rattle.st_actions.specs.Plan.{replies_of, inserts_of, postpone_or, sets, settings_of}
+use Rattle.st_actions.specs.Noted.{is_noted, room}
 use Rattle.st_actions.proofs.planning.plan.Given as goal
 
--- what was taken, with what the rest asks for, is what all ask for
+-- what was taken from the end of the list, and what it asks for
 abbrev pub invariant-loop-action : goal.invariant-loop-action
-invariant-loop-action g l = record {
-  replies : l.replies.items ++ replies_of (reverse l.actions) ≡ replies_of l.fn.actions;
-  postpone : postpone_or l.postpone (reverse l.actions) ≡ postpone_of l.fn.actions;
-  inserts : l.inserts.items ++ inserts_of (reverse l.actions) ≡ inserts_of l.fn.actions;
-  settings : l.settings.items ++ settings_of (reverse l.actions) ≡ settings_of l.fn.actions;
+invariant-loop-action g l = (taken : List (Action g.row.C.Denot)) × record {
+  whole : l.actions ++ taken ≡ l.fn.actions;
+  replies : reverse l.replies.items ≡ replies_of taken;
+  postpone : (given : Bool) → postpone_or given taken ≡ unwrap_or l.postpone given;
+  inserts : reverse l.inserts.items ≡ inserts_of taken;
+  settings : reverse l.settings.items ≡ settings_of taken;
+  noted : (timer : Timer) → is_noted timer l.noted ≡ sets timer taken;
   reserved_for_replies : length l.actions ≤ l.replies.reserved;
   reserved_for_inserts : length l.actions ≤ l.inserts.reserved;
   reserved_for_settings : length l.actions ≤ l.settings.reserved;
+  room : length l.actions ≤ room l.noted;
 }
 
 abbrev pub decreases-loop-action : goal.decreases-loop-action

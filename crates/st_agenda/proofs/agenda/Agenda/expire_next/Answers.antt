@@ -32,7 +32,7 @@ prove-unreachable-requires g c =
     let some = some_first _ (rw due at (rw (← c.self.view_is) at c.requires.due)) in
     let named = handed_is _ some.0 some.1 c.in-Some.timer c.in-Some.number some.2 c.in-Some.ensures.expiry in
     let pushed = pushed_named inside.pending c.push_expiry.new.self some.0 c.in-Some.timer c.in-Some.number named.0 named.1 c.push_expiry.ensures in
-    let listed = handed_out_is inside.timeouts c.next_expiry.new.self _ some.0 some.1 some.2 c.next_expiry.ensures.handed_out in
+    let listed = handed_out_is inside.timeouts c.next_expiry.new.timeouts _ some.0 some.1 some.2 c.next_expiry.ensures.handed_out in
     slots_more inside.pending c.push_expiry.new.self inside.timeouts.listed inside.expiries c.self.invariant.agrees some.0 pushed (rw c.len.ensures at c.if-prove.true)
 
 pub invariant_of-self : goal.invariant_of-self
@@ -42,7 +42,7 @@ invariant_of-self g c =
     let some = some_first _ (rw due at (rw (← c.self.view_is) at c.requires.due)) in
     let named = handed_is _ some.0 some.1 c.in-Some.timer c.in-Some.number some.2 c.in-Some.ensures.expiry in
     let pushed = pushed_named inside.pending c.push_expiry.new.self some.0 c.in-Some.timer c.in-Some.number named.0 named.1 c.push_expiry.ensures in
-    let listed = handed_out_is inside.timeouts c.next_expiry.new.self _ some.0 some.1 some.2 c.next_expiry.ensures.handed_out in
+    let listed = handed_out_is inside.timeouts c.next_expiry.new.timeouts _ some.0 some.1 some.2 c.next_expiry.ensures.handed_out in
     rw listed (expiring_kept inside.pending inside.timeouts.listed inside.expiries c.args.now c.self.invariant some.0 some.1 some.2 c.push_expiry.new.self c.in_order.ensures pushed)
 
 pub returns-clause-schedule : goal.returns-clause-schedule
@@ -52,7 +52,7 @@ returns-clause-schedule g c =
     let some = some_first _ (rw due at (rw (← c.self.view_is) at c.requires.due)) in
     let named = handed_is _ some.0 some.1 c.in-Some.timer c.in-Some.number some.2 c.in-Some.ensures.expiry in
     let pushed = pushed_named inside.pending c.push_expiry.new.self some.0 c.in-Some.timer c.in-Some.number named.0 named.1 c.push_expiry.ensures in
-    let listed = handed_out_is inside.timeouts c.next_expiry.new.self _ some.0 some.1 some.2 c.next_expiry.ensures.handed_out in
+    let listed = handed_out_is inside.timeouts c.next_expiry.new.timeouts _ some.0 some.1 some.2 c.next_expiry.ensures.handed_out in
     rw (← c.self.view_is, listed) (expiring_schedule inside.pending inside.timeouts.listed inside.expiries c.args.now c.self.invariant some.0 some.1 some.2 c.push_expiry.new.self c.in_order.ensures pushed ∙ first_expiry_is _ some.0 some.1 _ (due ∙ some.2))
 
 pub returns-clause-rest : goal.returns-clause-rest
@@ -62,5 +62,5 @@ returns-clause-rest g c =
     let some = some_first _ (rw due at (rw (← c.self.view_is) at c.requires.due)) in
     let named = handed_is _ some.0 some.1 c.in-Some.timer c.in-Some.number some.2 c.in-Some.ensures.expiry in
     let pushed = pushed_named inside.pending c.push_expiry.new.self some.0 c.in-Some.timer c.in-Some.number named.0 named.1 c.push_expiry.ensures in
-    let listed = handed_out_is inside.timeouts c.next_expiry.new.self _ some.0 some.1 some.2 c.next_expiry.ensures.handed_out in
+    let listed = handed_out_is inside.timeouts c.next_expiry.new.timeouts _ some.0 some.1 some.2 c.next_expiry.ensures.handed_out in
     rw (← c.self.view_is, listed) (expiring_rest inside.pending inside.timeouts.listed inside.expiries c.args.now c.self.invariant some.0 some.1 some.2 c.push_expiry.new.self c.in_order.ensures pushed ∙ rest_is _ some.0 some.1 (due ∙ some.2))

@@ -1,8 +1,12 @@
-use Rattle.std.proofs.Common.{◌∙◌}
-use Rattle.st_timeouts.proofs.EntryLemmas.{count_expiring}
+use Rattle.std.proofs.Common.{length, map, ap, ◌∙◌}
+use Rattle.std.specs.List.{filter}
+use Rattle.st_timeouts.specs.Entries.{listed_of}
+use Rattle.st_timeouts.specs.Order.{has_come}
+use Rattle.st_timeouts.proofs.HandedLemmas.{count_is}
 use Rattle.st_timeouts.proofs.timeouts.Timeouts.count_due.Goals as goal
 
-pub returns : goal.returns
-returns g c =
-    let counted = rw c.deref.ensures.value at c.count_waiting.ensures in
-    rw (← c.self.view_is) (counted ∙ count_expiring c.args.now c.self.inside.entries.items)
+pub returns-clause-count : goal.returns-clause-count
+returns-clause-count g c =
+    let listed = map listed_of c.self.inside.entries.items in
+    rw (← c.self.view_is)
+    (c.count_due.ensures.count ∙ (ap (λ t. length (filter (has_come c.args.now) t)) c.self.invariant.keys_are ∙ count_is c.args.now listed))
