@@ -1,4 +1,4 @@
--- Timers that were noted, and elements that pass a test.
+-- Elements of a list that are looked at one after another, for one that passes a test.
 use Rattle.std.proofs.Common.{◌≡◌, ℕ, ◌+◌, ◌≤◌, ◌<◌, Bool, true, false, Some, None, List, refl, sym, ◌∙◌, length, take, get_or, ◌⊎◌, inl, inr, arith}
 use Rattle.std.specs.Prelude.{slice_get, ◌||◌}
 use Rattle.std.specs.List.{list_any}
