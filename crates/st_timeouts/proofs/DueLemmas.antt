@@ -1,5 +1,5 @@
 -- The order in which time-outs are due: with one more, with fewer, and its first ones.
-use Rattle.std.proofs.Common.{◌≡◌, ℕ, Bool, true, false, not, ◌||◌, ◌&&◌, ◌==◌, nat_lt, nat_le, if◌then◌else◌, List, [], ◌∷◌, ◌++◌, map, refl, sym, ap, ◌∙◌, arith, length}
+use Rattle.std.proofs.Common.{◌≡◌, Bool, true, false, if◌then◌else◌, List, [], ◌∷◌, ◌++◌, refl, sym, ap, ◌∙◌, arith}
 use Rattle.std.specs.List.{filter}
 use Rattle.st_timeouts.specs.declared.key.Key.{Key}
 use Rattle.st_timeouts.specs.Running.{Running, is_before, put_in_order, in_order}

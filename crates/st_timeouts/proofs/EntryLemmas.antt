@@ -1,17 +1,16 @@
 -- The time-outs as they are kept: where a timer's stands, and which is due first.
-use Rattle.std.proofs.Common.{◌≡◌, ℕ, zero, suc, ◌+◌, ◌<◌, ◌≤◌, Bool, true, false, not, ◌&&◌, ◌==◌, cond, if◌then◌else◌, List, [], ◌∷◌, ◌++◌, map, refl, sym, ap, subst, ◌∙◌, arith, length, drop, get_or, set, nat_lt, drop-cons, length-append, ◌⊎◌, inl, inr}
-use Rattle.std.specs.Prelude.{Option, Some, None, count_by, is_some}
-use Rattle.std.specs.List.{filter, find, slice_get, position, position_or_len, remove}
+use Rattle.std.proofs.Common.{◌≡◌, ℕ, zero, suc, ◌+◌, ◌<◌, ◌≤◌, Bool, true, false, not, ◌==◌, cond, if◌then◌else◌, List, [], ◌∷◌, ◌++◌, map, refl, sym, ap, subst, ◌∙◌, arith, length, get_or, set, nat_lt, ◌⊎◌, inl, inr}
+use Rattle.std.specs.Prelude.{Option, Some, None, is_some}
+use Rattle.std.specs.List.{slice_get, position, position_or_len, remove}
 use Rattle.std.specs.Option.{option_map}
 use Rattle.std.proofs.lemmas.List.{map-append}
-use Rattle.std.proofs.lemmas.List.Sums.{sum_by-cons}
 use Rattle.std.proofs.lemmas.Option.{slice_get_past, slice_get-get_or, cond_some}
 use Rattle.st_events.specs.declared.timer.Timer.{Timer}
 use Rattle.st_events.specs.Timers.{same_timer}
 use Rattle.st_events.proofs.ComparedLemmas.{same_timer_self, timers_same, same_timer_flips, none_if}
 use Rattle.st_timeouts.specs.declared.entry.Entry.{Entry}
-use Rattle.st_timeouts.specs.Running.{Running, is_zero, is_before, running_of, first_zero_of, OneEach, put_in_order, in_order}
-use Rattle.st_timeouts.specs.Timeouts.{Listed, Timeouts, all_of, name_of, shown, without_listed, content_of, runs, expiring, first_of, with_expired, with_first_expired, live}
+use Rattle.st_timeouts.specs.Running.{Running, running_of, OneEach}
+use Rattle.st_timeouts.specs.Timeouts.{Listed, all_of, shown, without_listed, content_of, runs, with_expired, live}
 use Rattle.st_timeouts.specs.Entries.{running, listed_of, is_for}
 use Rattle.st_timeouts.proofs.OrderLemmas.{not_first, all_of_with_expired, one_each_set}
 

@@ -1,6 +1,6 @@
 -- What is due first, what stays where it is handed out, and what is due at once.
-use Rattle.std.proofs.Common.{◌≡◌, ℕ, Bool, true, false, not, ◌&&◌, nat_le, if◌then◌else◌, List, [], ◌∷◌, ◌++◌, map, refl, sym, ap, subst, ◌∙◌, arith, length, suc}
-use Rattle.std.specs.Prelude.{Option, Some, None, is_some}
+use Rattle.std.proofs.Common.{◌≡◌, ℕ, Bool, true, false, not, ◌&&◌, nat_le, if◌then◌else◌, List, [], ◌∷◌, ◌++◌, map, refl, sym, ap, subst, ◌∙◌, length, suc}
+use Rattle.std.specs.Prelude.{Option, Some, None}
 use Rattle.std.specs.List.{filter}
 use Rattle.std.specs.Option.{option_map}
 use Rattle.std.proofs.lemmas.List.{map-append, append-nil}
@@ -11,15 +11,15 @@ use Rattle.st_events.proofs.ComparedLemmas.{same_timer_self}
 use Rattle.st_timeouts.specs.declared.due.Due.{Due}
 use Rattle.st_timeouts.specs.declared.due.Due.TheVariants.{Zero, At}
 use Rattle.st_timeouts.specs.declared.key.Key.{Key}
-use Rattle.st_timeouts.specs.Running.{Running, is_zero, is_due_by, moment_of, runs_for, running_of, first_zero_of, without_running, OneEach, in_order}
-use Rattle.st_timeouts.specs.Timeouts.{Listed, Timeouts, all_of, name_of, without_listed, expiring, first_of, with_expired, with_first_expired, next_due_of}
-use Rattle.st_timeouts.specs.Keys.{before, ordered, NoneBefore, InOrder, key_of, keys_of}
-use Rattle.st_timeouts.specs.Order.{has_come, is_other, OtherThan, OnceEach, first_key, other_keys}
+use Rattle.st_timeouts.specs.Running.{Running, is_zero, is_due_by, moment_of, runs_for, first_zero_of, without_running, in_order}
+use Rattle.st_timeouts.specs.Timeouts.{Listed, Timeouts, all_of, name_of, expiring, first_of, with_expired, with_first_expired, next_due_of}
+use Rattle.st_timeouts.specs.Keys.{ordered, NoneBefore, InOrder, key_of, keys_of}
+use Rattle.st_timeouts.specs.Order.{has_come, is_other, OnceEach, first_key, other_keys}
 use Rattle.st_timeouts.specs.Waiting.{waits, waiting_of, due_keys, zeros_of}
-use Rattle.st_timeouts.proofs.DueLemmas.{ordered_filter, ordered_is, keys_in_order}
+use Rattle.st_timeouts.proofs.DueLemmas.{ordered_filter, keys_in_order}
 use Rattle.st_timeouts.proofs.FallingLemmas.{come_later, other_filter}
 use Rattle.st_timeouts.proofs.OrderLemmas.{all_of_with_expired}
-use Rattle.st_timeouts.proofs.WaitingLemmas.{key_name, keys_without, once_due}
+use Rattle.st_timeouts.proofs.WaitingLemmas.{key_name, keys_without}
 
 -- ---- of keys in order the first that has come is the first
 none_come_first : (now : ℕ) (key : Key) (keys : List Key) → NoneBefore key keys → has_come now key ≡ false → filter (has_come now) keys ≡ []

@@ -1,11 +1,10 @@
 -- A timer's entry as it is listed, and how many wait.
-use Rattle.std.proofs.Common.{◌≡◌, ℕ, zero, suc, ◌+◌, ◌<◌, ◌≤◌, Bool, true, false, not, cond, if◌then◌else◌, List, [], ◌∷◌, map, refl, sym, ap, subst, ◌∙◌, arith, length, get_or, nat_lt}
-use Rattle.std.specs.Prelude.{Option, Some, None, is_some}
+use Rattle.std.proofs.Common.{◌≡◌, ℕ, suc, ◌+◌, ◌<◌, ◌≤◌, Bool, true, false, not, cond, if◌then◌else◌, List, [], ◌∷◌, map, refl, sym, ap, subst, ◌∙◌, arith, length, get_or, nat_lt}
+use Rattle.std.specs.Prelude.{Option, Some}
 use Rattle.std.specs.List.{filter, slice_get, position, position_or_len}
 use Rattle.std.specs.Option.{option_map}
 use Rattle.std.proofs.lemmas.Option.{slice_get-get_or, cond_some}
 use Rattle.st_events.specs.declared.timer.Timer.{Timer}
-use Rattle.st_events.specs.Timers.{same_timer}
 use Rattle.st_events.proofs.ComparedLemmas.{timers_same}
 use Rattle.st_timeouts.specs.declared.entry.Entry.{Entry}
 use Rattle.st_timeouts.specs.declared.key.Key.{Key}

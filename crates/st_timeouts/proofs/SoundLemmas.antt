@@ -1,5 +1,5 @@
 -- What is kept is sound after a time-out was set or stopped.
-use Rattle.std.proofs.Common.{◌≡◌, ℕ, zero, suc, ◌+◌, ◌-◌, ◌<◌, ◌≤◌, Bool, true, false, not, ◌&&◌, if◌then◌else◌, List, [], ◌∷◌, ◌++◌, map, refl, sym, ap, subst, ◌∙◌, arith, length, length-append}
+use Rattle.std.proofs.Common.{◌≡◌, ℕ, ◌+◌, ◌<◌, ◌≤◌, Bool, true, false, if◌then◌else◌, List, [], ◌∷◌, ◌++◌, map, refl, sym, ap, ◌∙◌, arith, length, length-append}
 use Rattle.std.proofs.lemmas.List.{map-append}
 use Rattle.st_events.specs.declared.timer.Timer.{Timer}
 use Rattle.st_timeouts.specs.declared.entry.Entry.{Entry}

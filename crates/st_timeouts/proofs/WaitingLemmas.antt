@@ -1,24 +1,21 @@
 -- What waits after a time-out was set, stopped or handed out.
-use Rattle.std.proofs.Common.{◌≡◌, ℕ, Bool, true, false, not, ◌&&◌, nat_le, if◌then◌else◌, List, [], ◌∷◌, ◌++◌, map, refl, sym, ap, subst, ◌∙◌, arith, length}
-use Rattle.std.specs.Prelude.{Option, Some, None, is_some}
+use Rattle.std.proofs.Common.{◌≡◌, ℕ, Bool, true, false, not, if◌then◌else◌, List, [], ◌∷◌, ◌++◌, refl, sym, ap, subst, ◌∙◌}
+use Rattle.std.specs.Prelude.{Option, Some, None}
 use Rattle.std.specs.List.{filter}
-use Rattle.std.specs.Option.{option_map}
 use Rattle.std.proofs.lemmas.List.{map-append, append-nil}
 use Rattle.std.proofs.lemmas.List.Elements.{filter-append}
 use Rattle.st_events.specs.declared.timer.Timer.{Timer}
 use Rattle.st_events.specs.Timers.{same_timer}
-use Rattle.st_events.proofs.ComparedLemmas.{same_timer_self, timers_same, same_timer_flips}
-use Rattle.st_timeouts.specs.declared.due.Due.{Due}
-use Rattle.st_timeouts.specs.declared.due.Due.TheVariants.{Zero, At}
+use Rattle.st_events.proofs.ComparedLemmas.{same_timer_flips}
 use Rattle.st_timeouts.specs.declared.key.Key.{Key}
-use Rattle.st_timeouts.specs.Running.{Running, is_zero, is_due_by, moment_of, runs_for, running_of, first_zero_of, without_running, OneEach, in_order}
-use Rattle.st_timeouts.specs.Timeouts.{Listed, Timeouts, all_of, name_of, without_listed, expiring, first_of, with_expired, with_first_expired, next_due_of}
+use Rattle.st_timeouts.specs.Running.{Running, runs_for, running_of, without_running, OneEach}
+use Rattle.st_timeouts.specs.Timeouts.{Listed, all_of, without_listed}
 use Rattle.st_timeouts.specs.Keys.{before, put_key, put_late, ordered, key_of, keys_of}
-use Rattle.st_timeouts.specs.Order.{has_come, is_other, NoneElse, OtherThan, OnceEach, first_key, other_keys}
-use Rattle.st_timeouts.specs.Waiting.{waits, waiting_of, due_keys, zeros_of}
-use Rattle.st_timeouts.proofs.DueLemmas.{before_self, ordered_more, ordered_filter, ordered_is, keys_in_order}
+use Rattle.st_timeouts.specs.Order.{is_other, NoneElse, OtherThan, OnceEach}
+use Rattle.st_timeouts.specs.Waiting.{waits, waiting_of, due_keys}
+use Rattle.st_timeouts.proofs.DueLemmas.{before_self, ordered_more, ordered_filter}
 use Rattle.st_timeouts.proofs.FallingLemmas.{other_filter}
-use Rattle.st_timeouts.proofs.OrderLemmas.{not_first, filtered_none, one_each_filtered, all_of_with_expired}
+use Rattle.st_timeouts.proofs.OrderLemmas.{not_first, filtered_none, one_each_filtered}
 
 -- the timer and the number of a key
 abbrev pub key_name : Key → Timer × ℕ

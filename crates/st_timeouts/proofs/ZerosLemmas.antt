@@ -1,12 +1,12 @@
 -- Those that are due at once, where one of them leaves.
-use Rattle.std.proofs.Common.{◌≡◌, ℕ, zero, suc, ◌+◌, ◌<◌, ◌≤◌, Bool, true, false, not, if◌then◌else◌, List, [], ◌∷◌, ◌++◌, map, refl, sym, ap, subst, ◌∙◌, arith, length, take, drop}
-use Rattle.std.specs.Prelude.{Option, Some, None}
+use Rattle.std.proofs.Common.{◌≡◌, ℕ, zero, suc, ◌+◌, ◌<◌, Bool, true, false, not, if◌then◌else◌, List, [], ◌∷◌, ◌++◌, map, refl, sym, ap, subst, ◌∙◌, arith, length, take, drop}
+use Rattle.std.specs.Prelude.{Some, None}
 use Rattle.std.specs.List.{filter, slice_get, remove}
 use Rattle.std.proofs.lemmas.List.{take-append-drop}
 use Rattle.std.proofs.lemmas.List.Elements.{filter-append}
 use Rattle.st_events.specs.declared.timer.Timer.{Timer}
 use Rattle.st_events.specs.Timers.{same_timer}
-use Rattle.st_events.proofs.ComparedLemmas.{same_timer_self, timers_same}
+use Rattle.st_events.proofs.ComparedLemmas.{timers_same}
 use Rattle.st_timeouts.specs.Running.{Running, is_zero, runs_for, running_of, without_running, OneEach}
 use Rattle.st_timeouts.specs.Timeouts.{Listed, all_of, name_of, without_listed}
 use Rattle.st_timeouts.specs.Waiting.{zeros_of}

@@ -1,6 +1,5 @@
 -- The time-outs that wait for a moment, in the order in which they are due.
-use Rattle.std.specs.Prelude.{◌≡◌, ℕ, ◌-◌, ◌+◌, Bool, true, false, not, nat_le, Option, Some, None, List, [], ◌∷◌, reverse}
-use Rattle.std.specs.List.{filter}
+use Rattle.std.specs.Prelude.{◌≡◌, ℕ, ◌-◌, Bool, true, false, not, nat_le, Option, Some, None, List, [], ◌∷◌}
 use Rattle.st_events.specs.declared.timer.Timer.{Timer}
 use Rattle.st_events.specs.Timers.{same_timer}
 use Rattle.st_timeouts.specs.declared.key.Key.{Key}

@@ -1,5 +1,5 @@
 -- Those of the running time-outs that wait: for a moment, or for the events that were received.
-use Rattle.std.specs.Prelude.{◌≡◌, ℕ, ◌+◌, ◌≤◌, Bool, not, ◌&&◌, List, map, filter, length}
+use Rattle.std.specs.Prelude.{ℕ, Bool, not, ◌&&◌, List, map, filter}
 use Rattle.st_events.specs.declared.timer.Timer.{Timer}
 use Rattle.st_timeouts.specs.declared.key.Key.{Key}
 use Rattle.st_timeouts.specs.Running.{Running, is_zero}

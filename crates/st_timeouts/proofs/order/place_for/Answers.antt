@@ -1,4 +1,4 @@
-use Rattle.std.proofs.Common.{◌≡◌, ◌+◌, ◌-◌, ◌/◌, ◌≤◌, suc, length, take, refl, sym, subst, ◌∙◌, arith}
+use Rattle.std.proofs.Common.{◌≡◌, ◌+◌, ◌-◌, ◌/◌, suc, take, sym, subst, ◌∙◌, arith}
 use Rattle.st_timeouts.specs.Keys.{NoneBefore}
 use Rattle.st_timeouts.proofs.FallingLemmas.{before_from, none_to}
 use Rattle.st_timeouts.proofs.order.place_for.Goals as goal

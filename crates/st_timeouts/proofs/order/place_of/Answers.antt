@@ -1,5 +1,4 @@
-use Rattle.std.proofs.Common.{◌≡◌, ◌-◌, ◌≤◌, suc, false, length, drop, reverse, refl, sym, ap, subst, ◌∙◌, arith}
-use Rattle.st_events.specs.Timers.{same_timer}
+use Rattle.std.proofs.Common.{◌≡◌, ◌-◌, suc, drop, sym, subst, ◌∙◌, arith}
 use Rattle.st_events.proofs.ComparedLemmas.{timers_same}
 use Rattle.st_timeouts.specs.Order.{OtherThan}
 use Rattle.st_timeouts.proofs.FallingLemmas.{other_behind, other_more, forgotten, none_forgotten}

@@ -1,18 +1,13 @@
-use Rattle.std.proofs.Common.{◌≡◌, Bool, true, false, map, refl, sym, ap, subst, ◌∙◌, arith}
-use Rattle.std.specs.Prelude.{Some}
-use Rattle.st_events.specs.declared.timer.Timer.{Timer}
-use Rattle.st_timeouts.specs.declared.due.Due.{Due}
+use Rattle.std.proofs.Common.{◌≡◌, true, false, map, refl, sym, ap, subst, ◌∙◌}
 use Rattle.st_timeouts.specs.declared.key.Key.{Key}
 use Rattle.st_timeouts.specs.Entries.{listed_of}
-use Rattle.st_timeouts.specs.Keys.{key_at}
-use Rattle.st_timeouts.specs.Order.{NoneElse, OnceEach, is_other}
-use Rattle.st_timeouts.specs.Running.{is_zero, moment_of}
-use Rattle.st_timeouts.specs.Timeouts.{Listed, without_listed}
-use Rattle.st_timeouts.specs.Waiting.{waits, due_keys, zeros_of}
+use Rattle.st_timeouts.specs.Order.{OnceEach, is_other}
+use Rattle.st_timeouts.specs.Running.{is_zero}
+use Rattle.st_timeouts.specs.Waiting.{waits}
 use Rattle.st_timeouts.specs.Zeros.{OnceZeros, other_zero}
 use Rattle.std.specs.List.{filter}
-use Rattle.st_timeouts.proofs.WaitingLemmas.{listed_for, due_keys_none, due_keys_still, due_keys_without, once_due, none_else_due}
-use Rattle.st_timeouts.proofs.ZerosLemmas.{zeros_none, zeros_still, zeros_without, once_zeros}
+use Rattle.st_timeouts.proofs.WaitingLemmas.{due_keys_none, due_keys_without, once_due}
+use Rattle.st_timeouts.proofs.ZerosLemmas.{zeros_none, zeros_without, once_zeros}
 use Rattle.st_timeouts.proofs.EntryLemmas.{not_found}
 use Rattle.st_timeouts.proofs.KeptLemmas.{found_listed, listed_timer, still_keys, still_zeros, else_key}
 use Rattle.st_timeouts.proofs.timeouts.forget.Goals as goal

@@ -1,7 +1,5 @@
-use Rattle.std.proofs.Common.{◌≡◌, map, sym, subst, ◌∙◌}
-use Rattle.st_events.specs.declared.timer.Timer.{Timer}
+use Rattle.std.proofs.Common.{map, sym, ◌∙◌}
 use Rattle.st_timeouts.specs.Entries.{listed_of}
-use Rattle.st_timeouts.specs.Timeouts.{with_expired}
 use Rattle.st_timeouts.proofs.EntryLemmas.{expired_at, expired_none, not_found}
 use Rattle.st_timeouts.proofs.KeptLemmas.{place_within, found_listed, listed_timer}
 use Rattle.st_timeouts.proofs.timeouts.mark.Goals as goal

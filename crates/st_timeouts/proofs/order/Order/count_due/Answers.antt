@@ -1,4 +1,4 @@
-use Rattle.std.proofs.Common.{◌≡◌, ◌-◌, ◌≤◌, suc, length, drop, refl, sym, ap, subst, ◌∙◌, arith}
+use Rattle.std.proofs.Common.{◌≡◌, ◌-◌, suc, length, drop, sym, ap, subst, ◌∙◌, arith}
 use Rattle.st_timeouts.proofs.FallingLemmas.{AllCome, come_more, come_behind, all_come}
 use Rattle.st_timeouts.proofs.order.Order.count_due.Goals as goal
 use Rattle.st_timeouts.proofs.order.Order.count_due.Goals.{else-loop-place-test, then-loop-place-test+then-not-reached}

@@ -1,5 +1,4 @@
-use Rattle.std.proofs.Common.{◌≡◌, ◌-◌, suc, length, ap, ◌∙◌, arith}
-use Rattle.st_timeouts.specs.Order.{first_key}
+use Rattle.std.proofs.Common.{◌≡◌, ◌-◌, suc, length, arith}
 use Rattle.st_timeouts.proofs.FallingLemmas.{first_reversed}
 use Rattle.st_timeouts.proofs.order.Order.first.Goals as goal
 

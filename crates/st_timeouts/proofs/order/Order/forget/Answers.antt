@@ -1,8 +1,7 @@
-use Rattle.std.proofs.Common.{◌≡◌, length, reverse, refl, sym, ap, subst, ◌∙◌, arith}
+use Rattle.std.proofs.Common.{ap, ◌∙◌, arith}
 use Rattle.std.specs.Prelude.{is_some}
-use Rattle.std.specs.List.{filter, remove}
+use Rattle.std.specs.List.{remove}
 use Rattle.std.proofs.lemmas.List.{length-reverse}
-use Rattle.st_timeouts.specs.Keys.{InOrder}
 use Rattle.st_timeouts.specs.Order.{is_other}
 use Rattle.st_timeouts.proofs.FallingLemmas.{in_order_filtered, is_some_within, on_some, shorter}
 use Rattle.st_timeouts.proofs.order.Order.forget.Goals as goal

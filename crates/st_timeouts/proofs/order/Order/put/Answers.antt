@@ -1,5 +1,4 @@
-use Rattle.std.proofs.Common.{◌≡◌, refl, sym, ap, subst, ◌∙◌}
-use Rattle.st_timeouts.specs.Keys.{InOrder}
+use Rattle.std.proofs.Common.{refl}
 use Rattle.st_timeouts.proofs.FallingLemmas.{inserted, late_in_order}
 use Rattle.st_timeouts.proofs.order.Order.put.Goals as goal
 

@@ -1,9 +1,7 @@
-use Rattle.std.proofs.Common.{◌≡◌, ◌-◌, ◌<◌, suc, length, reverse, refl, sym, ap, subst, ◌∙◌, arith}
+use Rattle.std.proofs.Common.{◌≡◌, ◌-◌, ◌<◌, suc, length, reverse, ap, ◌∙◌, arith}
 use Rattle.std.specs.Prelude.{is_some}
 use Rattle.std.specs.List.{remove}
 use Rattle.std.proofs.lemmas.List.{length-reverse}
-use Rattle.st_timeouts.specs.Keys.{InOrder}
-use Rattle.st_timeouts.specs.Order.{other_keys}
 use Rattle.st_timeouts.proofs.FallingLemmas.{in_order_others, first_reversed, others_reversed, on_some, shorter}
 use Rattle.st_timeouts.proofs.order.Order.take.Goals as goal
 

@@ -1,6 +1,5 @@
-use Rattle.std.proofs.Common.{◌≡◌, map, false, refl, sym, ap, subst, ◌∙◌}
+use Rattle.std.proofs.Common.{◌≡◌, map, false, refl, sym, ap, ◌∙◌}
 use Rattle.std.specs.Prelude.{None, Some}
-use Rattle.std.specs.List.{filter}
 use Rattle.st_timeouts.specs.Entries.{listed_of}
 use Rattle.st_timeouts.specs.Running.{in_order}
 use Rattle.st_timeouts.specs.Timeouts.{expiring}
@@ -8,7 +7,6 @@ use Rattle.st_timeouts.specs.Keys.{keys_of}
 use Rattle.st_timeouts.specs.Order.{has_come, first_key}
 use Rattle.st_timeouts.specs.Waiting.{waiting_of, due_keys}
 use Rattle.st_timeouts.proofs.DueLemmas.{ordered_is}
-use Rattle.st_timeouts.proofs.WaitingLemmas.{key_name}
 use Rattle.st_timeouts.proofs.HandedLemmas.{first_come, none_come_none, expiring_keys, waiting_keys, name_by_key, expired_by_key, none_expired_by_key}
 use Rattle.st_timeouts.proofs.timeouts.Timeouts.next_expiry.Goals as goal
 

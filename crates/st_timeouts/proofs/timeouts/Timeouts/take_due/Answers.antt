@@ -1,14 +1,12 @@
-use Rattle.std.proofs.Common.{◌≡◌, ◌+◌, ◌≤◌, map, length, refl, sym, ap, subst, ◌∙◌, arith}
+use Rattle.std.proofs.Common.{◌≡◌, map, refl, sym, ap, ◌∙◌, arith}
 use Rattle.std.specs.Prelude.{None, Some}
-use Rattle.std.specs.Option.{option_map}
 use Rattle.st_timeouts.specs.Entries.{listed_of}
-use Rattle.st_timeouts.specs.Running.{OneEach, in_order}
-use Rattle.st_timeouts.specs.Timeouts.{all_of, with_expired}
+use Rattle.st_timeouts.specs.Running.{in_order}
 use Rattle.st_timeouts.specs.Keys.{keys_of}
 use Rattle.st_timeouts.specs.Order.{first_key, other_keys}
 use Rattle.st_timeouts.specs.Waiting.{waiting_of, due_keys, zeros_of}
 use Rattle.st_timeouts.proofs.OrderLemmas.{all_of_with_expired}
-use Rattle.st_timeouts.proofs.WaitingLemmas.{key_name, once_due}
+use Rattle.st_timeouts.proofs.WaitingLemmas.{once_due}
 use Rattle.st_timeouts.proofs.HandedLemmas.{waiting_keys, name_by_key, expired_by_key, none_expired_by_key, others_are, due_keys_expired, zeros_expired}
 use Rattle.st_timeouts.proofs.timeouts.Timeouts.take_due.Goals as goal
 
