@@ -1,21 +1,22 @@
--- What is kept is sound after a time-out was set or stopped.
-use Rattle.std.proofs.Common.{◌≡◌, ℕ, ◌+◌, ◌<◌, ◌≤◌, Bool, true, false, if◌then◌else◌, List, [], ◌∷◌, ◌++◌, map, refl, sym, ap, ◌∙◌, arith, length, length-append}
-use Rattle.std.proofs.lemmas.List.{map-append}
+-- What is kept is sound after a time-out was set, stopped or handed out.
+use Rattle.std.proofs.Common.{◌≡◌, ℕ, ◌+◌, ◌<◌, ◌≤◌, Bool, true, false, if◌then◌else◌, List, [], ◌∷◌, ◌++◌, map, refl, sym, ap, ◌∙◌, arith, length, length-append, ◌⊎◌}
+use Rattle.std.specs.Prelude.{Some}
 use Rattle.st_events.specs.declared.timer.Timer.{Timer}
+use Rattle.st_events.specs.Timers.{same_timer}
+use Rattle.st_timer_map.specs.Rows.{Rows, without_timer, with_put, with_removed, with_marked}
 use Rattle.st_timeouts.specs.declared.entry.Entry.{Entry}
 use Rattle.st_timeouts.specs.declared.key.Key.{Key}
-use Rattle.st_timeouts.specs.Entries.{running, listed_of, IsSound}
+use Rattle.st_timeouts.specs.Entries.{running, listed_row, listed_of, IsSound}
 use Rattle.st_timeouts.specs.Keys.{put_late, key_of}
-use Rattle.st_timeouts.specs.Order.{Order, with_key}
+use Rattle.st_timeouts.specs.Order.{Order, with_key, first_key, other_keys}
 use Rattle.st_timeouts.specs.Running.{is_zero}
-use Rattle.st_timeouts.specs.Timeouts.{without_listed}
+use Rattle.st_timeouts.specs.Timeouts.{Listed, runs, without_listed}
 use Rattle.st_timeouts.specs.Waiting.{waits, due_keys, zeros_of}
 use Rattle.st_timeouts.specs.Zeros.{Zeros, with_zero}
-use Rattle.st_timeouts.proofs.EntryLemmas.{one_each_pushed}
-use Rattle.st_timeouts.proofs.HandedLemmas.{zeros_put, zeros_same}
-use Rattle.st_timeouts.proofs.KeptLemmas.{length_late}
-use Rattle.st_timeouts.proofs.OrderLemmas.{one_each_without}
-use Rattle.st_timeouts.proofs.WaitingLemmas.{due_keys_more, due_keys_same}
+use Rattle.st_timeouts.proofs.HandedLemmas.{zeros_put, zeros_same, others_are, due_keys_expired, zeros_expired}
+use Rattle.st_timeouts.proofs.RowLemmas.{length_late, length_map, listed_put, listed_without, listed_marked, fits_put, fits_place, fewer_rows, zeros_at_most, keys_at_most}
+use Rattle.st_timeouts.proofs.OrderLemmas.{one_each_without, one_each_set, all_of_with_expired}
+use Rattle.st_timeouts.proofs.WaitingLemmas.{due_keys_more, due_keys_same, once_due}
 
 zeros_places : (z : Bool) (zeros : Zeros) (timer : Timer) (number : ℕ) → 0 < zeros.reserved
     → zeros.reserved + length zeros.items ≤ (if z then with_zero zeros timer number else zeros).reserved + length (if z then with_zero zeros timer number else zeros).items
@@ -28,61 +29,88 @@ keys_places true order key h = omega arith
 keys_places false order key h = omega (arith, h, length_late key order.keys)
 
 module _ {C : Type 0} where
-  more : (after : List (Entry C)) (entry : Entry C) → map listed_of (after ++ entry ∷ []) ≡ map listed_of after ++ listed_of entry ∷ []
-  more after entry = map-append listed_of after (entry ∷ [])
+  put_zeros : (z : Bool) (listed : List (Listed C)) (one : Listed C) (zeros : Zeros) → is_zero one.running.due ≡ z → zeros.items ≡ zeros_of listed
+      → (if z then with_zero zeros one.running.timer one.running.number else zeros).items ≡ zeros_of (listed ++ one ∷ [])
+  put_zeros true listed one zeros e h = ap (λ t. t ++ (one.running.timer, one.running.number) ∷ []) h ∙ sym (zeros_put listed one e)
+  put_zeros false listed one zeros e h = h ∙ sym (zeros_same listed one e)
 
-  put_zeros : (z : Bool) (after : List (Entry C)) (entry : Entry C) (zeros : Zeros) → is_zero entry.due ≡ z → zeros.items ≡ zeros_of (map listed_of after)
-      → (if z then with_zero zeros entry.timer entry.number else zeros).items ≡ zeros_of (map listed_of (after ++ entry ∷ []))
-  put_zeros true after entry zeros e h =
-      ap (λ t. t ++ (entry.timer, entry.number) ∷ []) h ∙ (sym (zeros_put (map listed_of after) (listed_of entry) e) ∙ ap zeros_of (sym (more after entry)))
-  put_zeros false after entry zeros e h = h ∙ (sym (zeros_same (map listed_of after) (listed_of entry) e) ∙ ap zeros_of (sym (more after entry)))
+  put_keys : (z : Bool) (listed : List (Listed C)) (one : Listed C) (order : Order) → is_zero one.running.due ≡ z → one.expired ≡ false → order.keys ≡ due_keys listed
+      → (if z then order else with_key order (key_of one.running)).keys ≡ due_keys (listed ++ one ∷ [])
+  put_keys true listed one order e f h = let still : waits one ≡ false = rw e refl in h ∙ sym (due_keys_same listed one still)
+  put_keys false listed one order e f h =
+      let waiting : waits one ≡ true = rw (e, f) refl in ap (put_late (key_of one.running)) h ∙ sym (due_keys_more listed one waiting)
 
-  put_keys : (z : Bool) (after : List (Entry C)) (entry : Entry C) (order : Order) → is_zero entry.due ≡ z → entry.expired ≡ false → order.keys ≡ due_keys (map listed_of after)
-      → (if z then order else with_key order (key_of (running entry))).keys ≡ due_keys (map listed_of (after ++ entry ∷ []))
-  put_keys true after entry order e f h =
-      let still : waits (listed_of entry) ≡ false = rw e refl in
-      h ∙ (sym (due_keys_same (map listed_of after) (listed_of entry) still) ∙ ap due_keys (sym (more after entry)))
-  put_keys false after entry order e f h =
-      let waiting : waits (listed_of entry) ≡ true = rw (e, f) refl in
-      ap (put_late (key_of (running entry))) h ∙ (sym (due_keys_more (map listed_of after) (listed_of entry) waiting) ∙ ap due_keys (sym (more after entry)))
+  -- where a timer is forgotten there is a place for it
+  pub zeros_room : (kept : Rows (Entry C)) (timer : Timer) (zeros zeros1 : Zeros) (order : Order) → IsSound kept zeros order
+      → (runs timer (listed_of kept.rows) ≡ true) ⊎ (0 < kept.reserved) → zeros1.items ≡ zeros_of (without_listed timer (listed_of kept.rows))
+      → zeros1.reserved + length zeros1.items ≡ zeros.reserved + length zeros.items → 0 < zeros1.reserved
+  zeros_room kept timer zeros zeros1 order sound h z zp =
+      let there = fits_place kept timer h in
+      let long = ap length (z ∙ ap zeros_of (sym (listed_without timer kept.rows))) in
+      let most = zeros_at_most (without_timer timer kept.rows) in
+      omega (arith, there, long, most, sound.zeros_fit, zp)
 
-  pub sound_set : (entries after : List (Entry C)) (entry : Entry C) (ready left capacity same : ℕ) (zeros zeros1 zeros2 : Zeros) (order order1 order2 : Order)
-      → IsSound entries ready capacity zeros order
-      → map listed_of after ≡ without_listed entry.timer (map listed_of entries) → same ≡ capacity → length after + 1 + left ≤ length entries + ready
-      → zeros1.items ≡ zeros_of (without_listed entry.timer (map listed_of entries)) → order1.keys ≡ due_keys (without_listed entry.timer (map listed_of entries))
+  pub keys_room : (kept : Rows (Entry C)) (timer : Timer) (zeros : Zeros) (order order1 : Order) → IsSound kept zeros order
+      → (runs timer (listed_of kept.rows) ≡ true) ⊎ (0 < kept.reserved) → order1.keys ≡ due_keys (without_listed timer (listed_of kept.rows))
+      → order1.reserved + length order1.keys ≡ order.reserved + length order.keys → 0 < order1.reserved
+  keys_room kept timer zeros order order1 sound h k kp =
+      let there = fits_place kept timer h in
+      let long = ap length (k ∙ ap due_keys (sym (listed_without timer kept.rows))) in
+      let most = keys_at_most (without_timer timer kept.rows) in
+      omega (arith, there, long, most, sound.keys_fit, kp)
+
+  pub sound_set : (kept : Rows (Entry C)) (timer : Timer) (entry : Entry C) (zeros zeros1 zeros2 : Zeros) (order order1 order2 : Order)
+      → IsSound kept zeros order → (runs timer (listed_of kept.rows) ≡ true) ⊎ (0 < kept.reserved)
+      → zeros1.items ≡ zeros_of (without_listed timer (listed_of kept.rows)) → order1.keys ≡ due_keys (without_listed timer (listed_of kept.rows))
       → zeros1.reserved + length zeros1.items ≡ zeros.reserved + length zeros.items → order1.reserved + length order1.keys ≡ order.reserved + length order.keys
-      → 0 < zeros1.reserved → 0 < order1.reserved → entry.expired ≡ false
-      → zeros2 ≡ (if is_zero entry.due then with_zero zeros1 entry.timer entry.number else zeros1)
-      → order2 ≡ (if is_zero entry.due then order1 else with_key order1 (key_of (running entry)))
-      → IsSound (after ++ entry ∷ []) left same zeros2 order2
-  sound_set entries after entry ready left capacity same zeros zeros1 zeros2 order order1 order2 sound fewer kept within z k zp kp zr kr x ze ke =
-      let zeros_in : zeros1.items ≡ zeros_of (map listed_of after) = z ∙ ap zeros_of (sym fewer) in
-      let keys_in : order1.keys ≡ due_keys (map listed_of after) = k ∙ ap due_keys (sym fewer) in
-      let zeros_kept = zeros_places (is_zero entry.due) zeros1 entry.timer entry.number zr in
-      let keys_kept = keys_places (is_zero entry.due) order1 (key_of (running entry)) kr in
+      → entry.expired ≡ false
+      → zeros2 ≡ (if is_zero entry.due then with_zero zeros1 timer entry.number else zeros1)
+      → order2 ≡ (if is_zero entry.due then order1 else with_key order1 (key_of (running timer entry)))
+      → IsSound (with_put kept timer entry) zeros2 order2
+  sound_set kept timer entry zeros zeros1 zeros2 order order1 order2 sound h z k zp kp x ze ke =
+      let listed = listed_of kept.rows in
+      let put = listed_put kept timer entry in
+      let zeros_kept = zeros_places (is_zero entry.due) zeros1 timer entry.number (zeros_room kept timer zeros zeros1 order sound h z zp) in
+      let keys_kept = keys_places (is_zero entry.due) order1 (key_of (running timer entry)) (keys_room kept timer zeros order order1 sound h k kp) in
       let zeros_sum : zeros1.reserved + length zeros1.items ≤ zeros2.reserved + length zeros2.items = rw ze zeros_kept in
       let keys_sum : order1.reserved + length order1.keys ≤ order2.reserved + length order2.keys = rw ke keys_kept in
-      let longer = length-append after (entry ∷ []) in
+      let fits = fits_put kept timer entry h in
       record {
-        one_each = one_each_pushed entries after entry sound.one_each fewer;
-        fits = omega (arith, sound.fits, kept, within, longer);
-        zeros_are = ap (λ (t : Zeros). t.items) ze ∙ put_zeros (is_zero entry.due) after entry zeros1 refl zeros_in;
-        keys_are = ap (λ (t : Order). t.keys) ke ∙ put_keys (is_zero entry.due) after entry order1 refl x keys_in;
-        zeros_fit = omega (arith, sound.zeros_fit, zp, zeros_sum, within, longer);
-        keys_fit = omega (arith, sound.keys_fit, kp, keys_sum, within, longer);
+        one_each = rw put (one_each_set timer (listed_row (timer, entry)) listed refl sound.one_each);
+        zeros_are = ap (λ (t : Zeros). t.items) ze ∙ (put_zeros (is_zero entry.due) (without_listed timer listed) (listed_row (timer, entry)) zeros1 refl z ∙ ap zeros_of (sym put));
+        keys_are = ap (λ (t : Order). t.keys) ke ∙ (put_keys (is_zero entry.due) (without_listed timer listed) (listed_row (timer, entry)) order1 refl x k ∙ ap due_keys (sym put));
+        zeros_fit = omega (arith, sound.zeros_fit, zp, zeros_sum, fits);
+        keys_fit = omega (arith, sound.keys_fit, kp, keys_sum, fits);
       }
 
-  pub sound_cancelled : (entries after : List (Entry C)) (timer : Timer) (ready capacity same : ℕ) (zeros zeros1 : Zeros) (order order1 : Order)
-      → IsSound entries ready capacity zeros order
-      → map listed_of after ≡ without_listed timer (map listed_of entries) → same ≡ capacity → length after ≤ length entries
-      → zeros1.items ≡ zeros_of (without_listed timer (map listed_of entries)) → order1.keys ≡ due_keys (without_listed timer (map listed_of entries))
+  pub sound_cancelled : (kept : Rows (Entry C)) (timer : Timer) (zeros zeros1 : Zeros) (order order1 : Order) → IsSound kept zeros order
+      → zeros1.items ≡ zeros_of (without_listed timer (listed_of kept.rows)) → order1.keys ≡ due_keys (without_listed timer (listed_of kept.rows))
       → zeros1.reserved + length zeros1.items ≡ zeros.reserved + length zeros.items → order1.reserved + length order1.keys ≡ order.reserved + length order.keys
-      → IsSound after ready same zeros1 order1
-  sound_cancelled entries after timer ready capacity same zeros zeros1 order order1 sound fewer kept within z k zp kp = record {
-    one_each = rw fewer (one_each_without timer (map listed_of entries) sound.one_each);
-    fits = omega (arith, sound.fits, kept, within);
-    zeros_are = z ∙ ap zeros_of (sym fewer);
-    keys_are = k ∙ ap due_keys (sym fewer);
-    zeros_fit = omega (arith, sound.zeros_fit, zp, within);
-    keys_fit = omega (arith, sound.keys_fit, kp, within);
-  }
+      → IsSound (with_removed kept timer) zeros1 order1
+  sound_cancelled kept timer zeros zeros1 order order1 sound z k zp kp =
+      let fewer = listed_without timer kept.rows in
+      let less = fewer_rows timer kept.rows in
+      record {
+        one_each = rw fewer (one_each_without timer (listed_of kept.rows) sound.one_each);
+        zeros_are = z ∙ ap zeros_of (sym fewer);
+        keys_are = k ∙ ap due_keys (sym fewer);
+        zeros_fit = omega (arith, sound.zeros_fit, zp, less);
+        keys_fit = omega (arith, sound.keys_fit, kp, less);
+      }
+
+  pub sound_handed : (kept : Rows (Entry C)) (zeros : Zeros) (order order1 : Order) (key : Key) → IsSound kept zeros order → first_key order.keys ≡ Some key
+      → order1.keys ≡ other_keys order.keys → order1.reserved + length order1.keys ≡ order.reserved + length order.keys
+      → IsSound (with_marked (λ (entry : Entry C). record entry { expired = true }) kept key.timer) zeros order1
+  sound_handed kept zeros order order1 key sound first others places =
+      let listed = listed_of kept.rows in
+      let marked = listed_marked key.timer kept.rows in
+      let some : first_key (due_keys listed) ≡ Some key = sym (ap first_key sound.keys_are) ∙ first in
+      let as_many = length_map {Y = Timer × Entry C} (λ (row : Timer × Entry C). (row.0, if same_timer key.timer row.0 then (record (row.1) { expired = true }) else row.1)) kept.rows in
+      record {
+        one_each = rw (marked, all_of_with_expired key.timer listed) sound.one_each;
+        zeros_are = sound.zeros_are ∙ (sym (zeros_expired key.timer listed) ∙ ap zeros_of (sym marked));
+        keys_are = others ∙ (ap other_keys sound.keys_are
+            ∙ (others_are (due_keys listed) key (once_due listed sound.one_each) some ∙ (sym (due_keys_expired key.timer listed) ∙ ap due_keys (sym marked))));
+        zeros_fit = omega (arith, sound.zeros_fit, as_many);
+        keys_fit = omega (arith, sound.keys_fit, as_many, places);
+      }

@@ -1,8 +1,7 @@
 //! The running time-outs: in the order in which they were set, and those that wait in the order in which they are due.
-ghost use Rattle.std.specs.Prelude.{◌≡◌, ◌+◌, ◌<◌, ◌≤◌, ◌^◌, ◌⊎◌, true, [], length, map, max, is_some, option_copied, position, Some, if◌then◌else◌, IsOk, IfOk, OnOk, OnErr};
+ghost use Rattle.std.specs.Prelude.{◌≡◌, ◌+◌, ◌<◌, ◌≤◌, ◌^◌, ◌⊎◌, true, [], length, map, max, is_some, option_copied, if◌then◌else◌, IsOk, IfOk, OnOk, OnErr};
 ghost use Rattle.std.specs.Option.{option_map};
-ghost use Rattle.std.specs.Vec.{vec_capacity};
-ghost use Rattle.st_timeouts.specs.Entries.{listed_of, is_for};
+ghost use Rattle.st_timeouts.specs.Entries.{listed_of};
 ghost use Rattle.st_timeouts.specs.Keys.{key_at};
 ghost use Rattle.st_timeouts.specs.Order.{with_key};
 ghost use Rattle.st_timeouts.specs.Running.{is_zero, first_zero_of, moment_of, due_after, in_order, OneEach};
@@ -18,6 +17,7 @@ use crate::order::Order;
 use crate::zeros::Zeros;
 use st_events::{PlainList, Timer};
 use st_steps::Steps;
+use st_timer_map::TimerMap;
 use std::alloc::{AllocError, Global};
 use std::marker::Model;
 use std::sync::ledger::Ledger;
@@ -30,26 +30,22 @@ use std::sync::ledger::Ledger;
 /// Manual: `timeout_action()`.
 #[derive(Drop)]
 pub struct Timeouts<C> {
-    entries: Vec<Entry<C>>,
+    entries: TimerMap<Entry<C>>,
     // Those that are due at once.
     zeros: Zeros,
     // Those that wait for a moment.
     order: Order,
-    // How many can be set that do not run, without memory.
-    ready: usize,
 }
 
 impl<C> Model for Timeouts<C> {
-    ghost use Rattle.std.specs.Prelude.{map};
-    ghost use Rattle.std.specs.Vec.{vec_capacity};
     ghost use Rattle.st_timeouts.specs.Timeouts.{Timeouts};
     ghost use Rattle.st_timeouts.specs.Entries.{listed_of, IsSound};
 
     ghost Value = { Timeouts C };
 
-    ghost view = { λ timeouts. record { listed = map listed_of timeouts.entries.items; reserved = timeouts.ready } };
+    ghost view = { λ timeouts. record { listed = listed_of timeouts.entries.rows; reserved = timeouts.entries.reserved } };
 
-    ghost invariant = { λ timeouts. IsSound timeouts.entries.items timeouts.ready (vec_capacity timeouts.entries) timeouts.zeros timeouts.order };
+    ghost invariant = { λ timeouts. IsSound timeouts.entries timeouts.zeros timeouts.order };
 }
 
 impl<C> Timeouts<C> {
@@ -60,10 +56,9 @@ impl<C> Timeouts<C> {
         ensures { result ≡ record { listed = []; reserved = 0 } }
     {
         Timeouts {
-            entries: Vec::new(alloc),
+            entries: TimerMap::new(alloc),
             zeros: Zeros::new(alloc),
             order: Order::new(alloc),
-            ready: 0,
         }
     }
 
@@ -113,7 +108,7 @@ impl<C> Timeouts<C> {
         ensures handed_out { self.new ≡ with_first_expired (in_order (waiting_of self.old.listed)) self.old }
     {
         let first = self.order.take()?;
-        mark(&mut self.entries, first.timer);
+        self.entries.mark(first.timer);
         Some((first.timer, first.number))
     }
 
@@ -133,8 +128,7 @@ impl<C> Timeouts<C> {
     pub fn content(&self, timer: Timer, number: u64) -> Option<&C>
         ensures { option_copied result ≡ option_map (λ one. one.content) (live timer number self.now.listed) }
     {
-        let place = place_of(&self.entries, timer)?;
-        let entry = &self.entries[place];
+        let entry = self.entries.get(timer)?;
         if entry.number != number {
             return None;
         }
@@ -157,8 +151,7 @@ impl<C> Timeouts<C> {
     pub fn list(&self) -> Result<PlainList<(Timer, u64, Due)>, AllocError>
         ensures { IfOk result (λ list. list ≡ map shown self.now.listed) }
     {
-        let alloc = *self.entries.allocator();
-        Ok(PlainList::from(rows_of(alloc, &self.entries)?))
+        Ok(PlainList::from(self.entries.list()?))
     }
 }
 
@@ -173,15 +166,13 @@ impl<C: Drop> Timeouts<C> {
         ensures enough { count ≤ self.old.reserved → IsOk result }
         ensures unchanged { OnErr result (self.new ≡ self.old) }
     {
-        if count <= self.ready {
+        if count <= self.entries.reserved() {
             return Ok(());
         }
         let total = self.entries.len().checked_add(count).ok_or(AllocError)?;
         self.zeros.reserve(total.saturating_sub(self.zeros.len()))?;
         self.order.reserve(total.saturating_sub(self.order.len()))?;
-        self.entries.reserve(count)?;
-        self.ready = count;
-        Ok(())
+        self.entries.reserve(count)
     }
 
     /// Sets a timer at a moment, for so many milliseconds: it is due that long after the moment, or at once
@@ -196,20 +187,18 @@ impl<C: Drop> Timeouts<C> {
         ensures set { self.new ≡ with_set self.old (begun timer time content number now) }
     {
         forget(&self.entries, &mut self.zeros, &mut self.order, timer); // before it waits anew
-        let old = remove_of(&mut self.entries, timer);
-        if old.is_none() {
-            self.ready -= 1;
-        }
         let due = due_after(time, now);
         line_up(&mut self.zeros, &mut self.order, timer, number, due);
-        self.entries.push_reserved(Entry {
+        let old = self.entries.put(
             timer,
-            number,
-            due,
-            content,
-            expired: false,
-        });
-        old
+            Entry {
+                number,
+                due,
+                content,
+                expired: false,
+            },
+        );
+        content_in(old)
     }
 
     /// Stops a timer: its time-out runs no more, and its content comes back.
@@ -220,7 +209,7 @@ impl<C: Drop> Timeouts<C> {
         ensures cancelled { self.new ≡ with_cancelled self.old timer }
     {
         forget(&self.entries, &mut self.zeros, &mut self.order, timer);
-        remove_of(&mut self.entries, timer)
+        content_in(self.entries.remove(timer))
     }
 
     /// Takes the time-out of a timer whose event has this number out, if it runs, and hands its content
@@ -239,40 +228,19 @@ impl<C: Drop> Timeouts<C> {
     }
 }
 
-/// The place of a timer's entry.
-fn place_of<C>(entries: &[Entry<C>], timer: Timer) -> Option<usize>
-    ensures { result ≡ position (is_for timer) entries.now }
-{
-    entries.iter().position(|entry| entry.timer == timer)
-}
-
-/// The expiry of a timer's entry was handed out.
-fn mark<C>(entries: &mut Vec<Entry<C>>, timer: Timer)
-    requires { OneEach (all_of (map listed_of entries.old.items)) }
-    ensures marked { map listed_of entries.new.items ≡ with_expired timer (map listed_of entries.old.items) }
-    ensures length { length entries.new.items ≡ length entries.old.items }
-    ensures capacity { vec_capacity entries.new ≡ vec_capacity entries.old }
-{
-    if let Some(place) = place_of(entries, timer) {
-        let entry = &mut entries[place];
-        entry.expired = true;
-    }
-}
-
 /// Takes a timer out of those that wait.
-fn forget<C>(entries: &[Entry<C>], zeros: &mut Zeros, order: &mut Order, timer: Timer)
-    requires one_each { OneEach (all_of (map listed_of entries.now)) }
-    requires zeros { zeros.old.items ≡ zeros_of (map listed_of entries.now) }
-    requires keys { order.old.keys ≡ due_keys (map listed_of entries.now) }
-    ensures zeros { zeros.new.items ≡ zeros_of (without_listed timer (map listed_of entries.now)) }
-    ensures keys { order.new.keys ≡ due_keys (without_listed timer (map listed_of entries.now)) }
+fn forget<C>(entries: &TimerMap<Entry<C>>, zeros: &mut Zeros, order: &mut Order, timer: Timer)
+    requires one_each { OneEach (all_of (listed_of entries.now.rows)) }
+    requires zeros { zeros.old.items ≡ zeros_of (listed_of entries.now.rows) }
+    requires keys { order.old.keys ≡ due_keys (listed_of entries.now.rows) }
+    ensures zeros { zeros.new.items ≡ zeros_of (without_listed timer (listed_of entries.now.rows)) }
+    ensures keys { order.new.keys ≡ due_keys (without_listed timer (listed_of entries.now.rows)) }
     ensures zeros_places { zeros.new.reserved + length zeros.new.items ≡ zeros.old.reserved + length zeros.old.items }
     ensures keys_places { order.new.reserved + length order.new.keys ≡ order.old.reserved + length order.old.keys }
 {
-    let Some(place) = place_of(entries, timer) else {
+    let Some(entry) = entries.get(timer) else {
         return;
     };
-    let entry = &entries[place];
     match entry.due {
         Due::Zero => zeros.forget(timer),
         Due::At(moment) => {
@@ -307,16 +275,6 @@ fn key(timer: Timer, number: u64, moment: u64) -> Key
     }
 }
 
-/// Each entry's timer, number and when it is due.
-fn rows_of<C>(alloc: Global, entries: &[Entry<C>]) -> Result<Vec<(Timer, u64, Due)>, AllocError>
-    ensures { IfOk result (λ rows. rows.items ≡ map (λ entry. (entry.timer, entry.number, entry.due)) entries.now) }
-{
-    entries
-        .iter()
-        .map(|entry| (entry.timer, entry.number, entry.due))
-        .collect(alloc)
-}
-
 /// When a time-out is due that is set for so many milliseconds at a moment.
 fn due_after(time: u32, now: u64) -> Due
     requires { now < 2 ^ 63 }
@@ -329,21 +287,15 @@ fn due_after(time: u32, now: u64) -> Due
     }
 }
 
-/// Takes a timer's entry out, and hands its content over. The vector keeps its memory.
-fn remove_of<C>(entries: &mut Vec<Entry<C>>, timer: Timer) -> Option<C>
-    requires { OneEach (all_of (map listed_of entries.old.items)) }
-    ensures content { result ≡ content_of timer (map listed_of entries.old.items) }
-    ensures removed { map listed_of entries.new.items ≡ without_listed timer (map listed_of entries.old.items) }
-    ensures length { length entries.new.items + (if is_some result then 1 else 0) ≡ length entries.old.items }
-    ensures capacity { vec_capacity entries.new ≡ vec_capacity entries.old }
+/// The content of an entry, where there is one.
+fn content_in<C>(entry: Option<Entry<C>>) -> Option<C>
+    ensures { result ≡ option_map (λ entry. entry.content) entry }
 {
-    let place = place_of(entries, timer)?;
     let Entry {
-        timer: _,
         number: _,
         due: _,
         content,
         expired: _,
-    } = entries.remove(place);
+    } = entry?;
     Some(content)
 }

@@ -6,13 +6,12 @@ use Rattle.std.specs.Prelude.{Option, Some, None, is_some, IfSome}
 use Rattle.std.specs.Option.{option_map, option_or}
 use Rattle.std.proofs.lemmas.List.{length-set, take_more, take_all, length-take-le}
 use Rattle.std.proofs.lemmas.Option.{slice_get-get_or}
-use Rattle.std.proofs.lemmas.List.Sums.{prefix_len-le-length}
 use Rattle.std.proofs.lemmas.Bool.Decides.{nat_tests}
 use Rattle.st_events.specs.declared.timer.Timer.{Timer}
 use Rattle.st_events.specs.Timers.{same_timer}
 use Rattle.st_events.proofs.ComparedLemmas.{same_timer_self, same_timer_flips, timers_same}
 use Rattle.st_timer_map.specs.declared.slot.Slot.{Slot}
-use Rattle.st_timer_map.specs.Rows.{value_of, without_timer, OnceEach, first_of}
+use Rattle.st_timer_map.specs.Rows.{value_of, without_timer, OnceEach}
 use Rattle.st_timer_map.specs.Slots.{row_of, is_for, rows_of, place_of, with_hole, slot_at, value_in, marked_slot, marked_at}
 use Rattle.st_timer_map.proofs.RowLemmas.{not_first, without_none, marked_row}
 
@@ -265,11 +264,6 @@ module _ {V : Type 0} where
   rows_closed (None ∷ slots) = rows_closed slots
   rows_closed (Some slot ∷ slots) = ap (λ t. row_of slot ∷ t) (rows_closed slots)
 
-  pub front_closed : (slots : List (Option (Slot V))) → position_or_len is_some (filter is_some slots) ≡ 0
-  front_closed [] = refl
-  front_closed (None ∷ slots) = front_closed slots
-  front_closed (Some slot ∷ slots) = refl
-
   pub length_closed : (slots : List (Option (Slot V))) → length (filter is_some slots) ≡ length (rows_of slots)
   length_closed [] = refl
   length_closed (None ∷ slots) = length_closed slots
@@ -277,33 +271,6 @@ module _ {V : Type 0} where
 
   pub known_closed : (timer : Timer) (slots : List (Option (Slot V))) → is_some (place_of timer slots) ≡ is_some (place_of timer (filter is_some slots))
   known_closed timer slots = known timer slots ∙ (sym (rw (rows_closed slots) at (known timer (filter is_some slots))))
-
-  -- ---- the front
-  pub front_hole : (slots : List (Option (Slot V))) (place : Option ℕ) → position_or_len is_some slots ≤ position_or_len is_some (with_hole slots place)
-  front_hole slots None = omega arith
-  front_hole slots (Some place) = front_set slots place
-    where
-      front_set : (slots : List (Option (Slot V))) (place : ℕ) → position_or_len is_some slots ≤ position_or_len is_some (set slots place None)
-      front_set [] place = omega arith
-      front_set (None ∷ slots) zero = omega arith
-      front_set (Some slot ∷ slots) zero = omega arith
-      front_set (None ∷ slots) (suc place) = omega (arith, front_set slots place)
-      front_set (Some slot ∷ slots) (suc place) = omega arith
-
-  pub front_more : (slots : List (Option (Slot V))) (slot : Option (Slot V)) → position_or_len is_some slots ≤ position_or_len is_some (slots ++ slot ∷ [])
-  front_more [] slot = omega arith
-  front_more (None ∷ slots) slot = omega (arith, front_more slots slot)
-  front_more (Some first ∷ slots) slot = omega arith
-
-  front_next : (n m : ℕ) (slot : Option (Slot V)) (slots : List (Option (Slot V))) → m ≡ suc n → get_or (slot ∷ slots) m None ≡ get_or slots n None
-  front_next n m slot slots e = rw e refl
-
-  -- at the front is the first row
-  pub first_there : (slots : List (Option (Slot V))) → option_map row_of (slot_at slots (Some (position_or_len is_some slots))) ≡ first_of (rows_of slots)
-  first_there [] = refl
-  first_there (None ∷ slots) =
-      ap (option_map row_of) (front_next (position_or_len is_some slots) (1 + position_or_len is_some slots) None slots (omega arith)) ∙ first_there slots
-  first_there (Some slot ∷ slots) = refl
 
   -- ---- a slot at a place
   other_at : (timer : Timer) (slots : List (Option (Slot V))) (place : ℕ) (slot : Slot V) → value_of timer (rows_of slots) ≡ None
@@ -374,47 +341,6 @@ module _ {V : Type 0} where
       → place_of other (marked_at marked slots place) ≡ place_of other slots
   places_marked marked other slots None = refl
   places_marked marked other slots (Some place) = places_set marked other slots place
-
-  front_set_marked : (marked : V → V) (slots : List (Option (Slot V))) (place : ℕ)
-      → position_or_len is_some (set slots place (marked_slot marked (get_or slots place None))) ≡ position_or_len is_some slots
-  front_set_marked marked [] place = refl
-  front_set_marked marked (None ∷ slots) zero = refl
-  front_set_marked marked (Some slot ∷ slots) zero = refl
-  front_set_marked marked (None ∷ slots) (suc place) = ap (λ n. 1 + n) (front_set_marked marked slots place)
-  front_set_marked marked (Some slot ∷ slots) (suc place) = refl
-
-  pub front_marked : (marked : V → V) (slots : List (Option (Slot V))) (place : Option ℕ)
-      → position_or_len is_some (marked_at marked slots place) ≡ position_or_len is_some slots
-  front_marked marked slots None = refl
-  front_marked marked slots (Some place) = front_set_marked marked slots place
-
-  -- ---- a walk to the front
-  pub front_within : (slots : List (Option (Slot V))) → position_or_len is_some slots ≤ length slots
-  front_within slots = prefix_len-le-length (λ slot. not (is_some slot)) slots
-
-  -- a hole lies before the front
-  pub hole_before : (slots : List (Option (Slot V))) (place : ℕ) (slot : Option (Slot V)) → place < length slots → slot ≡ get_or slots place slot
-      → is_some slot ≡ false → place ≤ position_or_len is_some slots → place + 1 ≤ position_or_len is_some slots
-  hole_before [] place slot within at hole before = absurd (omega arith)
-  hole_before (None ∷ slots) zero slot within at hole before = omega arith
-  hole_before (Some one ∷ slots) zero slot within at hole before = let filled : false ≡ true = sym hole ∙ ap is_some at in cc
-  hole_before (None ∷ slots) (suc place) slot within at hole before =
-      let inside : place < length slots = omega arith in
-      let earlier : place ≤ position_or_len is_some slots = omega arith in
-      omega (arith, hole_before slots place slot inside at hole earlier)
-  hole_before (Some one ∷ slots) (suc place) slot within at hole before = absurd (omega arith)
-
-  -- a slot that is filled does not
-  pub filled_at : (slots : List (Option (Slot V))) (place : ℕ) (slot : Option (Slot V)) → place < length slots → slot ≡ get_or slots place slot
-      → is_some slot ≡ true → place ≤ position_or_len is_some slots → place ≡ position_or_len is_some slots
-  filled_at [] place slot within at filled before = absurd (omega arith)
-  filled_at (None ∷ slots) zero slot within at filled before = let hole : true ≡ false = sym filled ∙ ap is_some at in cc
-  filled_at (Some one ∷ slots) zero slot within at filled before = refl
-  filled_at (None ∷ slots) (suc place) slot within at filled before =
-      let inside : place < length slots = omega arith in
-      let earlier : place ≤ position_or_len is_some slots = omega arith in
-      omega (arith, filled_at slots place slot inside at filled earlier)
-  filled_at (Some one ∷ slots) (suc place) slot within at filled before = absurd (omega arith)
 
   -- ---- a walk over all slots
   -- with the next slot, the timer in it has this place

@@ -8,11 +8,6 @@ pub record Rows (V : Type 0) : Type 0 where
   pub rows : List (Timer × V)
   pub reserved : ℕ
 
--- the first of some
-abbrev pub first_of : {X : Type 0} → List X → Option X
-first_of [] = None
-first_of (one ∷ others) = Some one
-
 module _ {V : Type 0} where
   -- the value of a timer, if it is there
   abbrev pub value_of : Timer → List (Timer × V) → Option V

@@ -1,6 +1,6 @@
 //! The slots in which values are kept, and what ties the index to them.
 ghost use Rattle.std.specs.Prelude.{◌≡◌, ◌+◌, ◌*◌, ◌⊎◌, [], ◌∷◌, ◌++◌, ◌<◌, ◌≤◌, ℕ, nat_eq, true, is_some, length, map, filter, if◌then◌else◌, option_copied, IfSome, IfOk, OnOk, OnErr};
-ghost use Rattle.std.specs.List.{position, position_or_len, slice_set};
+ghost use Rattle.std.specs.List.{position, slice_set};
 ghost use Rattle.std.specs.Vec.{vec_len, vec_capacity};
 ghost use Rattle.std.specs.HashMap.{get, spare};
 ghost use Rattle.st_events.specs.declared.timer.Timer.{Timer};
@@ -52,18 +52,6 @@ fn is_for<V>(slot: &Option<Slot<V>>, timer: Timer) -> bool
     }
 }
 
-/// The place of the first slot that is filled, or where the slots end. Those before the place that is given are holes.
-pub(crate) fn next_filled<V>(slots: &[Option<Slot<V>>], from: usize) -> usize
-    requires { from ≤ position_or_len is_some slots.now }
-    ensures { result ≡ position_or_len is_some slots.now }
-{
-    let mut place = from;
-    while place < slots.len() && slots[place].is_none() {
-        place += 1;
-    }
-    place
-}
-
 /// The slot at a place, if one is there.
 pub(crate) fn slot_at<V>(slots: &[Option<Slot<V>>], place: Option<usize>) -> Option<&Slot<V>>
     ensures { option_copied result ≡ slot_at slots.now place }
@@ -96,7 +84,6 @@ pub(crate) fn put_last<V>(
     ensures returned { result ≡ value_of timer (rows_of slots.old.items) }
     ensures rows { rows_of slots.new.items ≡ without_timer timer (rows_of slots.old.items) ++ (timer, value) ∷ [] }
     ensures tied { IsTied index.new slots.new.items }
-    ensures front { position_or_len is_some slots.old.items ≤ position_or_len is_some slots.new.items }
     ensures capacity { vec_capacity slots.new ≡ vec_capacity slots.old }
     ensures again { is_some result ≡ true → (count : ℕ) → HasRoom index.old count → HasRoom index.new count }
     ensures room { (count : ℕ) → HasRoom index.old (count + 1) → HasRoom index.new count }
@@ -120,7 +107,6 @@ pub(crate) fn take_out<V>(
     ensures returned { result ≡ value_of timer (rows_of slots.old.items) }
     ensures rows { rows_of slots.new.items ≡ without_timer timer (rows_of slots.old.items) }
     ensures tied { IsTied index.new slots.new.items }
-    ensures front { position_or_len is_some slots.old.items ≤ position_or_len is_some slots.new.items }
     ensures capacity { vec_capacity slots.new ≡ vec_capacity slots.old }
     ensures room { (count : ℕ) → HasRoom index.old count → HasRoom index.new count }
 {
@@ -130,28 +116,24 @@ pub(crate) fn take_out<V>(
     old
 }
 
-/// Makes room for a slot at the end: where there is none, the holes are closed. It answers the front.
+/// Makes room for a slot at the end: where there is none, the holes are closed.
 pub(crate) fn make_room<V: Drop>(
     slots: &mut Vec<Option<Slot<V>>>,
     index: &mut Index,
-    front: usize,
-) -> usize
+)
     requires once_each { OnceEach (rows_of slots.old.items) }
     requires tied { IsTied index.old slots.old.items }
-    requires front { front ≡ position_or_len is_some slots.old.items }
     requires fits { length (rows_of slots.old.items) < vec_capacity slots.old }
     ensures rows { rows_of slots.new.items ≡ rows_of slots.old.items }
     ensures tied { IsTied index.new slots.new.items }
-    ensures front { result ≡ position_or_len is_some slots.new.items }
     ensures fits { vec_len slots.new < vec_capacity slots.new }
     ensures capacity { vec_capacity slots.new ≡ vec_capacity slots.old }
     ensures room { (count : ℕ) → HasRoom index.old count → HasRoom index.new count }
 {
     if slots.len() < slots.capacity() {
-        return front;
+        return;
     }
     close_holes(slots, index);
-    0
 }
 
 /// Closes the holes. The others keep their order, and the index tells their places.

@@ -45,21 +45,15 @@ fn letter_of(letter: Option<Letter>) -> Option<char> {
 
 /// The rows. Where they find no memory, they are asked for again.
 fn listed(rt: &Host<impl Abort + AllocGlobal>, map: &TimerMap<Letter>) -> Vec<(Timer, char, bool)> {
-    if let Ok(list) = map.list(rt.alloc()) {
+    if let Ok(list) = map.list() {
         return list;
     }
     rt.retry();
-    map.list(rt.alloc())
+    map.list()
         .expect(rt, "one allocation alone is refused")
 }
 
-/// The first timer with its letter.
-fn first(map: &TimerMap<Letter>) -> Option<(Timer, char)> {
-    let (timer, letter) = map.first()?;
-    Some((timer, letter.letter))
-}
-
-/// Says that each timer that is listed is found with its letter, and that the first is the first of the list.
+/// Says that each timer that is listed is found with its letter.
 fn look(rt: &Host<impl Abort + AllocGlobal>, map: &TimerMap<Letter>) -> Vec<(Timer, char, bool)> {
     let list = listed(rt, map);
     assert_eq!(rt; map.len(), list.len());
@@ -68,8 +62,6 @@ fn look(rt: &Host<impl Abort + AllocGlobal>, map: &TimerMap<Letter>) -> Vec<(Tim
         assert_eq!(rt; found.letter, *letter);
         assert_eq!(rt; found.marked, *marked);
     }
-    let head = list.first().map(|row| (row.0, row.1));
-    assert_eq!(rt; first(map), head);
     list
 }
 
@@ -100,15 +92,13 @@ fn each_call_answers(rt: HostRuntime) {
     let rt = Host::new(rt);
     let mut map = TimerMap::new(rt.alloc());
     assert_eq!(rt; map.len(), 0);
-    assert_eq!(rt; first(&map), None);
+    assert_eq!(rt; map.reserved(), 0);
     assert!(rt; map.get(Timer::Event).is_none());
     assert_eq!(rt; put(&rt, &mut map, Timer::Event, 'a'), None);
     assert_eq!(rt; put(&rt, &mut map, Timer::State, 'b'), None);
     assert_eq!(rt; put(&rt, &mut map, Timer::Named(7), 'c'), None);
     assert_eq!(rt; put(&rt, &mut map, Timer::Named(8), 'd'), None);
-    assert_eq!(rt; first(&map), Some((Timer::Event, 'a')));
     assert_eq!(rt; put(&rt, &mut map, Timer::Event, 'e'), Some('a'));
-    assert_eq!(rt; first(&map), Some((Timer::State, 'b')));
     map.mark(Timer::Named(7));
     map.mark(Timer::Named(9));
     assert_eq!(rt;
@@ -125,7 +115,6 @@ fn each_call_answers(rt: HostRuntime) {
     assert_eq!(rt; letter_of(map.remove(Timer::State)), Some('b'));
     assert_eq!(rt; letter_of(map.remove(Timer::State)), None);
     assert!(rt; map.get(Timer::State).is_none());
-    assert_eq!(rt; first(&map), Some((Timer::Named(7), 'c')));
     assert_eq!(rt; letter_of(map.remove(Timer::Named(8))), Some('d'));
     assert_eq!(rt;
         look(&rt, &map).as_slice(),
@@ -134,7 +123,6 @@ fn each_call_answers(rt: HostRuntime) {
     assert_eq!(rt; letter_of(map.remove(Timer::Named(7))), Some('c'));
     assert_eq!(rt; letter_of(map.remove(Timer::Event)), Some('e'));
     assert_eq!(rt; map.len(), 0);
-    assert_eq!(rt; first(&map), None);
     rt.end();
 }
 

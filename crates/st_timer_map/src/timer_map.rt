@@ -1,13 +1,12 @@
 //! The values by timer.
 ghost use Rattle.std.specs.Prelude.{◌≡◌, ◌+◌, ◌*◌, ◌<◌, ◌≤◌, ◌⊎◌, true, [], length, map, max, is_some, option_copied, IsOk, IfOk, OnOk, OnErr};
-ghost use Rattle.std.specs.Option.{option_map};
-ghost use Rattle.st_timer_map.specs.Rows.{first_of, value_of, with_put, with_removed, with_marked};
+ghost use Rattle.st_timer_map.specs.Rows.{value_of, with_put, with_removed, with_marked};
 
 use crate::Kept;
 use crate::index::Index;
 use crate::slot::Slot;
 use crate::slots::{
-    list_rows, make_room, mark_at, next_filled, place_of, put_last, reserve_places, room_for,
+    list_rows, make_room, mark_at, place_of, put_last, reserve_places, room_for,
     slot_at, take_out,
 };
 use st_events::Timer;
@@ -23,8 +22,6 @@ pub struct TimerMap<V> {
     // A removed value leaves a hole, and one that is put goes to the end.
     slots: Vec<Option<Slot<V>>>,
     index: Index,
-    // The first slot that is filled, or where the slots end.
-    front: usize,
     // How many slots are filled.
     live: usize,
     // How many timers can be put that are not there, without memory.
@@ -41,7 +38,7 @@ impl<V> Model for TimerMap<V> {
 
     ghost view = { λ kept. record { rows = rows_of kept.slots.items; reserved = kept.ready } };
 
-    ghost invariant = { λ kept. IsSound kept.slots.items kept.index kept.front kept.live kept.ready (vec_capacity kept.slots) };
+    ghost invariant = { λ kept. IsSound kept.slots.items kept.index kept.live kept.ready (vec_capacity kept.slots) };
 }
 
 impl<V> TimerMap<V> {
@@ -52,7 +49,6 @@ impl<V> TimerMap<V> {
         TimerMap {
             slots: Vec::new(alloc),
             index: Index::new(),
-            front: 0,
             live: 0,
             ready: 0,
         }
@@ -65,6 +61,13 @@ impl<V> TimerMap<V> {
         self.live
     }
 
+    /// How many timers can be put that have no value, without memory. It takes a few steps.
+    pub fn reserved(&self) -> usize
+        ensures { result ≡ self.now.reserved }
+    {
+        self.ready
+    }
+
     /// The value of a timer, if it has one. It takes a few steps.
     pub fn get(&self, timer: Timer) -> Option<&V>
         ensures { option_copied result ≡ value_of timer self.now.rows }
@@ -72,14 +75,6 @@ impl<V> TimerMap<V> {
         let place = place_of(&self.index, &self.slots, timer);
         let slot = slot_at(&self.slots, place)?;
         Some(&slot.value)
-    }
-
-    /// The first in order, if there is one: its timer and its value. It takes a few steps.
-    pub fn first(&self) -> Option<(Timer, &V)>
-        ensures { option_map (λ row. (row.0, row.1.now)) result ≡ first_of self.now.rows }
-    {
-        let slot = slot_at(&self.slots, Some(self.front))?;
-        Some((slot.timer, &slot.value))
     }
 }
 
@@ -113,9 +108,8 @@ impl<V: Drop> TimerMap<V> {
         ensures returned { result ≡ value_of timer self.old.rows }
         ensures put { self.new ≡ with_put self.old timer value }
     {
-        self.front = make_room(&mut self.slots, &mut self.index, self.front);
+        make_room(&mut self.slots, &mut self.index);
         let old = put_last(&mut self.slots, &mut self.index, timer, value);
-        self.front = next_filled(&self.slots, self.front);
         if old.is_none() {
             self.ready -= 1;
             self.live += 1;
@@ -124,13 +118,12 @@ impl<V: Drop> TimerMap<V> {
     }
 
     /// Takes the value of a timer out, if it has one, and hands it over. The others keep their order. It takes a few
-    /// steps on the average: where it was the first, the holes behind it are passed, each once.
+    /// steps.
     pub fn remove(&mut self, timer: Timer) -> Option<V>
         ensures returned { result ≡ value_of timer self.old.rows }
         ensures removed { self.new ≡ with_removed self.old timer }
     {
         let old = take_out(&mut self.slots, &mut self.index, timer);
-        self.front = next_filled(&self.slots, self.front);
         if old.is_some() {
             self.live -= 1;
         }
@@ -149,9 +142,10 @@ impl<V: Kept> TimerMap<V> {
 
     /// The rows of all values in their order. Where memory is wanted and there is none, nothing is listed. It walks
     /// over all values.
-    pub fn list(&self, alloc: Global) -> Result<Vec<V::Row>, AllocError>
+    pub fn list(&self) -> Result<Vec<V::Row>, AllocError>
         ensures { IfOk result (λ list. list.items ≡ map (λ row. V.row_of row.0 row.1) self.now.rows) }
     {
+        let alloc = *self.slots.allocator();
         list_rows(&self.slots, alloc, self.live)
     }
 }

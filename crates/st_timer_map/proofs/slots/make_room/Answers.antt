@@ -1,15 +1,11 @@
 use Rattle.std.proofs.Common.{◌∙◌, ap, sym, arith, length}
 use Rattle.std.specs.Prelude.{is_some}
-use Rattle.std.specs.List.{position_or_len}
 use Rattle.st_timer_map.specs.Slots.{rows_of}
-use Rattle.st_timer_map.proofs.SlotLemmas.{rows_closed, front_closed, length_closed}
+use Rattle.st_timer_map.proofs.SlotLemmas.{rows_closed, length_closed}
 use Rattle.st_timer_map.proofs.slots.make_room.Goals as goal
 
 pub returns-clause-rows : goal.returns-clause-rows
 returns-clause-rows g c = ap rows_of c.close_holes.ensures.items ∙ rows_closed c.args.slots.now.items
-
-pub returns-clause-front : goal.returns-clause-front
-returns-clause-front g c = sym (ap (position_or_len is_some) c.close_holes.ensures.items ∙ front_closed c.args.slots.now.items)
 
 pub returns-clause-fits : goal.returns-clause-fits
 returns-clause-fits g c =

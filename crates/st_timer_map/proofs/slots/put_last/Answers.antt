@@ -1,8 +1,7 @@
 use Rattle.std.proofs.Common.{◌≡◌, length, sym, ap, ◌∙◌, arith, inl, inr}
-use Rattle.std.proofs.Math.Nat.{le_trans}
-use Rattle.std.specs.Prelude.{Some, is_some}
+use Rattle.std.specs.Prelude.{is_some}
 use Rattle.st_timer_map.specs.Slots.{place_of, with_hole, slot_at, value_in}
-use Rattle.st_timer_map.proofs.SlotLemmas.{value_there, within_length, length_hole, places_put, rows_put, front_hole, front_more}
+use Rattle.st_timer_map.proofs.SlotLemmas.{value_there, within_length, length_hole, places_put, rows_put}
 use Rattle.st_timer_map.proofs.IndexLemmas.{tells}
 use Rattle.st_timer_map.proofs.slots.put_last.Goals as goal
 
@@ -45,13 +44,6 @@ returns-clause-tied g c = λ other known.
     c.write.ensures.told other knew
     ∙ (rw (last, c.requires.tied other knew, c.push_reserved.ensures.items, c.take_at-old.ensures.items, place)
     (sym (places_put c.args.timer other c.args.value slots c.requires.once_each)))
-
-pub returns-clause-front : goal.returns-clause-front
-returns-clause-front g c =
-    let slots = c.args.slots.now.items in
-    let place = c.place_of-place.result in
-    rw (c.push_reserved.ensures.items, c.take_at-old.ensures.items)
-    (le_trans (front_hole slots place) (front_more (with_hole slots place) (Some (record { timer = c.args.timer; value = c.args.value }))))
 
 pub returns-clause-again : goal.returns-clause-again
 returns-clause-again g c = λ had.

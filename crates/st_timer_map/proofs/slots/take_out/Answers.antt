@@ -2,7 +2,7 @@ use Rattle.std.proofs.Common.{sym, ap, ◌∙◌}
 use Rattle.std.specs.Prelude.{None, if◌then◌else◌}
 use Rattle.st_events.specs.Timers.{same_timer}
 use Rattle.st_timer_map.specs.Slots.{rows_of, place_of, with_hole, slot_at, value_in}
-use Rattle.st_timer_map.proofs.SlotLemmas.{value_there, removed, places_left, front_hole, within_length}
+use Rattle.st_timer_map.proofs.SlotLemmas.{value_there, removed, places_left, within_length}
 use Rattle.st_timer_map.proofs.slots.take_out.Goals as goal
 
 pub take_at-old-requires : goal.take_at-old-requires
@@ -31,7 +31,3 @@ returns-clause-tied g c = λ other known.
     c.forget.ensures.told other
     ∙ (ap (λ here. if same_timer c.args.timer other then None else here) (c.requires.tied other knew)
     ∙ sym (ap (place_of other) items ∙ places_left c.args.timer other slots c.requires.once_each))
-
-pub returns-clause-front : goal.returns-clause-front
-returns-clause-front g c =
-    rw c.take_at-old.ensures.items (front_hole c.args.slots.now.items c.place_of-place.result)

@@ -6,5 +6,5 @@ use Rattle.st_timeouts.proofs.timeouts.Timeouts.first_zero.Goals as goal
 
 pub returns : goal.returns
 returns g c =
-    let listed = map listed_of c.self.inside.entries.items in
+    let listed = listed_of c.self.inside.entries.rows in
     rw (← c.self.view_is) (c.first.ensures ∙ (ap first_of c.self.invariant.zeros_are ∙ sym (first_zero_is listed)))

@@ -12,7 +12,7 @@ use Rattle.st_timeouts.proofs.timeouts.Timeouts.next_expiry.Goals as goal
 
 pub returns-in_err-first-clause-expiry : goal.returns-in_err-first-clause-expiry
 returns-in_err-first-clause-expiry g c =
-    let listed = map listed_of c.self.inside.entries.items in
+    let listed = listed_of c.self.inside.entries.rows in
     let now = c.args.now in
     let none : first_key (keys_of (expiring now listed)) ≡ None =
     ap first_key (expiring_keys now listed) ∙ none_come_none now (due_keys listed) (sym (ap first_key c.self.invariant.keys_are) ∙ (sym c.first.ensures ∙ c.in_err-first.was)) in
@@ -20,7 +20,7 @@ returns-in_err-first-clause-expiry g c =
 
 pub returns-in_err-first-clause-handed_out : goal.returns-in_err-first-clause-handed_out
 returns-in_err-first-clause-handed_out g c =
-    let listed = map listed_of c.self.inside.entries.items in
+    let listed = listed_of c.self.inside.entries.rows in
     let now = c.args.now in
     let none : first_key (keys_of (expiring now listed)) ≡ None =
     ap first_key (expiring_keys now listed) ∙ none_come_none now (due_keys listed) (sym (ap first_key c.self.invariant.keys_are) ∙ (sym c.first.ensures ∙ c.in_err-first.was)) in
@@ -28,7 +28,7 @@ returns-in_err-first-clause-handed_out g c =
 
 pub returns-then-not-reached-clause-expiry : goal.returns-then-not-reached-clause-expiry
 returns-then-not-reached-clause-expiry g c =
-    let listed = map listed_of c.self.inside.entries.items in
+    let listed = listed_of c.self.inside.entries.rows in
     let now = c.args.now in
     let key = c.in_ok-first.first in
     let some : first_key (due_keys listed) ≡ Some key = sym (ap first_key c.self.invariant.keys_are) ∙ (sym c.first.ensures ∙ c.in_ok-first.was) in
@@ -39,7 +39,7 @@ returns-then-not-reached-clause-expiry g c =
 
 pub returns-then-not-reached-clause-handed_out : goal.returns-then-not-reached-clause-handed_out
 returns-then-not-reached-clause-handed_out g c =
-    let listed = map listed_of c.self.inside.entries.items in
+    let listed = listed_of c.self.inside.entries.rows in
     let now = c.args.now in
     let key = c.in_ok-first.first in
     let some : first_key (due_keys listed) ≡ Some key = sym (ap first_key c.self.invariant.keys_are) ∙ (sym c.first.ensures ∙ c.in_ok-first.was) in
@@ -50,7 +50,7 @@ returns-then-not-reached-clause-handed_out g c =
 
 pub returns-clause-expiry : goal.returns-clause-expiry
 returns-clause-expiry g c =
-    let listed = map listed_of c.self.inside.entries.items in
+    let listed = listed_of c.self.inside.entries.rows in
     let now = c.args.now in
     let key = c.in_ok-first.first in
     let some : first_key (due_keys listed) ≡ Some key = sym (ap first_key c.self.invariant.keys_are) ∙ (sym c.first.ensures ∙ c.in_ok-first.was) in
@@ -62,7 +62,7 @@ returns-clause-expiry g c =
 
 pub returns-clause-handed_out : goal.returns-clause-handed_out
 returns-clause-handed_out g c =
-    let listed = map listed_of c.self.inside.entries.items in
+    let listed = listed_of c.self.inside.entries.rows in
     let now = c.args.now in
     let key = c.in_ok-first.first in
     let some : first_key (due_keys listed) ≡ Some key = sym (ap first_key c.self.invariant.keys_are) ∙ (sym c.first.ensures ∙ c.in_ok-first.was) in

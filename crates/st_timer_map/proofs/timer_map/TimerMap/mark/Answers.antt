@@ -1,7 +1,7 @@
 use Rattle.std.proofs.Common.{refl, sym, ap, ◌∙◌, arith}
 use Rattle.st_timer_map.specs.Slots.{rows_of, place_of, marked_at}
 use Rattle.st_timer_map.proofs.RowLemmas.{once_each_marked, counted_marked}
-use Rattle.st_timer_map.proofs.SlotLemmas.{within_length, rows_marked, places_marked, front_marked}
+use Rattle.st_timer_map.proofs.SlotLemmas.{within_length, rows_marked, places_marked}
 use Rattle.st_timer_map.proofs.timer_map.TimerMap.mark.Goals as goal
 
 pub mark_at-requires : goal.mark_at-requires
@@ -19,7 +19,6 @@ invariant_of-self g c =
     record {
       once_each = rw rows (once_each_marked marked c.args.timer (rows_of slots) old.once_each);
       tied = λ other known. old.tied other known ∙ (sym (ap (place_of other) c.mark_at.ensures.items ∙ places_marked marked other slots c.place_of-place.result));
-      first = rw c.mark_at.ensures.items (old.first ∙ sym (front_marked marked slots c.place_of-place.result));
       counted = rw rows (old.counted ∙ sym (counted_marked marked c.args.timer (rows_of slots)));
       fits = omega (arith, old.fits, c.mark_at.ensures.capacity);
       room = old.room;

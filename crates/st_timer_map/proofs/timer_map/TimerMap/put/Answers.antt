@@ -1,6 +1,5 @@
 use Rattle.std.proofs.Common.{◌+◌, ◌-◌, ◌∷◌, ◌++◌, [], length, not, sym, ap, ◌∙◌, arith, length-append}
 use Rattle.std.specs.Prelude.{is_some}
-use Rattle.std.specs.List.{position_or_len}
 use Rattle.st_events.specs.declared.timer.Timer.{Timer}
 use Rattle.st_timer_map.specs.Slots.{rows_of}
 use Rattle.st_timer_map.specs.Rows.{value_of, without_timer}
@@ -13,7 +12,7 @@ pub invariant_of-self : goal.invariant_of-self
 invariant_of-self g c =
     let inside = c.self.inside in
     let old = c.self.invariant in
-    let made = c.make_room-self-inside.ensures in
+    let made = c.make_room.ensures in
     let last = c.put_last-old.ensures in
     let timer = c.args.timer in
     let row : Timer × g.row.V.Denot = (c.args.timer, c.args.value) in
@@ -25,10 +24,9 @@ invariant_of-self g c =
     record {
       once_each = rw put (once_each_put timer c.args.value rows old.once_each);
       tied = last.tied;
-      first = c.next_filled-self-inside.ensures ∙ ap (position_or_len is_some) c.deref.ensures.value;
       counted = omega (arith, same, old.counted, ap length put, length-append (without_timer timer rows) (row ∷ []));
       fits = omega (arith, old.fits, reserved, last.capacity, made.capacity);
-      room = last.room (inside.ready - 1) (room_less c.make_room-self-inside.new.index (inside.ready - 1 + 1) inside.ready (omega arith) (made.room inside.ready old.room));
+      room = last.room (inside.ready - 1) (room_less c.make_room.new.index (inside.ready - 1 + 1) inside.ready (omega arith) (made.room inside.ready old.room));
     }
 
 -- it was there, so it takes none
@@ -36,7 +34,7 @@ pub invariant_of-self-else-is_none : goal.invariant_of-self-else-is_none
 invariant_of-self-else-is_none g c =
     let inside = c.self.inside in
     let old = c.self.invariant in
-    let made = c.make_room-self-inside.ensures in
+    let made = c.make_room.ensures in
     let last = c.put_last-old.ensures in
     let timer = c.args.timer in
     let row : Timer × g.row.V.Denot = (c.args.timer, c.args.value) in
@@ -48,7 +46,6 @@ invariant_of-self-else-is_none g c =
     record {
       once_each = rw put (once_each_put timer c.args.value rows old.once_each);
       tied = last.tied;
-      first = c.next_filled-self-inside.ensures ∙ ap (position_or_len is_some) c.deref.ensures.value;
       counted = omega (arith, fewer, old.counted, ap length put, length-append (without_timer timer rows) (row ∷ []));
       fits = omega (arith, old.fits, last.capacity, made.capacity);
       room = last.again is_there inside.ready (made.room inside.ready old.room);

@@ -1,6 +1,5 @@
 use Rattle.std.proofs.Common.{length, sym, ap, ◌∙◌, arith}
 use Rattle.std.specs.Prelude.{is_some}
-use Rattle.std.specs.List.{position_or_len}
 use Rattle.st_timer_map.specs.Slots.{rows_of}
 use Rattle.st_timer_map.proofs.RowLemmas.{once_each_without, one_less, none_less}
 use Rattle.st_timer_map.proofs.timer_map.TimerMap.remove.Goals as goal
@@ -16,7 +15,6 @@ invariant_of-self g c =
     record {
       once_each = rw taken.rows (once_each_without c.args.timer rows old.once_each);
       tied = taken.tied;
-      first = c.next_filled-self-inside.ensures ∙ ap (position_or_len is_some) c.deref.ensures.value;
       counted = omega (arith, fewer, old.counted, ap length taken.rows);
       fits = omega (arith, old.fits, taken.capacity);
       room = taken.room inside.ready old.room;
@@ -33,7 +31,6 @@ invariant_of-self-else-is_some g c =
     record {
       once_each = rw taken.rows (once_each_without c.args.timer rows old.once_each);
       tied = taken.tied;
-      first = c.next_filled-self-inside.ensures ∙ ap (position_or_len is_some) c.deref.ensures.value;
       counted = omega (arith, same, old.counted, ap length taken.rows);
       fits = omega (arith, old.fits, taken.capacity);
       room = taken.room inside.ready old.room;
