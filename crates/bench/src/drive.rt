@@ -53,6 +53,17 @@ pub fn finish_in_order<M: Module>(core: &mut Core<M>, count: u32) -> Result<u64,
     Ok(finished)
 }
 
+/// Makes so many turns, and counts those that finish the events with the even numbers from twice as many down to 2.
+pub fn finish_backwards<M: Module>(core: &mut Core<M>, count: u32) -> Result<u64, Refusal> {
+    let mut finished = 0u64;
+    for place in 0..count {
+        if finishes(core, 2 * (count - place) as u64)? {
+            finished = finished.saturating_add(1);
+        }
+    }
+    Ok(finished)
+}
+
 /// Posts a cast, and makes one turn.
 pub fn post_and_turn<M: Module>(
     core: &mut Core<M>,
@@ -91,7 +102,7 @@ where
     let mut turns = 0u64;
     for now in 0..count {
         core.post(Entry::Cast, content)?;
-        core.tick(now as u64)?;
+        core.tick_to(now as u64)?;
         turns = turns.saturating_add(turn(core, now as u64)?);
     }
     Ok(turns)
@@ -171,7 +182,7 @@ where
     for now in 0..count {
         turns = turns.saturating_add(post_and_turn(core, setting, now as u64)?);
         let later = now as u64 + 1;
-        core.tick(later)?;
+        core.tick_to(later)?;
         turns = turns.saturating_add(turn_all(core, later)?);
     }
     Ok(turns)

@@ -1,7 +1,7 @@
 //! What can be measured.
 use crate::drive::{
-    call_each, cycle, end, expire_each, finish_in_order, post_all_and_turn, post_and_turn,
-    post_and_turn_each, post_tick_and_turn, started, turn_each,
+    call_each, cycle, end, expire_each, finish_backwards, finish_in_order, post_all_and_turn,
+    post_and_turn, post_and_turn_each, post_tick_and_turn, started, turn_each,
 };
 use crate::latch::{Latch, Press};
 use crate::load::{Load, Work};
@@ -35,6 +35,9 @@ pub enum Line {
     Retried,
     /// Expiries, one after another, while so many other time-outs run.
     Expiries,
+    /// Time-outs that are set the last one due first, of which one moment brings one and another all others: those that
+    /// come in the order of their moments are counted.
+    DueInOrder,
     /// A timer is set and stopped, while so many other time-outs run.
     SetAndCancel,
     /// Timers that are set in one list.
@@ -46,7 +49,7 @@ pub enum Line {
 }
 
 /// Each line by its name.
-pub const LINES: [(&str, Line); 14] = [
+pub const LINES: [(&str, Line); 15] = [
     ("casts", Line::Casts),
     ("casts-with-ticks", Line::CastsWithTicks),
     ("posted-first", Line::PostedFirst),
@@ -57,6 +60,7 @@ pub const LINES: [(&str, Line); 14] = [
     ("postponed", Line::Postponed),
     ("retried", Line::Retried),
     ("expiries", Line::Expiries),
+    ("due-in-order", Line::DueInOrder),
     ("set-and-cancel", Line::SetAndCancel),
     ("settings", Line::Settings),
     ("inserts", Line::Inserts),
@@ -103,6 +107,7 @@ impl Line {
             Line::Calls => call_each(core, Work::Answer, count),
             Line::Postponed => postponed(core, count, more),
             Line::Retried => retried(core, count),
+            Line::DueInOrder => due_in_order(core, count),
             Line::Expiries => {
                 post_and_turn(core, Work::SetMany(more), 0)?;
                 expire_each(core, Work::Set(more, 1), count)
@@ -130,6 +135,19 @@ fn retried(core: &mut Core<Load>, count: u32) -> Result<u64, Refusal> {
     post_and_turn_each(core, Work::PutOffBefore(1), count)?;
     post_and_turn(core, Work::Next, 0)?;
     finish_in_order(core, count)
+}
+
+/// Sets a time-out for each moment up to so many, that of the last one first. The first moment brings one, and then
+/// come all others; those that come in the order of their moments are counted.
+fn due_in_order(core: &mut Core<Load>, count: u32) -> Result<u64, Refusal> {
+    for name in 0..count {
+        post_and_turn(core, Work::Set(name, count - name), 0)?;
+    }
+    if core.tick_to(1)? != 1 {
+        return Ok(0);
+    }
+    core.tick_to(count as u64)?;
+    finish_backwards(core, count)
 }
 
 /// Starts so many machines, and posts to each in turn.

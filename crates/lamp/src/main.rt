@@ -48,7 +48,7 @@ where
         let Some(due) = core.next_due() else {
             break;
         };
-        core.tick(due)?;
+        core.tick_to(due)?;
     }
     Ok(())
 }

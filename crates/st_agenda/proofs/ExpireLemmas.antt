@@ -11,8 +11,9 @@ use Rattle.st_timeouts.specs.declared.due.Due.{Due}
 use Rattle.st_timeouts.specs.declared.due.Due.TheVariants.{Zero, At}
 use Rattle.st_timeouts.specs.Running.{Running, running_of, is_zero, is_due_by, is_before, put_in_order, in_order}
 use Rattle.st_timeouts.specs.Timeouts.{Timeouts, Listed, all_of, live, name_of, without_listed, with_expired, expiring, first_of, with_first_expired, with_set, shown, next_due_of}
-use Rattle.st_timeouts.proofs.OrderLemmas.{expiring_after, all_of_more, all_of_with_expired}
-use Rattle.st_timeouts.proofs.EntryLemmas.{without_listed_none}
+use Rattle.st_timeouts.proofs.OrderLemmas.{expiring_after, all_of_more, all_of_with_expired, without_listed_none}
+use Rattle.st_timeouts.specs.Waiting.{waiting_of}
+use Rattle.st_timeouts.proofs.HandedLemmas.{due_name, due_expired}
 use Rattle.st_agenda.specs.declared.slot.Slot.TheVariants as slot
 use Rattle.st_agenda.specs.Items.{has}
 use Rattle.st_agenda.specs.Timing.{expiring_by, next_due_among}
@@ -238,6 +239,15 @@ module _ {C : Type 0} where
   -- a timer that does not run is set
   pub set_is : (old new : Timeouts C) (one : Listed C) → running_of one.running.timer (all_of old.listed) ≡ None → new ≡ with_set old one → new.listed ≡ old.listed ++ one ∷ []
   set_is old new one n h = ap (λ (t : Timeouts C). t.listed) h ∙ ap (λ listed. listed ++ one ∷ []) (without_listed_none one.running.timer old.listed n)
+
+  -- of those that wait, the first is the first of those that are due
+  pub taken_name : (now : ℕ) (listed : List (Listed C)) (result : Option (Timer × ℕ)) → 0 < length (expiring now listed)
+      → result ≡ option_map name_of (first_of (in_order (waiting_of listed))) → result ≡ option_map name_of (first_of (expiring now listed))
+  taken_name now listed result some h = h ∙ due_name now listed some
+
+  pub taken_out : (now : ℕ) (old new : Timeouts C) → 0 < length (expiring now old.listed)
+      → new ≡ with_first_expired (in_order (waiting_of old.listed)) old → new ≡ with_first_expired (expiring now old.listed) old
+  taken_out now old new some h = h ∙ due_expired now old.listed old some
 
   pub pushed_named : (old new : Waiting C) (first : Running C) (timer : Timer) (number : ℕ) → timer ≡ first.timer → number ≡ first.number
       → new ≡ record old { items = old.items ++ Unseen (slot.Expiry timer number) ∷ []; staged = old.staged - 1 }

@@ -1,5 +1,5 @@
 -- One expiry after another, and one setting after another.
-use Rattle.std.proofs.Common.{◌≡◌, ℕ, suc, ◌+◌, ◌<◌, ◌≤◌, ◌^◌, ◌⊎◌, inl, inr, Option, Some, None, List, [], ◌∷◌, ◌++◌, arith, ap, sym, ◌∙◌, length, reverse, take, get_or}
+use Rattle.std.proofs.Common.{◌≡◌, ℕ, suc, ◌+◌, ◌<◌, ◌≤◌, ◌^◌, ◌⊎◌, inl, inr, Option, Some, None, List, [], ◌∷◌, ◌++◌, arith, ap, refl, sym, ◌∙◌, length, reverse, take, get_or}
 use Rattle.std.specs.Prelude.{slice_get}
 use Rattle.std.proofs.Math.Seq.{take-suc}
 use Rattle.std.proofs.lemmas.Option.{slice_get_cases}
@@ -20,6 +20,15 @@ module _ {C : Type 0} where
     pub left : length (due_of now agenda.schedule) + place ≡ end
     pub reserved : length (due_of now agenda.schedule) ≤ agenda.staged
     pub all : with_all_expired (due_of now agenda.schedule) agenda.schedule ≡ with_all_expired (due_of now old) old
+
+  -- none has expired yet
+  pub expired_none_yet : (now : ℕ) (old : Schedule C) (agenda : Agenda C) (count : ℕ) → agenda.schedule ≡ old → count ≡ length (due_of now old) → count ≤ agenda.staged
+      → ExpiredSoFar now old agenda 0 count
+  expired_none_yet now old agenda count same counted staged = record {
+    left = rw same (omega (arith, counted));
+    reserved = rw same (omega (arith, counted, staged));
+    all = rw same refl;
+  }
 
   -- some settings are done; those that are left are to be done
   pub record SetSoFar (now : ℕ) (old : Schedule C) (settings : List (Setting C)) (agenda : Agenda C) (left : List (Setting C)) : Type 0 where

@@ -1,6 +1,6 @@
 //! What waits and the time-outs that run, as one: which event comes next, and what a transition makes
 //! of them.
-ghost use Rattle.std.specs.Prelude.{◌≡◌, ◌+◌, ◌-◌, ◌<◌, ◌≤◌, ◌^◌, [], ◌∷◌, ◌++◌, Some, None, IfOk, IfErr, OnOk, OnErr, length, max, option_copied};
+ghost use Rattle.std.specs.Prelude.{◌≡◌, ◌+◌, ◌-◌, ◌<◌, ◌≤◌, ◌^◌, [], ◌∷◌, ◌++◌, Some, None, IfOk, IfErr, OnOk, OnErr, IsOk, ℕ, length, max, option_copied};
 ghost use Rattle.std.specs.Option.{option_map};
 ghost use Rattle.st_events.specs.Rows.{InsertsFit, SettingsFit};
 ghost use Rattle.st_timeouts.specs.Running.{running_of};
@@ -16,11 +16,12 @@ ghost use Rattle.st_agenda.specs.Agenda.{Agrees, IsAlive, items_in, next_in, zer
 use crate::numbers::numbers_taken;
 use crate::pending::Pending;
 use crate::slot::Slot;
-use crate::uncounted_timeouts::{count_due, next_expiry};
 use st_events::{Event, Inserts, Kind, NUMBER_LIMIT, PlainList, Setting, Settings, Time, Timer};
+use st_steps::Steps;
 use st_timeouts::{Due, Timeouts};
 use std::alloc::{AllocError, AllocFailed, Global};
 use std::marker::Model;
+use std::sync::ledger::Ledger;
 
 /// What waits, in a queue, and the time-outs that run. An expiry whose time-out runs no more stays in
 /// the queue until it comes to the front; it is never the next slot.
@@ -151,15 +152,6 @@ impl<C> Agenda<C> {
         self.timeouts.list()
     }
 
-    /// How many time-outs expire by a moment, in milliseconds.
-    ///
-    /// Ours: docs/TRANSITIONS.md, Time-outs.
-    pub fn count_due(&self, now: u64) -> usize
-        ensures { result ≡ length (expiring_by now self.now.schedule.pending self.now.schedule.running) }
-    {
-        count_due(&self.timeouts, now)
-    }
-
     /// The moment, in milliseconds, at which the next time-out expires that has not expired yet. One that is
     /// due at once waits for no moment.
     ///
@@ -230,16 +222,26 @@ impl<C: Drop> Agenda<C> {
     }
 
     /// Each time-out that is due by a moment, in milliseconds, expires: its expiry goes behind all that
-    /// waits. It takes no memory.
+    /// waits. It answers how many. It looks at these and at no more than one other: a step is a look.
     ///
-    /// Ours: docs/TRANSITIONS.md, Time-outs.
-    pub fn expire(&mut self, now: u64)
-        requires { length (expiring_by now self.old.schedule.pending self.old.schedule.running) ≤ self.old.staged }
-        ensures { self.new.schedule ≡ with_all_expired (expiring_by now self.old.schedule.pending self.old.schedule.running) self.old.schedule }
+    /// Memory is wanted only where one expires. Where there is none, nothing changes. Ours:
+    /// docs/TRANSITIONS.md, Time-outs.
+    pub fn expire<L: Ledger>(&mut self, now: u64, steps: &mut Steps<L>) -> Result<usize, AllocError>
+        ensures count { IfOk result (λ count. count ≡ length (expiring_by now self.old.schedule.pending self.old.schedule.running)) }
+        ensures expired { OnOk result (self.new.schedule ≡ with_all_expired (expiring_by now self.old.schedule.pending self.old.schedule.running) self.old.schedule) }
+        ensures looks { steps.new ≤ steps.old + length (expiring_by now self.old.schedule.pending self.old.schedule.running) + 1 }
+
+        ensures enough { length (expiring_by now self.old.schedule.pending self.old.schedule.running) ≡ 0 → IsOk result }
+        ensures unchanged { OnErr result (self.new ≡ self.old) }
     {
-        for _place in 0..self.count_due(now) {
-            self.expire_next(now);
+        let count = self.timeouts.count_due(now, steps);
+        if count > 0 {
+            self.stage(count)?;
         }
+        for _place in 0..count {
+            self.expire_next();
+        }
+        Ok(count)
     }
 
     /// What a transition at a moment, in milliseconds, does with what waits and what runs, where the next
@@ -274,15 +276,17 @@ impl<C: Drop> Agenda<C> {
         self.set_all(now, settings);
     }
 
-    /// The next time-out that is due by a moment, in milliseconds, expires.
-    fn expire_next(&mut self, now: u64)
-        requires due { 0 < length (expiring_by now self.old.schedule.pending self.old.schedule.running) }
+    /// The next time-out expires, which is due by now.
+    fn expire_next(&mut self)
+        requires due { (now : ℕ) × (0 < length (expiring_by now self.old.schedule.pending self.old.schedule.running)) }
         requires reserved { 0 < self.old.staged }
-        ensures schedule { self.new.schedule ≡ with_first_expiry (expiring_by now self.old.schedule.pending self.old.schedule.running) self.old.schedule }
-        ensures rest { expiring_by now self.new.schedule.pending self.new.schedule.running ≡ all_but_first (expiring_by now self.old.schedule.pending self.old.schedule.running) }
+        ensures schedule { (now : ℕ) → 0 < length (expiring_by now self.old.schedule.pending self.old.schedule.running)
+            → self.new.schedule ≡ with_first_expiry (expiring_by now self.old.schedule.pending self.old.schedule.running) self.old.schedule }
+        ensures rest { (now : ℕ) → 0 < length (expiring_by now self.old.schedule.pending self.old.schedule.running)
+            → expiring_by now self.new.schedule.pending self.new.schedule.running ≡ all_but_first (expiring_by now self.old.schedule.pending self.old.schedule.running) }
         ensures staged { self.new.staged + 1 ≡ self.old.staged }
     {
-        let Some((timer, number)) = next_expiry(&mut self.timeouts, now) else {
+        let Some((timer, number)) = self.timeouts.take_due() else {
             unreachable!()
         };
         self.pending.push_expiry(timer, number);

@@ -9,7 +9,6 @@ mod slot;
 #[cfg(test)]
 mod tests;
 mod uncounted_queue;
-mod uncounted_timeouts;
 
 pub use agenda::Agenda;
 pub use st_events::{Inserts, Kind, PlainList, Settings, Timer};

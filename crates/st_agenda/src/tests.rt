@@ -6,19 +6,22 @@ mod host;
 use crate::Agenda;
 use host::Host;
 use st_events::{Insert, Inserts, Kind, PlainList, Setting, Settings, Time, Timer};
+use st_steps::Steps;
 use st_timeouts::Due;
 use std::alloc::Global;
+use std::marker::Brand;
 use std::process::Abort;
+use std::sync::ledger::{Blank, Ledger};
 
 /// All that can be read of an agenda without memory: the next event with its kind and its content, how
-/// many events wait, the next number, and how many time-outs are due sooner or later.
-fn readable(agenda: &Agenda<u64>) -> (Option<(u64, Kind)>, Option<u64>, usize, u64, usize) {
+/// many events wait, the next number, and when the next time-out expires.
+fn readable(agenda: &Agenda<u64>) -> (Option<(u64, Kind)>, Option<u64>, usize, u64, Option<u64>) {
     (
         agenda.next_event(),
         agenda.next_content().copied(),
         agenda.waiting(),
         agenda.next_number(),
-        agenda.count_due(u64::MAX),
+        agenda.next_due(),
     )
 }
 
@@ -134,11 +137,31 @@ fn settle(
 
 /// Time passes to a moment, and so many time-outs expire.
 fn tick(rt: &Host<impl Abort>, agenda: &mut Agenda<u64>, now: u32, expired: usize) {
-    let count = agenda.count_due(now as u64);
-    assert_eq!(rt; count, expired);
-    assert!(rt; count <= 100);
-    reserve_for(rt, agenda, count, 0);
-    agenda.expire(now as u64);
+    tick_in::<_, Brand>(rt, agenda, now, expired, Blank::new(1));
+}
+
+/// The same, where the looks at time-outs are counted in a ledger. A call that finds no memory changes nothing that can
+/// be read, and is made again.
+fn tick_in<R: Abort, L: Ledger>(
+    rt: &Host<R>,
+    agenda: &mut Agenda<u64>,
+    now: u32,
+    expired: usize,
+    blank: Blank,
+)
+    requires name { blank.name ≡ L.name }
+    requires parts { blank.parts ≡ L.parts }
+    requires some { 0 < blank.parts }
+{
+    let steps = &mut Steps::<L>::new(blank);
+    let before = readable(agenda);
+    let mut count = agenda.expire(now as u64, steps);
+    if count.is_err() {
+        assert_eq!(rt; readable(agenda), before);
+        rt.retry();
+        count = agenda.expire(now as u64, steps);
+    }
+    assert_eq!(rt; count.ok(), Some(expired));
 }
 
 /// One event that is inserted.

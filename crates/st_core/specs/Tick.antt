@@ -15,6 +15,10 @@ module _ {S D C : Type 0} where
   abbrev pub expiring_of : MachineState S D C → List (Running C)
   expiring_of machine = expiring_by machine.latest machine.schedule.pending machine.schedule.running
 
+  -- how many time-outs expire at a tick
+  abbrev pub due_at : MachineState S D C → ℕ → ℕ
+  due_at machine now = length (expiring_of (with_moment machine now))
+
   -- the expiry of each of them goes behind all that waits
   abbrev pub with_expiries : MachineState S D C → MachineState S D C
   with_expiries machine = record machine { schedule = with_all_expired (expiring_of machine) machine.schedule }

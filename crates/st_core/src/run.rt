@@ -19,7 +19,7 @@ impl<M: Module> Core<M> {
     {
         match command {
             Command::Post(entry, content) => Answer::Post(self.post(entry, content)),
-            Command::Tick(now) => Answer::Tick(self.tick(now)),
+            Command::Tick(now) => Answer::Tick(self.tick_to(now)),
             Command::Turn(now) => Answer::Turn(self.turn(now)),
             Command::Reply(tag, content) => Answer::Reply(self.reply(tag, content)),
             Command::Collect(tag) => Answer::Collect(self.collect(tag)),

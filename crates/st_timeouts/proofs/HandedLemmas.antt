@@ -1,5 +1,5 @@
 -- What is due first, what stays where it is handed out, and what is due at once.
-use Rattle.std.proofs.Common.{◌≡◌, ℕ, Bool, true, false, not, ◌&&◌, nat_le, if◌then◌else◌, List, [], ◌∷◌, ◌++◌, map, refl, sym, ap, subst, ◌∙◌, length, suc}
+use Rattle.std.proofs.Common.{◌≡◌, ℕ, ◌<◌, arith, Bool, true, false, not, ◌&&◌, nat_le, if◌then◌else◌, List, [], ◌∷◌, ◌++◌, map, refl, sym, ap, subst, ◌∙◌, length, suc}
 use Rattle.std.specs.Prelude.{Option, Some, None}
 use Rattle.std.specs.List.{filter}
 use Rattle.std.specs.Option.{option_map}
@@ -16,7 +16,7 @@ use Rattle.st_timeouts.specs.Timeouts.{Listed, Timeouts, all_of, name_of, expiri
 use Rattle.st_timeouts.specs.Keys.{ordered, NoneBefore, InOrder, key_of, keys_of}
 use Rattle.st_timeouts.specs.Order.{has_come, is_other, OnceEach, first_key, other_keys}
 use Rattle.st_timeouts.specs.Waiting.{waits, waiting_of, due_keys, zeros_of}
-use Rattle.st_timeouts.proofs.DueLemmas.{ordered_filter, keys_in_order}
+use Rattle.st_timeouts.proofs.DueLemmas.{ordered_filter, ordered_is, keys_in_order}
 use Rattle.st_timeouts.proofs.FallingLemmas.{come_later, other_filter}
 use Rattle.st_timeouts.proofs.OrderLemmas.{all_of_with_expired}
 use Rattle.st_timeouts.proofs.WaitingLemmas.{key_name, keys_without}
@@ -42,6 +42,18 @@ first_come now (first ∷ keys) key h e =
 pub none_come_none : (now : ℕ) (keys : List Key) → first_key keys ≡ None → first_key (filter (has_come now) keys) ≡ None
 none_come_none now [] e = refl
 none_come_none now (key ∷ keys) e = cc
+
+come_first_by : (b : Bool) (now : ℕ) (key : Key) (keys : List Key) → has_come now key ≡ b → NoneBefore key keys → 0 < length (filter (has_come now) (key ∷ keys))
+    → first_key (filter (has_come now) (key ∷ keys)) ≡ Some key
+come_first_by true now key keys e h some = rw e refl
+come_first_by false now key keys e h some =
+    let none : filter (has_come now) (key ∷ keys) ≡ [] = rw (e, none_come_first now key keys h e) refl in absurd (omega (arith, some, ap length none))
+
+-- where one has come, it is the first of all
+pub come_first : (now : ℕ) (keys : List Key) → InOrder keys → 0 < length (filter (has_come now) keys)
+    → (key : Key) × (first_key (filter (has_come now) keys) ≡ Some key) × (first_key keys ≡ Some key)
+come_first now [] h some = absurd (omega (arith, some))
+come_first now (key ∷ keys) h some = (key, come_first_by (has_come now key) now key keys refl h.0 some, refl)
 
 pub others_are : (keys : List Key) (key : Key) → OnceEach keys → first_key keys ≡ Some key → other_keys keys ≡ filter (is_other key.timer) keys
 others_are [] key h e = cc
@@ -104,6 +116,26 @@ module _ {C : Type 0} where
   pub none_expired_by_key : (running : List (Running C)) (old : Timeouts C) → first_key (keys_of running) ≡ None → with_first_expired running old ≡ old
   none_expired_by_key [] old e = refl
   none_expired_by_key (one ∷ running) old e = cc
+
+  first_due : (now : ℕ) (listed : List (Listed C)) → 0 < length (expiring now listed)
+      → (key : Key) × (first_key (keys_of (expiring now listed)) ≡ Some key) × (first_key (keys_of (in_order (waiting_of listed))) ≡ Some key)
+  first_due now listed some =
+      let there : 0 < length (filter (has_come now) (due_keys listed)) = omega (arith, some, count_is now listed) in
+      let first = come_first now (due_keys listed) (ordered_is (keys_of (waiting_of listed))) there in
+      (first.0, ap first_key (expiring_keys now listed) ∙ first.1, ap first_key (waiting_keys listed) ∙ first.2)
+
+  -- where one is due, the first of those that wait is the first of those that are due
+  pub due_name : (now : ℕ) (listed : List (Listed C)) → 0 < length (expiring now listed)
+      → option_map name_of (first_of (in_order (waiting_of listed))) ≡ option_map name_of (first_of (expiring now listed))
+  due_name now listed some =
+      let first = first_due now listed some in
+      rw (name_by_key (in_order (waiting_of listed)), name_by_key (expiring now listed), first.1, first.2) refl
+
+  pub due_expired : (now : ℕ) (listed : List (Listed C)) (old : Timeouts C) → 0 < length (expiring now listed)
+      → with_first_expired (in_order (waiting_of listed)) old ≡ with_first_expired (expiring now listed) old
+  due_expired now listed old some =
+      let first = first_due now listed some in
+      expired_by_key (in_order (waiting_of listed)) old first.0 first.2 ∙ sym (expired_by_key (expiring now listed) old first.0 first.1)
 
   moment_by_key : (running : List (Running C)) → option_map (λ (one : Running C). moment_of one.due) (first_of running) ≡ option_map (λ (key : Key). key.moment.milliseconds) (first_key (keys_of running))
   moment_by_key [] = refl

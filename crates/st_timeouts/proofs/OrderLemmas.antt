@@ -21,6 +21,12 @@ module _ {C : Type 0} where
       let parts = not_first timer one others h in
       rw parts.0 (ap (λ t. one ∷ t) (without_none timer others parts.1))
 
+  pub without_listed_none : (timer : Timer) (listed : List (Listed C)) → running_of timer (all_of listed) ≡ None → without_listed timer listed ≡ listed
+  without_listed_none timer [] h = refl
+  without_listed_none timer (one ∷ listed) h =
+      let parts = not_first timer one.running (all_of listed) h in
+      rw parts.0 (ap (λ t. one ∷ t) (without_listed_none timer listed parts.1))
+
   -- ---- fewer time-outs
   filtered_none_by : (b : Bool) (timer : Timer) (one : Listed C) (rest : List (Listed C)) → runs_for timer one.running ≡ false
       → running_of timer (all_of rest) ≡ None → running_of timer (all_of (if b then one ∷ rest else rest)) ≡ None

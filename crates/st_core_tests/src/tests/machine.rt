@@ -40,7 +40,7 @@ pub trait Machine: Drop {
 fn call<M: Module>(core: &mut Core<M>, told: Told<M::Content>) -> Answer<M::State, M::Content> {
     match told {
         Told::Post(entry, content) => Answer::Post(core.post(entry, content)),
-        Told::Tick(now) => Answer::Tick(core.tick(now)),
+        Told::Tick(now) => Answer::Tick(core.tick_to(now)),
         Told::Turn(now) => Answer::Turn(core.turn(now)),
         Told::Reply(tag, content) => Answer::Reply(core.reply(tag, content)),
         Told::Collect(tag) => Answer::Collect(core.collect(tag)),

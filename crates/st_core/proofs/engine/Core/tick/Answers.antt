@@ -1,10 +1,8 @@
-use Rattle.std.proofs.Common.{◌≡◌, ◌<◌, ◌^◌, ap, arith}
-use Rattle.st_agenda.specs.Agenda.{Agenda}
+use Rattle.std.proofs.Common.{◌<◌, ◌^◌, arith}
 use Rattle.st_core.proofs.LawfulLemmas.{lawful_moment, lawful_expired}
 use Rattle.st_core.proofs.TransitionLemmas.{machine_of}
 use Rattle.st_core.specs.Transition.{with_moment}
 use Rattle.st_core.proofs.engine.Core.tick.Goals as goal
-use Rattle.st_core.proofs.engine.Core.tick.Goals.{then-count-gt0+in_ok-stage, else-count-gt0}
 
 -- it can come about
 pub invariant_of-self-2 : goal.invariant_of-self-2
@@ -13,9 +11,4 @@ invariant_of-self-2 g c =
     let machine = machine_of old.id old.state old.data old.agenda.schedule old.requests old.latest old.ended in
     let early : c.args.now < 2 ^ 63 = omega (arith, c.if-now-ge-MOMENT_LIMIT.false) in
     let lawful = lawful_expired (with_moment machine c.args.now) c.in_default.is (lawful_moment machine c.args.now early c.self.invariant) in
-    elim c.if-count-gt0.branch [
-      | then-count-gt0+in_ok-stage w ↦
-          let same : w.stage.new.self.schedule ≡ old.agenda.schedule = ap (λ (a : Agenda _). a.schedule) w.in_ok-stage.ensures.staged in
-          rw (c.expire.ensures, w.self-inside-is, same, c.max-latest.ensures) lawful
-      | else-count-gt0 w ↦ rw (c.expire.ensures, w.self-inside-is, c.max-latest.ensures) lawful
-    ]
+    rw (c.in_ok-count.ensures.expired, c.max-latest.ensures) lawful
