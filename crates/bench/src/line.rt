@@ -16,7 +16,9 @@ const ID: MachineId = MachineId { slot: 0, serial: 1 };
 pub enum Line {
     /// Casts that keep the state.
     Casts,
-    /// The same, with a tick before each turn.
+    /// The same, while so many time-outs run.
+    CastsBeside,
+    /// Casts that keep the state, with a tick before each turn.
     CastsWithTicks,
     /// All casts are posted first.
     PostedFirst,
@@ -49,8 +51,9 @@ pub enum Line {
 }
 
 /// Each line by its name.
-pub const LINES: [(&str, Line); 15] = [
+pub const LINES: [(&str, Line); 16] = [
     ("casts", Line::Casts),
+    ("casts-beside", Line::CastsBeside),
     ("casts-with-ticks", Line::CastsWithTicks),
     ("posted-first", Line::PostedFirst),
     ("wrong-buttons", Line::WrongButtons),
@@ -102,6 +105,10 @@ impl Line {
         };
         let core = &mut load;
         match self {
+            Line::CastsBeside => {
+                post_and_turn(core, Work::SetMany(more), 0)?;
+                post_and_turn_each(core, Work::Keep, count)
+            }
             Line::CastsWithTicks => post_tick_and_turn(core, Work::Keep, count),
             Line::PostedFirst => post_all_and_turn(core, Work::Keep, count),
             Line::Calls => call_each(core, Work::Answer, count),

@@ -11,7 +11,7 @@ use Rattle.st_timeouts.proofs.OrderLemmas.{all_of_without_listed}
 use Rattle.st_agenda.specs.declared.slot.Slot.{Slot}
 use Rattle.st_agenda.specs.declared.slot.Slot.TheVariants as slot
 use Rattle.st_agenda.specs.Item.{Item, Posted}
-use Rattle.st_agenda.specs.Items.{has, first_received, with_number, kept, numbered}
+use Rattle.st_agenda.specs.Items.{has, first_received, with_number, kept, numbered, placed, is_postponed}
 use Rattle.st_agenda.specs.Timing.{without_expiry}
 use Rattle.st_agenda.specs.Slots.{inserted_slots}
 use Rattle.st_agenda.specs.Waiting.{Seen, Unseen, put_in, slot_numbers, Waiting, IsOrdered, place_numbers, first_seen, first_unseen, with_unseen_seen, with_next_seen, next_of, next_number_of, without_slot}
@@ -234,3 +234,19 @@ next_received postponed items next number first is = rw (first_cancelled postpon
 pub retried_next : {C : Type 0} (schedule : Schedule C) (changed : Bool) → (retried_in schedule changed).next_number ≡ schedule.next_number
 retried_next schedule true = refl
 retried_next schedule false = refl
+
+-- ---- no event comes in
+module _ {C : Type 0} where
+  none_placed_by : (b : Bool) (postponed : List ℕ) (item : Item C) (items : List (Item C)) → placed postponed [] items ≡ items
+      → (if b then item ∷ placed postponed [] items else item ∷ items) ≡ item ∷ items
+  none_placed_by true postponed item items h = ap (λ t. item ∷ t) h
+  none_placed_by false postponed item items h = refl
+
+  none_placed : (postponed : List ℕ) (items : List (Item C)) → placed postponed [] items ≡ items
+  none_placed postponed [] = refl
+  none_placed postponed (item ∷ items) = none_placed_by (is_postponed postponed item) postponed item items (none_placed postponed items)
+
+  pub none_inserted : (schedule : Schedule C) → inserted_in schedule [] ≡ schedule
+  none_inserted schedule =
+      let same : schedule.next_number + 0 ≡ schedule.next_number = omega arith in
+      rw (none_placed schedule.postponed schedule.pending, same) refl

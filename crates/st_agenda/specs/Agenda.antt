@@ -217,3 +217,12 @@ module _ {C : Type 0} where
       let retried = retried_in disposed changed in
       let inserted = inserted_in retried inserts in
       all_set_in now inserted settings
+
+  -- its steps before others come in: the event is received; the event time-out is cancelled; the event is postponed or finished;
+  -- at a state change the postponed events are retried
+  abbrev pub received_and_retried_in : Schedule C → ℕ → Bool → Bool → Schedule C
+  received_and_retried_in schedule number postpone changed =
+      let received = received_in schedule in
+      let cancelled = cancelled_in received timer.Event in
+      let disposed = disposed_in cancelled number postpone in
+      retried_in disposed changed

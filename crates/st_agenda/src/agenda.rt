@@ -11,7 +11,7 @@ ghost use Rattle.st_events.specs.declared.kind.Kind.TheVariants.{Timeout};
 ghost use Rattle.st_events.specs.declared.time.Time.TheVariants.{After};
 ghost use Rattle.st_agenda.specs.Timing.{expiring_by, has_numbers, next_due_among, number_taken, numbers_taken};
 ghost use Rattle.st_agenda.specs.Waiting.{next_of};
-ghost use Rattle.st_agenda.specs.Agenda.{Agrees, IsAlive, items_in, next_in, zero_in, received_in, cancelled_in, disposed_in, retried_in, inserted_in, begun_in, set_in, all_set_in, settled_in, name_of_event, shown_timers, dead_at, with_first_expiry, all_but_first, with_all_expired};
+ghost use Rattle.st_agenda.specs.Agenda.{Agrees, IsAlive, items_in, next_in, zero_in, received_in, cancelled_in, disposed_in, retried_in, received_and_retried_in, inserted_in, begun_in, set_in, all_set_in, settled_in, name_of_event, shown_timers, dead_at, with_first_expiry, all_but_first, with_all_expired};
 
 use crate::numbers::numbers_taken;
 use crate::pending::Pending;
@@ -268,12 +268,28 @@ impl<C: Drop> Agenda<C> {
         requires numbers { self.old.schedule.next_number + (length inserts + numbers_taken settings) ≤ 2 ^ 63 }
         ensures { self.new.schedule ≡ settled_in now self.old.schedule number postpone changed inserts settings }
     {
+        self.settle_alone(number, postpone, changed);
+        self.insert(inserts);
+        self.set_all(now, settings);
+    }
+
+    /// What a transition does with what waits and what runs before others come in and timers are set, where the next
+    /// event has this number: it is received, and the event time-out cancelled; it is postponed or finished; at a state
+    /// change none is postponed any more, and the state time-out is cancelled. It takes no memory.
+    ///
+    /// Manual: `transition_option()`, the steps of a state transition.
+    pub fn settle_alone(&mut self, number: u64, postpone: bool, changed: bool)
+        requires number_is { option_map (λ event. event.number) (next_in self.old.schedule) ≡ Some number }
+        requires staged { 0 < self.old.staged }
+        ensures schedule { self.new.schedule ≡ received_and_retried_in self.old.schedule number postpone changed }
+        ensures next_number { self.new.schedule.next_number ≡ self.old.schedule.next_number }
+        ensures staged { self.old.staged ≤ self.new.staged + 1 }
+        ensures reserved { self.new.reserved ≡ self.old.reserved }
+    {
         self.receive();
         self.cancel(Timer::Event);
         self.dispose(number, postpone);
         self.retry(changed);
-        self.insert(inserts);
-        self.set_all(now, settings);
     }
 
     /// The next time-out expires, which is due by now.
@@ -409,8 +425,10 @@ impl<C: Drop> Agenda<C> {
         }
     }
 
-    /// Sets or stops a timer at a moment, in milliseconds: what ran of it is cancelled first.
-    fn set(&mut self, now: u64, setting: Setting<C>)
+    /// Sets or stops a timer at a moment, in milliseconds: what ran of it is cancelled first. It takes no memory.
+    ///
+    /// Manual: `timeout_action()`.
+    pub fn set(&mut self, now: u64, setting: Setting<C>)
         requires moment { now < 2 ^ 63 }
         requires reserved { 0 < self.old.reserved }
         requires numbers { self.old.schedule.next_number + number_taken setting.time ≤ 2 ^ 63 }

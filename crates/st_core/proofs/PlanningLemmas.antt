@@ -1,6 +1,7 @@
 -- What outcomes ask for.
-use Rattle.std.proofs.Common.{◌≡◌, List, [], ◌∷◌, refl, ap, false}
-use Rattle.std.specs.Prelude.{Result, Ok, Err, OnOk}
+use Rattle.std.proofs.Common.{◌≡◌, ◌≤◌, List, [], ◌∷◌, ◌++◌, length, length-append, refl, ap, false, arith}
+use Rattle.std.specs.Prelude.{Result, Ok, Err, OnOk, Option, Some, None}
+use Rattle.std.specs.Option.{option_to_list, IsNone}
 use Rattle.std.specs.Result.{is_err}
 use Rattle.st_events.specs.declared.action.Action.{Action}
 use Rattle.st_events.specs.declared.action.Action.TheVariants.{Reply}
@@ -40,3 +41,11 @@ module _ {C : Type 0} where
 pub there : {T E P : Type 0} (result : Result T E) → is_err result ≡ false → OnOk result P → P
 there (Ok value) fine holds = holds
 there (Err error) fine holds = cc
+
+-- of one element at most the last is all
+pub alone_popped : {X : Type 0} (old new : List X) (result : Option X) → old ≡ new ++ option_to_list result → (IsNone result → old ≡ []) → length old ≤ 1
+    → old ≡ option_to_list result
+alone_popped old new None popped end few = end refl
+alone_popped old [] (Some last) popped end few = popped
+alone_popped old (first ∷ others) (Some last) popped end few =
+    let long = ap length popped in absurd (omega (arith, long, few, length-append others (last ∷ [])))

@@ -1,5 +1,5 @@
 -- What a module's callbacks answer, and the callbacks that a transition makes.
-use Rattle.std.specs.Prelude.{ℕ, Bool, true, false, not, ◌&&◌, ◌||◌, Option, Some, None, List, [], ◌∷◌, ◌++◌, map, if◌then◌else◌}
+use Rattle.std.specs.Prelude.{◌≡◌, ◌≤◌, length, ℕ, Bool, true, false, not, ◌&&◌, ◌||◌, Option, Some, None, List, [], ◌∷◌, ◌++◌, map, if◌then◌else◌}
 use Rattle.st_events.specs.declared.action.Action.{Action}
 use Rattle.st_events.specs.declared.action.Action.TheVariants.{Reply}
 use Rattle.st_events.specs.declared.enter_action.EnterAction.{EnterAction}
@@ -67,6 +67,10 @@ said_by (RepeatState held actions) = record { state = None; «data» = Some held
 said_by (RepeatStateAndData actions) = record { state = None; «data» = None; repeats = true; actions = actions; reason = None }
 said_by (Stop reason held) = record { state = None; «data» = held; repeats = false; actions = []; reason = Some reason }
 said_by (StopAndReply reason replies held) = record { state = None; «data» = held; repeats = false; actions = reply_actions replies; reason = Some reason }
+
+-- it does not stop the machine, and asks for one thing at most
+abbrev pub AsksLittle : {S D C : Type 0} → Said S D C → Type 0
+AsksLittle said = (said.reason ≡ None) × (length said.actions ≤ 1)
 
 -- what an outcome of `enter` says: new data, where it gives some, its actions, or the replies alone with which
 -- it stops the machine, and the reason to stop, if it does

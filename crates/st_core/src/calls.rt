@@ -12,8 +12,8 @@ pub(crate) fn one_call<S: Drop>(
 ) -> Result<PlainList<Call<S>>, AllocError>
     ensures { IfOk result (λ calls. calls ≡ call ∷ []) }
 {
-    let mut calls = Vec::new(alloc);
-    calls.push(call)?;
+    let mut calls = Vec::with_capacity(alloc, 1)?;
+    calls.push_reserved(call);
     Ok(PlainList::from(calls))
 }
 
@@ -25,6 +25,7 @@ pub(crate) fn with_call<S: Drop>(
     ensures { IfOk result (λ after. after ≡ calls ++ call ∷ []) }
 {
     let mut calls = calls.into_vec();
-    calls.push(call)?;
+    calls.reserve_exact(1)?;
+    calls.push_reserved(call);
     Ok(PlainList::from(calls))
 }

@@ -2,6 +2,7 @@
 //! It knows nothing of locks, threads, names, other machines.
 #![tactic(auto)]
 
+mod acted;
 mod answer;
 mod call;
 mod calls;

@@ -1,15 +1,16 @@
 //! What an outcome of `handle` says.
-ghost use Rattle.std.specs.Prelude.{◌≡◌, IfOk};
+ghost use Rattle.std.specs.Prelude.{◌≡◌, true, IfOk};
+ghost use Rattle.std.specs.Option.{option_to_list};
 ghost use Rattle.std.specs.Mem.{FitsInMemory};
 ghost use Rattle.st_events.specs.contracts.outcome.Outcome.{the_row as outcome_row};
 ghost use Rattle.st_events.specs.Rows.{ActionsFit, RepliesFit, InsertsFit, SettingsFit, PlannedFits};
 ghost use Rattle.st_actions.specs.Plan.{plan_of};
-ghost use Rattle.st_core.specs.Callbacks.{said_by, differs, or_old};
+ghost use Rattle.st_core.specs.Callbacks.{said_by, AsksLittle, differs, or_old};
 
 use crate::new_data::replace_given;
 use crate::planning::{plan_actions, replies_alone};
 use st_actions::Planned;
-use st_events::{Outcome, Reason, Replies};
+use st_events::{Action, Outcome, Reason, Replies};
 use std::alloc::{AllocError, Global};
 
 /// The state after an outcome.
@@ -67,6 +68,54 @@ pub(crate) fn reason_of<S, D, C>(outcome: &Outcome<S, D, C>) -> Option<Reason>
         | Outcome::RepeatStateAndData(..) => None,
         Outcome::Stop(reason, _) => Some(*reason),
         Outcome::StopAndReply(reason, _, _) => Some(*reason),
+    }
+}
+
+/// Says that an outcome does not stop the machine and has one action at most.
+pub(crate) fn asks_little<S, D, C>(outcome: &Outcome<S, D, C>) -> bool
+    ensures { result ≡ true → AsksLittle (said_by outcome.now) }
+{
+    match outcome {
+        Outcome::NextState(_, _, actions) => actions.len() <= 1,
+        Outcome::KeepState(_, actions) => actions.len() <= 1,
+        Outcome::KeepStateAndData(actions) => actions.len() <= 1,
+        Outcome::RepeatState(_, actions) => actions.len() <= 1,
+        Outcome::RepeatStateAndData(actions) => actions.len() <= 1,
+        Outcome::Stop(..) | Outcome::StopAndReply(..) => false,
+    }
+}
+
+/// Takes the last action out of an outcome.
+pub(crate) fn pop_action<S: Drop, D: Drop, C: Drop>(
+    outcome: &mut Outcome<S, D, C>,
+) -> Option<Action<C>>
+    ensures alone { AsksLittle (said_by outcome.old) → (said_by outcome.old).actions ≡ option_to_list result }
+    ensures same_data { (said_by outcome.new).data ≡ (said_by outcome.old).data }
+{
+    match outcome {
+        Outcome::NextState(_, _, actions) => actions.pop(),
+        Outcome::KeepState(_, actions) => actions.pop(),
+        Outcome::KeepStateAndData(actions) => actions.pop(),
+        Outcome::RepeatState(_, actions) => actions.pop(),
+        Outcome::RepeatStateAndData(actions) => actions.pop(),
+        Outcome::Stop(..) => None,
+        Outcome::StopAndReply(..) => None,
+    }
+}
+
+/// The new data of an outcome, where there are some.
+pub(crate) fn into_data<S: Drop, D: Drop, C: Drop>(outcome: Outcome<S, D, C>) -> Option<D>
+    requires replies_fit { RepliesFit C.row }
+    ensures { result ≡ (said_by outcome).data }
+{
+    match outcome {
+        Outcome::NextState(_state, new, _actions) => Some(new),
+        Outcome::KeepState(new, _actions) => Some(new),
+        Outcome::RepeatState(new, _actions) => Some(new),
+        Outcome::KeepStateAndData(_actions) => None,
+        Outcome::RepeatStateAndData(_actions) => None,
+        Outcome::Stop(_reason, new) => new,
+        Outcome::StopAndReply(_reason, _replies, new) => new,
     }
 }
 

@@ -6,16 +6,20 @@ ghost use Rattle.st_actions.specs.Plan.{plan_of, replies_of};
 ghost use Rattle.st_core.specs.declared.answer.Answer.TheVariants as answer;
 ghost use Rattle.st_core.specs.declared.call.Call.TheVariants.{Handle, Enter};
 ghost use Rattle.st_core.specs.declared.command.Command.TheVariants as command;
-ghost use Rattle.st_core.specs.Callbacks.{Called, callbacks_of, or_old, handled_with, entered_by, is_entered};
+ghost use Rattle.st_core.specs.Callbacks.{Called, AsksLittle, callbacks_of, said_by, or_old, handled_with, entered_by, is_entered};
 ghost use Rattle.st_core.specs.Choice.{next_event_of};
 ghost use Rattle.st_core.specs.Transition.{with_moment, done_by, unless_refused, went_on, stopped, concluded};
 ghost use Rattle.st_core.specs.Run.{Does, Meets, turn_takes_memory, turn_without_memory};
 
+use crate::acted::{act, postpones};
 use crate::calls::{one_call, with_call};
 use crate::entered::{entered_reason, plan_entered};
 use crate::new_data::{or_old, replace};
-use crate::outcomes::{changes_state, plan_outcome, reason_of, repeats_state, state_after};
-use crate::prepared::prepare;
+use crate::outcomes::{
+    asks_little, changes_state, into_data, plan_outcome, pop_action, reason_of, repeats_state,
+    state_after,
+};
+use crate::prepared::{prepare, prepare_one};
 use crate::{Call, Core, Done, Report, Turned};
 use st_actions::Planned;
 use st_events::{Kind, MOMENT_LIMIT, Module, Outcome, PlainList, Reason, Refusal, Replies};
@@ -109,14 +113,75 @@ impl<M: Module> Core<M> {
         let Some(content) = self.agenda.next_content() else {
             unreachable!()
         };
-        let outcome = self
+        // A `match`, for `?` moves the outcome once more.
+        let outcome = match self
             .module
-            .handle(self.alloc, kind, content, self.state, &self.data)?;
+            .handle(self.alloc, kind, content, self.state, &self.data)
+        {
+            Ok(outcome) => outcome,
+            Err(_) => return Err(Refusal::NoMemory),
+        };
         if is_entered(&self.module, self.state, &outcome) {
             self.enter(now, number, kind, outcome)
+        } else if asks_little(&outcome) {
+            self.conclude_one(now, number, kind, outcome)
         } else {
             self.conclude(now, number, kind, outcome)
         }
+    }
+
+    /// Does what `handle` answered to the next event, which has this number and kind, with no enter call, where it does
+    /// not stop the machine and has one action at most: what `conclude` does, with no plan.
+    fn conclude_one(
+        &mut self,
+        now: u64,
+        number: u64,
+        kind: Kind,
+        mut outcome: OutcomeOf<M>,
+    ) -> Result<Turned<M::State>, Refusal>
+        requires moment { now < 2 ^ 63 }
+        requires number_is { option_map (λ event. event.number) (next_event_of self.old.machine) ≡ Some number }
+        requires little { AsksLittle (said_by outcome) }
+        ensures step { (called : Called M.State M.Data M.Content)
+            → called ≡ handled_with M.State.eq number kind self.old.machine.state self.old.machine.data outcome
+            → Meets turn_takes_memory turn_without_memory result self.old.machine self.new.machine
+            (unless_refused self.old.machine (concluded (callbacks_of M.Module M.State.eq self.old.module_) (with_moment self.old.machine now) number called called.reason)) }
+        ensures unchanged_module { self.new.module_ ≡ self.old.module_ }
+
+        ensures unchanged { OnErr result (self.new ≡ self.old) }
+    {
+        let before = self.state;
+        let after = state_after(before, &outcome);
+        let changed = changes_state(before, &outcome);
+        let asked = pop_action(&mut outcome);
+        let data = into_data(outcome);
+        let calls = handle_alone(self.alloc, number, kind, before)?;
+        let prepared = prepare_one(self.alloc, &mut self.agenda, &asked)?;
+        // Nothing fails from here on.
+        let postpone = postpones(&asked);
+        let mut replied = prepared.replied;
+        self.latest = self.latest.max(now);
+        self.state = after;
+        replace(&mut self.data, data);
+        self.agenda.settle_alone(number, postpone, changed);
+        act(
+            self.alloc,
+            &mut self.requests,
+            &mut self.agenda,
+            self.latest,
+            asked,
+            &mut replied,
+        );
+        Ok(Turned::Reported(Report {
+            event: Some(number),
+            done: done_by(postpone),
+            calls,
+            before,
+            after,
+            replied: PlainList::from(replied),
+            inserted: prepared.inserted,
+            set: prepared.set,
+        }))
     }
 
     /// Does what `handle` answered to the next event, which has this number and kind, with no enter call.

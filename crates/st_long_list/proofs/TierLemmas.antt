@@ -27,15 +27,15 @@ lent_is_got xs place None item = sym (slice_get_past xs place item.3)
 lent_is_got xs place (Some x) item = sym (slice_get_read xs (length xs) place x.now refl item.3.0 item.1)
 
 -- ---- shares
-share_next : (count tier : ℕ) → share count (suc tier) ≡ share (count - 128) tier
+share_next : (count tier : ℕ) → share count (suc tier) ≡ share (count - 512) tier
 share_next count tier = omega arith
 
-packed_rest : (count : ℕ) (n : ℕ) (ns : List ℕ) → ArePacked count (n ∷ ns) → ArePacked (count - 128) ns
+packed_rest : (count : ℕ) (n : ℕ) (ns : List ℕ) → ArePacked count (n ∷ ns) → ArePacked (count - 512) ns
 packed_rest count n ns packed = λ tier. packed (suc tier) ∙ share_next count tier
 
 -- the tiers before one are full
 abbrev pub AreFull : ℕ → List ℕ → Type 0
-AreFull tiers lengths = (tier : ℕ) → tier < tiers → get_or lengths tier 0 ≡ 128
+AreFull tiers lengths = (tier : ℕ) → tier < tiers → get_or lengths tier 0 ≡ 512
 
 module _ {T V : Type 0} (f : T → List V) where
   -- ---- how many elements there are
@@ -43,10 +43,10 @@ module _ {T V : Type 0} (f : T → List V) where
   length_of_items [] count packed = let none = packed 0 in omega arith
   length_of_items (t ∷ ts) count packed =
       let first = packed 0 in
-      let rest = length_of_items ts (count - 128) (packed_rest count (length (f t)) (map (λ t. length (f t)) ts) packed) in
+      let rest = length_of_items ts (count - 512) (packed_rest count (length (f t)) (map (λ t. length (f t)) ts) packed) in
       omega (arith, length-append (f t) (flat_map f ts))
 
-  length_of_front : (ts : List T) (tier : ℕ) → tier ≤ length ts → AreFull tier (map (λ t. length (f t)) ts) → length (flat_map f (take tier ts)) ≡ 128 * tier
+  length_of_front : (ts : List T) (tier : ℕ) → tier ≤ length ts → AreFull tier (map (λ t. length (f t)) ts) → length (flat_map f (take tier ts)) ≡ 512 * tier
   length_of_front ts zero within full = refl
   length_of_front [] (suc tier) within full = absurd (omega arith)
   length_of_front (t ∷ ts) (suc tier) within full =
@@ -71,39 +71,39 @@ module _ {T V : Type 0} (f : T → List V) where
 
   -- what a place in one tier is among all the elements
   module _ (ts : List T) (tier : ℕ) (t : T) (within : tier < length ts) (at : t ≡ get_or ts tier t) (full : AreFull tier (map (λ t. length (f t)) ts)) where
-    before : length (flat_map f (take tier ts)) ≡ 128 * tier
+    before : length (flat_map f (take tier ts)) ≡ 512 * tier
     before = length_of_front ts tier (omega arith) full
 
-    got_within : (place : ℕ) → place < length (f t) → slice_get (flat_map f ts) (128 * tier + place) ≡ slice_get (f t) place
+    got_within : (place : ℕ) → place < length (f t) → slice_get (flat_map f ts) (512 * tier + place) ≡ slice_get (f t) place
     got_within place small =
-        ap (λ vs. slice_get vs (128 * tier + place)) (split_at ts tier t within at)
-        ∙ got_right (flat_map f (take tier ts)) (f t ++ flat_map f (drop (suc tier) ts)) (128 * tier) place before
+        ap (λ vs. slice_get vs (512 * tier + place)) (split_at ts tier t within at)
+        ∙ got_right (flat_map f (take tier ts)) (f t ++ flat_map f (drop (suc tier) ts)) (512 * tier) place before
         ∙ got_left (f t) (flat_map f (drop (suc tier) ts)) place small
 
-    pub inserted : (place whole : ℕ) (value : V) (u : T) → whole ≡ 128 * tier + place → place ≤ length (f t) → f u ≡ insert (f t) place value
+    pub inserted : (place whole : ℕ) (value : V) (u : T) → whole ≡ 512 * tier + place → place ≤ length (f t) → f u ≡ insert (f t) place value
         → flat_map f (set ts tier u) ≡ insert (flat_map f ts) whole value
     inserted place whole value u is small changed =
         let front = flat_map f (take tier ts) in
         let back = flat_map f (drop (suc tier) ts) in
-        let left : whole - 128 * tier ≡ place = omega arith in
+        let left : whole - 512 * tier ≡ place = omega arith in
         split_set ts tier u within
         ∙ ap (λ vs. front ++ (vs ++ back)) changed
         ∙ ap (λ vs. front ++ vs) (sym (insert-append_left (f t) back place value small))
         ∙ ap (λ k. front ++ insert (f t ++ back) k value) (sym left)
-        ∙ sym (insert-append_right front (f t ++ back) (128 * tier) whole value before (omega arith))
+        ∙ sym (insert-append_right front (f t ++ back) (512 * tier) whole value before (omega arith))
         ∙ ap (λ vs. insert vs whole value) (sym (split_at ts tier t within at))
 
-    pub removed : (place whole : ℕ) (u : T) → whole ≡ 128 * tier + place → place < length (f t) → f u ≡ remove (f t) place
+    pub removed : (place whole : ℕ) (u : T) → whole ≡ 512 * tier + place → place < length (f t) → f u ≡ remove (f t) place
         → flat_map f (set ts tier u) ≡ remove (flat_map f ts) whole
     removed place whole u is small changed =
         let front = flat_map f (take tier ts) in
         let back = flat_map f (drop (suc tier) ts) in
-        let left : whole - 128 * tier ≡ place = omega arith in
+        let left : whole - 512 * tier ≡ place = omega arith in
         split_set ts tier u within
         ∙ ap (λ vs. front ++ (vs ++ back)) changed
         ∙ ap (λ vs. front ++ vs) (sym (remove-append_left (f t) back place small))
         ∙ ap (λ k. front ++ remove (f t ++ back) k) (sym left)
-        ∙ sym (remove-append_right front (f t ++ back) (128 * tier) whole before (omega arith))
+        ∙ sym (remove-append_right front (f t ++ back) (512 * tier) whole before (omega arith))
         ∙ ap (λ vs. remove vs whole) (sym (split_at ts tier t within at))
 
   pub replaced : (ts : List T) (tier : ℕ) (t u : T) → tier < length ts → t ≡ get_or ts tier t → f u ≡ f t → flat_map f (set ts tier u) ≡ flat_map f ts
@@ -113,7 +113,7 @@ module _ {T V : Type 0} (f : T → List V) where
       ∙ sym (split_at ts tier t within at)
 
   -- ---- what is read at a place
-  pub got_in : (ts : List T) (count tier place whole : ℕ) (t : T) → whole ≡ 128 * tier + place → place < 128 → tier < length ts → t ≡ get_or ts tier t
+  pub got_in : (ts : List T) (count tier place whole : ℕ) (t : T) → whole ≡ 512 * tier + place → place < 512 → tier < length ts → t ≡ get_or ts tier t
       → ArePacked count (map (λ t. length (f t)) ts) → slice_get (flat_map f ts) whole ≡ slice_get (f t) place
   got_in ts count tier place whole t is small within at packed =
       let long = length_of_items ts count packed in
@@ -125,7 +125,7 @@ module _ {T V : Type 0} (f : T → List V) where
         | inr outside ↦ slice_get_past (flat_map f ts) whole (omega arith) ∙ sym (slice_get_past (f t) place (omega arith))
       ]
 
-  pub got_past : (ts : List T) (count tier place whole : ℕ) → whole ≡ 128 * tier + place → length ts ≤ tier
+  pub got_past : (ts : List T) (count tier place whole : ℕ) → whole ≡ 512 * tier + place → length ts ≤ tier
       → ArePacked count (map (λ t. length (f t)) ts) → slice_get (flat_map f ts) whole ≡ None
   got_past ts count tier place whole is past packed =
       let long = length_of_items ts count packed in

@@ -1,4 +1,4 @@
--- The tiers of a long list: each has 128 elements, but the last that has any.
+-- The tiers of a long list: each has 512 elements, but the last that has any.
 use Rattle.std.specs.Prelude.{◌≡◌, ℕ, ◌+◌, ◌-◌, ◌*◌, ◌<◌, ◌≤◌, min, List, length, map, flat_map, get_or, set}
 use Rattle.std.specs.VecDeque.{deque_capacity}
 use Rattle.std_alloc.specs.declared.vec.deque.VecDeque.{VecDeque}
@@ -18,7 +18,7 @@ module _ {V Z : Type 0} where
 
 -- so many of some places lie in a tier
 abbrev pub share : ℕ → ℕ → ℕ
-share places tier = min 128 (places - 128 * tier)
+share places tier = min 512 (places - 512 * tier)
 
 -- the tiers have so many elements, from the first on
 abbrev pub ArePacked : ℕ → List ℕ → Type 0

@@ -9,9 +9,9 @@ use std::marker::Model;
 
 /// A list of elements, with places reserved for more.
 ///
-/// An element can come in at any place, and leave from any. The elements lie in tiers of 128: a call that puts one in or
+/// An element can come in at any place, and leave from any. The elements lie in tiers of 512: a call that puts one in or
 /// takes one out moves elements of one tier, and one element of each tier behind it. So its cost grows with the list's
-/// length divided by 128; at the end of the list it does not grow at all, nor does that of a look at a place.
+/// length divided by 512; at the end of the list it does not grow at all, nor does that of a look at a place.
 ///
 /// Only `reserve` takes memory: `insert` uses a place that is reserved, and the place of an element that is taken out is
 /// reserved again. No memory is given back before the list is dropped.
@@ -81,7 +81,7 @@ impl<V> LongList<V> {
 
     /// Reserves memory, so that `count` elements can come in by calls that cannot fail. Where so many places are
     /// reserved, it takes no memory. One who reserves a place at a time pays little for each: a tier takes memory for
-    /// twice as many elements as before, up to 128.
+    /// twice as many elements as before, up to 512.
     ///
     /// Where memory is wanted and there is none, nothing changes that can be read.
     pub fn reserve(&mut self, count: usize) -> Result<(), AllocError>
@@ -101,7 +101,7 @@ impl<V> LongList<V> {
     /// Puts a value at a place, up to the one behind the last element. What stood there and behind it comes after it.
     ///
     /// It uses a place that is reserved, takes no memory and cannot fail. Its cost grows with the number of elements
-    /// that come after it, divided by 128.
+    /// that come after it, divided by 512.
     pub fn insert(&mut self, place: usize, value: V)
         requires place { place ≤ length self.old.items }
         requires reserved { 0 < self.old.reserved }
@@ -114,7 +114,7 @@ impl<V> LongList<V> {
     }
 
     /// Takes the element at a place out. What stood behind it moves up, and one place more is reserved. Its cost grows
-    /// with the number of elements that come after it, divided by 128.
+    /// with the number of elements that come after it, divided by 512.
     ///
     /// `None`: there is no such place, and nothing changes.
     pub fn remove(&mut self, place: usize) -> Option<V>

@@ -7,17 +7,17 @@ use crate::LongList;
 use host::Host;
 use std::process::Abort;
 
-/// All that can be read of a list without a change to it, of up to 512 elements.
+/// All that can be read of a list without a change to it, of up to 2,048 elements.
 #[derive(Drop)]
 struct Seen {
     len: usize,
     is_empty: bool,
     last: Option<u32>,
-    items: [Option<u32>; 512],
+    items: [Option<u32>; 2_048],
 }
 
 fn readable(list: &LongList<u32>) -> Seen {
-    let mut items = [None; 512];
+    let mut items = [None; 2_048];
     for (place, item) in items.iter_mut().enumerate() {
         *item = list.get(place).copied();
     }
@@ -136,17 +136,17 @@ fn each_call_answers(rt: HostRuntime) {
 fn many_come_in(rt: HostRuntime) {
     let rt = Host::new(rt);
     let mut list = LongList::new(rt.alloc());
-    reserve_for(&rt, &mut list, 400);
-    line_up(&rt, &mut list, 0, 200);
-    crowd_in(&rt, &mut list, 0, 200, 300);
-    crowd_in(&rt, &mut list, 200, 300, 400);
-    assert_eq!(rt; list.len(), 400);
-    goes_down(&rt, &list, 0, 100, 299, 1);
-    goes_up(&rt, &list, 100, 200, 0, 1);
-    goes_down(&rt, &list, 200, 300, 399, 1);
-    goes_up(&rt, &list, 300, 400, 100, 1);
-    assert_eq!(rt; list.get(400).copied(), None);
-    assert_eq!(rt; list.last().copied(), Some(199));
+    reserve_for(&rt, &mut list, 1_600);
+    line_up(&rt, &mut list, 0, 800);
+    crowd_in(&rt, &mut list, 0, 800, 1_200);
+    crowd_in(&rt, &mut list, 800, 1_200, 1_600);
+    assert_eq!(rt; list.len(), 1_600);
+    goes_down(&rt, &list, 0, 400, 1_199, 1);
+    goes_up(&rt, &list, 400, 800, 0, 1);
+    goes_down(&rt, &list, 800, 1_200, 1_599, 1);
+    goes_up(&rt, &list, 1_200, 1_600, 400, 1);
+    assert_eq!(rt; list.get(1_600).copied(), None);
+    assert_eq!(rt; list.last().copied(), Some(799));
     rt.end();
 }
 
@@ -154,28 +154,28 @@ fn many_come_in(rt: HostRuntime) {
 fn many_leave(rt: HostRuntime) {
     let rt = Host::new(rt);
     let mut list = LongList::new(rt.alloc());
-    reserve_for(&rt, &mut list, 400);
-    line_up(&rt, &mut list, 0, 400);
-    leave(&rt, &mut list, 0, 0, 150);
-    leave(&rt, &mut list, 100, 250, 350);
-    for number in 0..20 {
-        assert_eq!(rt; list.pop(), Some(399 - number));
+    reserve_for(&rt, &mut list, 1_600);
+    line_up(&rt, &mut list, 0, 1_600);
+    leave(&rt, &mut list, 0, 0, 600);
+    leave(&rt, &mut list, 400, 1_000, 1_400);
+    for number in 0..80 {
+        assert_eq!(rt; list.pop(), Some(1_599 - number));
     }
-    assert_eq!(rt; list.remove(130), None);
-    assert_eq!(rt; list.len(), 130);
-    goes_up(&rt, &list, 0, 100, 150, 1);
-    goes_up(&rt, &list, 100, 130, 350, 1);
-    crowd_in(&rt, &mut list, 120, 0, 270);
-    assert_eq!(rt; list.len(), 400);
-    goes_up(&rt, &list, 100, 120, 350, 1);
-    goes_down(&rt, &list, 120, 390, 269, 1);
-    goes_up(&rt, &list, 390, 400, 370, 1);
-    leave(&rt, &mut list, 0, 150, 250);
-    leave(&rt, &mut list, 0, 350, 370);
-    for number in 0..10 {
-        assert_eq!(rt; list.pop(), Some(379 - number));
+    assert_eq!(rt; list.remove(520), None);
+    assert_eq!(rt; list.len(), 520);
+    goes_up(&rt, &list, 0, 400, 600, 1);
+    goes_up(&rt, &list, 400, 520, 1_400, 1);
+    crowd_in(&rt, &mut list, 480, 0, 1_080);
+    assert_eq!(rt; list.len(), 1_600);
+    goes_up(&rt, &list, 400, 480, 1_400, 1);
+    goes_down(&rt, &list, 480, 1_560, 1_079, 1);
+    goes_up(&rt, &list, 1_560, 1_600, 1_480, 1);
+    leave(&rt, &mut list, 0, 600, 1_000);
+    leave(&rt, &mut list, 0, 1_400, 1_480);
+    for number in 0..40 {
+        assert_eq!(rt; list.pop(), Some(1_519 - number));
     }
-    for number in 0..270 {
+    for number in 0..1_080 {
         assert_eq!(rt; list.pop(), Some(number));
     }
     assert!(rt; list.is_empty());
@@ -190,13 +190,13 @@ fn a_refused_call_changes_nothing(rt: HostRuntime) {
     line_up(&rt, &mut list, 0, 6);
     assert!(rt; list.reserve(usize::MAX).is_err());
     assert!(rt; list.reserve(usize::MAX - 6).is_err());
-    reserve_for(&rt, &mut list, 130);
-    crowd_in(&rt, &mut list, 3, 6, 140);
-    assert_eq!(rt; list.remove(3), Some(139));
-    reserve_for(&rt, &mut list, 300);
-    assert_eq!(rt; list.len(), 139);
+    reserve_for(&rt, &mut list, 520);
+    crowd_in(&rt, &mut list, 3, 6, 560);
+    assert_eq!(rt; list.remove(3), Some(559));
+    reserve_for(&rt, &mut list, 1_200);
+    assert_eq!(rt; list.len(), 559);
     goes_up(&rt, &list, 0, 3, 0, 1);
-    goes_down(&rt, &list, 3, 136, 138, 1);
-    goes_up(&rt, &list, 136, 139, 3, 1);
+    goes_down(&rt, &list, 3, 556, 558, 1);
+    goes_up(&rt, &list, 556, 559, 3, 1);
     rt.end();
 }

@@ -8,7 +8,7 @@ use std::alloc::AllocError;
 use std::collections::VecDeque;
 
 /// How many elements a tier has, but the last.
-pub(crate) const TIER: usize = 128;
+pub(crate) const TIER: usize = 512;
 
 /// How many elements the first memory of a tier is for, where no more are asked for.
 const FEW: usize = 4;
@@ -44,7 +44,7 @@ fn pass_down<V>(tiers: &mut Vec<VecDeque<V>>, tier: usize)
 /// Makes a place free in a tier, where there are so many elements: from it on, each tier passes its last element to the
 /// next, up to the tier in which the list ends.
 pub(crate) fn free_place<V>(tiers: &mut Vec<VecDeque<V>>, len: usize, tier: usize)
-    requires tier { tier ≤ len / 128 }
+    requires tier { tier ≤ len / 512 }
     requires packed { ArePacked len (lengths_of tiers.old.items) }
     requires room { HaveRoom (len + 1) (rooms_of tiers.old.items) }
     ensures items { items_of tiers.new.items ≡ items_of tiers.old.items }
@@ -61,7 +61,7 @@ pub(crate) fn free_place<V>(tiers: &mut Vec<VecDeque<V>>, len: usize, tier: usiz
 /// Fills a place that is free in a tier, where so many elements are left: from it on, each tier takes the first element
 /// of the next, up to the tier in which the list ends.
 pub(crate) fn fill_place<V>(tiers: &mut Vec<VecDeque<V>>, len: usize, tier: usize)
-    requires tier { tier ≤ len / 128 }
+    requires tier { tier ≤ len / 512 }
     requires gap { HaveGap len tier (lengths_of tiers.old.items) }
     requires room { HaveRoom (len + 1) (rooms_of tiers.old.items) }
     ensures items { items_of tiers.new.items ≡ items_of tiers.old.items }
@@ -122,7 +122,7 @@ fn enlarge_tier<V>(
 ) -> Result<(), AllocError>
     requires tier { tier ≤ length tiers.old.items }
     requires row { tier < vec_capacity tiers.old }
-    requires wanted { wanted ≤ 128 }
+    requires wanted { wanted ≤ 512 }
     ensures items { items_of tiers.new.items ≡ items_of tiers.old.items }
     ensures lengths { AreSame (lengths_of tiers.old.items) (lengths_of tiers.new.items) }
     ensures rooms { AreNoLess (rooms_of tiers.old.items) (rooms_of tiers.new.items) }
@@ -153,7 +153,7 @@ fn add_tier<V>(tiers: &mut Vec<VecDeque<V>>, tier: usize)
 /// Takes memory, so that a tier has room for so many elements: for at least twice as many as before, so that one that
 /// grows step by step seldom moves, and for no more than a whole tier.
 fn widen<V>(tier: &mut VecDeque<V>, wanted: usize) -> Result<(), AllocError>
-    requires { wanted ≤ 128 }
+    requires { wanted ≤ 512 }
     ensures items { tier.new.items ≡ tier.old.items }
     ensures room { deque_capacity tier.old ≤ deque_capacity tier.new }
     ensures enough { OnOk result (wanted ≤ deque_capacity tier.new) }

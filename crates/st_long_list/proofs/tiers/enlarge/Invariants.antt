@@ -10,9 +10,9 @@ invariant-loop-tier g l = record {
   room : (tier : ℕ) → tier < l.tier → share l.wanted tier ≤ get_or (rooms_of l.tiers.items) tier 0;
   items : items_of l.tiers.items ≡ items_of l.initial.tiers.items;
   lengths : AreSame (lengths_of l.initial.tiers.items) (lengths_of l.tiers.items);
-  row : (l.wanted - 1) / 128 + 1 ≤ vec_capacity l.tiers;
+  row : (l.wanted - 1) / 512 + 1 ≤ vec_capacity l.tiers;
   rooms : AreNoLess (rooms_of l.initial.tiers.items) (rooms_of l.tiers.items);
 }
 
 abbrev pub decreases-loop-tier : goal.decreases-loop-tier
-decreases-loop-tier g l = (l.wanted - 1) / 128 + 1 - l.tier
+decreases-loop-tier g l = (l.wanted - 1) / 512 + 1 - l.tier

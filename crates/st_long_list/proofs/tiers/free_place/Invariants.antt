@@ -6,7 +6,7 @@ use Rattle.st_long_list.proofs.tiers.free_place.Given as goal
 abbrev pub invariant-loop-free : goal.invariant-loop-free
 invariant-loop-free g l = record {
   behind : l.tier ≤ l.free;
-  within : l.free ≤ l.len / 128;
+  within : l.free ≤ l.len / 512;
   gap : HaveGap l.len l.free (lengths_of l.tiers.items);
   items : items_of l.tiers.items ≡ items_of l.initial.tiers.items;
   rooms : rooms_of l.tiers.items ≡ rooms_of l.initial.tiers.items;

@@ -1,5 +1,4 @@
 use Rattle.std.proofs.Common.{◌≡◌, ◌<◌, ◌^◌, true, false, None, Some, refl, ap, sym, ◌∙◌, inr, arith}
-use Rattle.std.proofs.lemmas.Result.{err_from_is_err_and}
 use Rattle.std.specs.Option.{option_map}
 use Rattle.st_agenda.specs.Agenda.{name_of_event}
 use Rattle.st_events.specs.declared.event.Event.{Event}
@@ -46,6 +45,18 @@ conclude-requires-send-M-Content g c κs within = c.type_bounds.send-M-Content
 pub conclude-requires-send-M-Arg : goal.conclude-requires-send-M-Arg
 conclude-requires-send-M-Arg g c κs within = c.type_bounds.send-M-Arg
 
+pub conclude_one-requires-send-M-State : goal.conclude_one-requires-send-M-State
+conclude_one-requires-send-M-State g c κs within = c.type_bounds.send-M-State
+
+pub conclude_one-requires-send-M-Data : goal.conclude_one-requires-send-M-Data
+conclude_one-requires-send-M-Data g c κs within = c.type_bounds.send-M-Data
+
+pub conclude_one-requires-send-M-Content : goal.conclude_one-requires-send-M-Content
+conclude_one-requires-send-M-Content g c κs within = c.type_bounds.send-M-Content
+
+pub conclude_one-requires-send-M-Arg : goal.conclude_one-requires-send-M-Arg
+conclude_one-requires-send-M-Arg g c κs within = c.type_bounds.send-M-Arg
+
 pub enter-requires-after_bounds : goal.enter-requires-after_bounds
 enter-requires-after_bounds g c κs within =
     let early : c.args.now < 2 ^ 63 = omega (arith, c.if-now-ge-MOMENT_LIMIT.false) in
@@ -60,9 +71,16 @@ conclude-requires-after_bounds g c κs within =
     let named : option_map name_of_event next ≡ Some (c.in-Some-next_event.number, c.in-Some-next_event.kind) = rw (← c.self.view_is) (sym c.next_event.ensures ∙ c.in-Some-next_event.is) in
     (g.met.M.Module.lawful.outcome_fits, (early, number_named next (c.in-Some-next_event.number, c.in-Some-next_event.kind) named))
 
+pub conclude_one-requires-after_bounds : goal.conclude_one-requires-after_bounds
+conclude_one-requires-after_bounds g c κs within =
+    let early : c.args.now < 2 ^ 63 = omega (arith, c.if-now-ge-MOMENT_LIMIT.false) in
+    let next = next_event_of c.args.self.now.machine in
+    let named : option_map name_of_event next ≡ Some (c.in-Some-next_event.number, c.in-Some-next_event.kind) = rw (← c.self.view_is) (sym c.next_event.ensures ∙ c.in-Some-next_event.is) in
+    (g.met.M.Module.lawful.outcome_fits, (early, (number_named next (c.in-Some-next_event.number, c.in-Some-next_event.kind) named, c.asks_little.ensures c.if-asks_little.true)))
+
 -- `handle` finds no memory
-pub returns-in_err-outcome-clause-does : goal.returns-in_err-outcome-clause-does
-returns-in_err-outcome-clause-does g c =
+pub returns-in-Err-clause-does : goal.returns-in-Err-clause-does
+returns-in-Err-clause-does g c =
     let callbacks = callbacks_of g.M.Module g.M.State.PartialEq.eq c.args.self.now.module_ in
     let machine = c.args.self.now.machine in
     let next = next_event_of machine in
@@ -73,8 +91,7 @@ returns-in_err-outcome-clause-does g c =
     let content : option_map (λ (e : Event _). e.content) next ≡ Some c.in-Some-next_content.content.now =
     rw (← c.self.view_is) (sym c.next_content.ensures ∙ rw c.in-Some-next_content.is refl) in
     let there = event_is next (c.in-Some-next_event.number, c.in-Some-next_event.kind) c.in-Some-next_content.content.now named content in
-    let told = err_from_is_err_and c.from_residual.result c.from_residual.ensures.1 in
-    inr (turn_wants_memory callbacks machine c.args.now event ended early there, rw (told.1, told.2) refl, refl)
+    inr (turn_wants_memory callbacks machine c.args.now event ended early there, refl, refl)
 
 -- with an enter call
 pub returns-then-is_entered-clause-does : goal.returns-then-is_entered-clause-does
@@ -89,7 +106,7 @@ returns-then-is_entered-clause-does g c =
     let content : option_map (λ (e : Event _). e.content) next ≡ Some c.in-Some-next_content.content.now =
     rw (← c.self.view_is) (sym c.next_content.ensures ∙ rw c.in-Some-next_content.is refl) in
     let there = event_is next (c.in-Some-next_event.number, c.in-Some-next_event.kind) c.in-Some-next_content.content.now named content in
-    let answered : c.in_ok-outcome.outcome ≡ outcome_of callbacks machine event = rw (c.in_ok-outcome.ensures, ← c.self.view_is) refl in
+    let answered : c.in-Ok.outcome ≡ outcome_of callbacks machine event = rw (c.in-Ok.ensures, ← c.self.view_is) refl in
     let call : is_entered callbacks machine.state (outcome_of callbacks machine event) ≡ true =
     rw (← answered) (rw (← c.self.view_is) (sym c.is_entered.ensures ∙ c.if-is_entered.true)) in
     turn_does (callbacks_of g.M.Module g.M.State.PartialEq.eq) c.args.self.now c.enter.new.self c.args.now c.enter.result c.enter.ensures.unchanged_module
@@ -97,9 +114,9 @@ returns-then-is_entered-clause-does g c =
     (c.enter.ensures.step (entered_by callbacks machine.state (handled_with callbacks.same_state event.number event.kind machine.state machine.data (outcome_of callbacks machine event)))
     (ap (λ outcome. entered_by callbacks machine.state (handled_with callbacks.same_state event.number event.kind machine.state machine.data outcome)) (sym answered))))
 
--- with none
-pub returns-else-is_entered-clause-does : goal.returns-else-is_entered-clause-does
-returns-else-is_entered-clause-does g c =
+-- with none, and with one action at most
+pub returns-then-asks_little-clause-does : goal.returns-then-asks_little-clause-does
+returns-then-asks_little-clause-does g c =
     let callbacks = callbacks_of g.M.Module g.M.State.PartialEq.eq c.args.self.now.module_ in
     let machine = c.args.self.now.machine in
     let next = next_event_of machine in
@@ -110,7 +127,28 @@ returns-else-is_entered-clause-does g c =
     let content : option_map (λ (e : Event _). e.content) next ≡ Some c.in-Some-next_content.content.now =
     rw (← c.self.view_is) (sym c.next_content.ensures ∙ rw c.in-Some-next_content.is refl) in
     let there = event_is next (c.in-Some-next_event.number, c.in-Some-next_event.kind) c.in-Some-next_content.content.now named content in
-    let answered : c.in_ok-outcome.outcome ≡ outcome_of callbacks machine event = rw (c.in_ok-outcome.ensures, ← c.self.view_is) refl in
+    let answered : c.in-Ok.outcome ≡ outcome_of callbacks machine event = rw (c.in-Ok.ensures, ← c.self.view_is) refl in
+    let none : is_entered callbacks machine.state (outcome_of callbacks machine event) ≡ false =
+    rw (← answered) (rw (← c.self.view_is) (sym c.is_entered.ensures ∙ c.if-is_entered.false)) in
+    turn_does (callbacks_of g.M.Module g.M.State.PartialEq.eq) c.args.self.now c.conclude_one.new.self c.args.now c.conclude_one.result c.conclude_one.ensures.unchanged_module
+    (meets_same turn_takes_memory turn_without_memory _ _ _ (turn_concludes callbacks machine c.args.now event ended early there none)
+    (c.conclude_one.ensures.step (handled_with callbacks.same_state event.number event.kind machine.state machine.data (outcome_of callbacks machine event))
+    (ap (λ outcome. handled_with callbacks.same_state event.number event.kind machine.state machine.data outcome) (sym answered))))
+
+-- with none
+pub returns-else-asks_little-clause-does : goal.returns-else-asks_little-clause-does
+returns-else-asks_little-clause-does g c =
+    let callbacks = callbacks_of g.M.Module g.M.State.PartialEq.eq c.args.self.now.module_ in
+    let machine = c.args.self.now.machine in
+    let next = next_event_of machine in
+    let event : Event _ = record { number = c.in-Some-next_event.number; kind = c.in-Some-next_event.kind; content = c.in-Some-next_content.content.now } in
+    let ended : machine.ended ≡ None = rw (← c.self.view_is) c.in_default.is in
+    let early : c.args.now < 2 ^ 63 = omega (arith, c.if-now-ge-MOMENT_LIMIT.false) in
+    let named : option_map name_of_event next ≡ Some (c.in-Some-next_event.number, c.in-Some-next_event.kind) = rw (← c.self.view_is) (sym c.next_event.ensures ∙ c.in-Some-next_event.is) in
+    let content : option_map (λ (e : Event _). e.content) next ≡ Some c.in-Some-next_content.content.now =
+    rw (← c.self.view_is) (sym c.next_content.ensures ∙ rw c.in-Some-next_content.is refl) in
+    let there = event_is next (c.in-Some-next_event.number, c.in-Some-next_event.kind) c.in-Some-next_content.content.now named content in
+    let answered : c.in-Ok.outcome ≡ outcome_of callbacks machine event = rw (c.in-Ok.ensures, ← c.self.view_is) refl in
     let none : is_entered callbacks machine.state (outcome_of callbacks machine event) ≡ false =
     rw (← answered) (rw (← c.self.view_is) (sym c.is_entered.ensures ∙ c.if-is_entered.false)) in
     turn_does (callbacks_of g.M.Module g.M.State.PartialEq.eq) c.args.self.now c.conclude.new.self c.args.now c.conclude.result c.conclude.ensures.unchanged_module

@@ -17,24 +17,24 @@ bounds g c =
     let some = rw (← c.self.view_is) at c.requires.reserved in
     (omega arith, omega arith)
 
-there : (g : Over) (c : After-free_place g) → c.args.place / 128 < length c.free_place.new.tiers.items
+there : (g : Over) (c : After-free_place g) → c.args.place / 512 < length c.free_place.new.tiers.items
 there g c =
     let bound = bounds g c in
-    tier_still_there (λ t. deque_capacity t) c.self.inside.tiers.items c.free_place.new.tiers.items c.self.inside.places (c.args.place / 128) c.self.invariant.room c.free_place.ensures.rooms (omega arith)
+    tier_still_there (λ t. deque_capacity t) c.self.inside.tiers.items c.free_place.new.tiers.items c.self.inside.places (c.args.place / 512) c.self.invariant.room c.free_place.ensures.rooms (omega arith)
 
 room : (g : Over) (c : After-free_place g) → HaveRoom c.self.inside.places (rooms_of c.free_place.new.tiers.items)
 room g c = rw c.free_place.ensures.rooms c.self.invariant.room
 
 -- the place is one of the tier's or behind its last element, and the tier has memory
-fits : (g : Over) (c : After-index_mut g) → (c.args.place % 128 ≤ length c.index_mut.result.now.items) × (length c.index_mut.result.now.items < deque_capacity c.index_mut.result.now)
+fits : (g : Over) (c : After-index_mut g) → (c.args.place % 512 ≤ length c.index_mut.result.now.items) × (length c.index_mut.result.now.items < deque_capacity c.index_mut.result.now)
 fits g c =
     let before = (goal.at.put-requires-clause-place g c).After-free_place in
     let tiers = c.free_place.new.tiers.items in
     let one = c.index_mut.result.now in
     let bound = bounds g before in
     let fit = place_fits c.self.inside.len c.self.inside.places c.args.place (lengths_of tiers) (rooms_of tiers) bound.0 bound.1 c.free_place.ensures.gap (room g before) in
-    let has = size_at (λ t. length t.items) tiers (c.args.place / 128) one (there g before) c.index_mut.ensures.value in
-    let may = size_at (λ t. deque_capacity t) tiers (c.args.place / 128) one (there g before) c.index_mut.ensures.value in
+    let has = size_at (λ t. length t.items) tiers (c.args.place / 512) one (there g before) c.index_mut.ensures.value in
+    let may = size_at (λ t. deque_capacity t) tiers (c.args.place / 512) one (there g before) c.index_mut.ensures.value in
     (omega arith, omega arith)
 
 pub free_place-requires-clause-tier : goal.free_place-requires-clause-tier
@@ -57,7 +57,7 @@ invariant_of-self g c =
     let opened = (goal.at.invariant_of-self g c).After-index_mut in
     let before = (goal.at.invariant_of-self g c).After-free_place in
     let tiers = c.free_place.new.tiers.items in
-    let tier = c.args.place / 128 in
+    let tier = c.args.place / 512 in
     let one = c.index_mut.result.now in
     let fuller = c.put.new.tier in
     let bound = bounds g before in
@@ -65,7 +65,7 @@ invariant_of-self g c =
     let fit = fits g opened in
     let has = size_at (λ t. length t.items) tiers tier one here c.index_mut.ensures.value in
     let may = size_at (λ t. deque_capacity t) tiers tier one here c.index_mut.ensures.value in
-    let more = ap length c.put.ensures.items ∙ length-insert one.items (c.args.place % 128) c.args.value fit.0 in
+    let more = ap length c.put.ensures.items ∙ length-insert one.items (c.args.place % 512) c.args.value fit.0 in
     record {
       packed = rw (size_set (λ t. length t.items) tiers tier (length fuller.items) fuller refl)
           (gap_filled (lengths_of tiers) tier (length fuller.items) (omega (arith, length-map tiers (λ t. length t.items))) c.self.inside.len (omega arith) (omega arith) c.free_place.ensures.gap);
@@ -82,6 +82,6 @@ returns g c =
     let place = c.args.place in
     let bound = bounds g before in
     let fit = fits g opened in
-    let full = full_before c.self.inside.len (place / 128) (lengths_of tiers) (omega arith) c.free_place.ensures.gap in
-    let items = inserted (λ t. t.items) tiers (place / 128) c.index_mut.result.now (there g before) c.index_mut.ensures.value full (place % 128) place c.args.value c.put.new.tier (omega arith) fit.0 c.put.ensures.items in
+    let full = full_before c.self.inside.len (place / 512) (lengths_of tiers) (omega arith) c.free_place.ensures.gap in
+    let items = inserted (λ t. t.items) tiers (place / 512) c.index_mut.result.now (there g before) c.index_mut.ensures.value full (place % 512) place c.args.value c.put.new.tier (omega arith) fit.0 c.put.ensures.items in
     rw (← c.self.view_is) (same_places (items ∙ ap (λ vs. insert vs place c.args.value) c.free_place.ensures.items) (omega arith))

@@ -9,27 +9,27 @@ use Rattle.st_long_list.proofs.long_list.LongList.remove.Given.{Over}
 use Rattle.st_long_list.proofs.long_list.LongList.remove.Goals.{After-remove-value}
 use Rattle.st_long_list.proofs.long_list.LongList.remove.Goals as goal
 
-there : (g : Over) (c : After-remove-value g) → c.args.place / 128 < length c.self.inside.tiers.items
+there : (g : Over) (c : After-remove-value g) → c.args.place / 512 < length c.self.inside.tiers.items
 there g c =
     let tiers = c.self.inside.tiers.items in
-    tier_still_there (λ t. deque_capacity t) tiers tiers c.self.inside.places (c.args.place / 128) c.self.invariant.room refl (omega arith)
+    tier_still_there (λ t. deque_capacity t) tiers tiers c.self.inside.places (c.args.place / 512) c.self.invariant.room refl (omega arith)
 
 -- the place is one of the tier's
-inside_tier : (g : Over) (c : After-remove-value g) → c.args.place % 128 < length c.index_mut.result.now.items
+inside_tier : (g : Over) (c : After-remove-value g) → c.args.place % 512 < length c.index_mut.result.now.items
 inside_tier g c =
-    let has = size_at (λ t. length t.items) c.self.inside.tiers.items (c.args.place / 128) c.index_mut.result.now (there g c) c.index_mut.ensures.value in
-    let packed = c.self.invariant.packed (c.args.place / 128) in
+    let has = size_at (λ t. length t.items) c.self.inside.tiers.items (c.args.place / 512) c.index_mut.result.now (there g c) c.index_mut.ensures.value in
+    let packed = c.self.invariant.packed (c.args.place / 512) in
     omega arith
 
 some : (g : Over) (c : After-remove-value g) → is_some c.remove-value.result ≡ true
 some g c = let inside = inside_tier g c in c.remove-value.ensures.variant.1 (omega (arith, c.index_mut.result.now.ok.0))
 
 -- the tiers have the memory that they had
-rooms : (g : Over) (c : After-remove-value g) → rooms_of (set c.self.inside.tiers.items (c.args.place / 128) c.remove-value.new.self) ≡ rooms_of c.self.inside.tiers.items
+rooms : (g : Over) (c : After-remove-value g) → rooms_of (set c.self.inside.tiers.items (c.args.place / 512) c.remove-value.new.self) ≡ rooms_of c.self.inside.tiers.items
 rooms g c =
     let tiers = c.self.inside.tiers.items in
-    let may = size_at (λ t. deque_capacity t) tiers (c.args.place / 128) c.index_mut.result.now (there g c) c.index_mut.ensures.value in
-    size_same (λ t. deque_capacity t) tiers (c.args.place / 128) c.remove-value.new.self (c.remove-value.ensures.capacity ∙ sym may)
+    let may = size_at (λ t. deque_capacity t) tiers (c.args.place / 512) c.index_mut.result.now (there g c) c.index_mut.ensures.value in
+    size_same (λ t. deque_capacity t) tiers (c.args.place / 512) c.remove-value.new.self (c.remove-value.ensures.capacity ∙ sym may)
 
 pub returns-then-self-place-clause-value : goal.returns-then-self-place-clause-value
 returns-then-self-place-clause-value g c =
@@ -39,14 +39,14 @@ returns-then-self-place-clause-value g c =
 pub index_mut-requires : goal.index_mut-requires
 index_mut-requires g c =
     let tiers = c.self.inside.tiers in
-    let here = tier_still_there (λ t. deque_capacity t) tiers.items tiers.items c.self.inside.places (c.args.place / 128) c.self.invariant.room refl (omega arith) in
+    let here = tier_still_there (λ t. deque_capacity t) tiers.items tiers.items c.self.inside.places (c.args.place / 512) c.self.invariant.room refl (omega arith) in
     omega (arith, tiers.ok.0)
 
 pub fill_place-requires-clause-gap : goal.fill_place-requires-clause-gap
 fill_place-requires-clause-gap g c =
     let before = (goal.at.fill_place-requires-clause-gap g c).After-remove-value in
     let tiers = c.self.inside.tiers.items in
-    let tier = c.args.place / 128 in
+    let tier = c.args.place / 512 in
     let one = c.index_mut.result.now in
     let left = c.remove-value.new.self in
     let here = there g before in
@@ -74,8 +74,8 @@ returns-clause-value g c =
     let place = c.args.place in
     let one = c.index_mut.result.now in
     rw (← c.self.view_is)
-    (taken_is_got one.items (place % 128) c.remove-value.result (inside_tier g before) (some g before) c.remove-value.ensures.value
-    ∙ sym (got_in (λ t. t.items) c.self.inside.tiers.items c.self.inside.len (place / 128) (place % 128) place one (omega arith) (omega arith) (there g before) c.index_mut.ensures.value c.self.invariant.packed))
+    (taken_is_got one.items (place % 512) c.remove-value.result (inside_tier g before) (some g before) c.remove-value.ensures.value
+    ∙ sym (got_in (λ t. t.items) c.self.inside.tiers.items c.self.inside.len (place / 512) (place % 512) place one (omega arith) (omega arith) (there g before) c.index_mut.ensures.value c.self.invariant.packed))
 
 pub returns-clause-removed : goal.returns-clause-removed
 returns-clause-removed g c =
@@ -83,8 +83,8 @@ returns-clause-removed g c =
     let tiers = c.self.inside.tiers.items in
     let place = c.args.place in
     let fewer = of_some c.remove-value.result _ (some g before) c.remove-value.ensures.items in
-    let full = packed_before c.self.inside.len (place / 128) (lengths_of tiers) (omega arith) c.self.invariant.packed in
-    let items = removed (λ t. t.items) tiers (place / 128) c.index_mut.result.now (there g before) c.index_mut.ensures.value full (place % 128) place c.remove-value.new.self (omega arith) (inside_tier g before) fewer in
+    let full = packed_before c.self.inside.len (place / 512) (lengths_of tiers) (omega arith) c.self.invariant.packed in
+    let items = removed (λ t. t.items) tiers (place / 512) c.index_mut.result.now (there g before) c.index_mut.ensures.value full (place % 512) place c.remove-value.new.self (omega arith) (inside_tier g before) fewer in
     rw (← c.self.view_is) (on_some c.remove-value.result _ (same_places (c.fill_place.ensures.items ∙ items) (omega arith)))
 
 pub returns-clause-unchanged : goal.returns-clause-unchanged
