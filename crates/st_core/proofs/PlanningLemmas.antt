@@ -1,14 +1,15 @@
 -- What outcomes ask for.
-use Rattle.std.proofs.Common.{◌≡◌, ◌≤◌, List, [], ◌∷◌, ◌++◌, length, length-append, refl, ap, false, arith}
+use Rattle.std.proofs.Common.{◌≡◌, ◌≤◌, List, [], ◌∷◌, ◌++◌, length, length-append, refl, ap, ◌∙◌, false, arith}
 use Rattle.std.specs.Prelude.{Result, Ok, Err, OnOk, Option, Some, None}
-use Rattle.std.specs.Option.{option_to_list, IsNone}
+use Rattle.std.specs.Option.{option_map, option_to_list, IsNone}
 use Rattle.std.specs.Result.{is_err}
 use Rattle.st_events.specs.declared.action.Action.{Action}
 use Rattle.st_events.specs.declared.action.Action.TheVariants.{Reply}
+use Rattle.st_events.specs.declared.enter_action.EnterAction.{EnterAction}
 use Rattle.st_events.specs.declared.tag.Tag.{Tag}
 use Rattle.st_actions.specs.declared.planned.Planned.{Planned}
 use Rattle.st_actions.specs.Plan.{replies_of, postpone_of, inserts_of, settings_of, plan_of}
-use Rattle.st_actions.specs.Joined.{as_actions}
+use Rattle.st_actions.specs.Joined.{as_action, as_actions}
 use Rattle.st_core.specs.Callbacks.{reply_actions, enter_reply_actions}
 
 module _ {C : Type 0} where
@@ -49,3 +50,17 @@ alone_popped old new None popped end few = end refl
 alone_popped old [] (Some last) popped end few = popped
 alone_popped old (first ∷ others) (Some last) popped end few =
     let long = ap length popped in absurd (omega (arith, long, few, length-append others (last ∷ [])))
+
+as_action_alone : {C : Type 0} (last : Option (EnterAction C)) → as_actions (option_to_list last) ≡ option_to_list (option_map as_action last)
+as_action_alone None = refl
+as_action_alone (Some last) = refl
+
+-- of one action of an enter call at most the last is all
+pub enter_popped : {C : Type 0} (old new : List (EnterAction C)) (result : Option (EnterAction C)) → old ≡ new ++ option_to_list result → (IsNone result → old ≡ []) → length old ≤ 1
+    → as_actions old ≡ option_to_list (option_map as_action result)
+enter_popped old new result popped end few = ap as_actions (alone_popped old new result popped end few) ∙ as_action_alone result
+
+-- of none there is none
+pub none_entered : {C : Type 0} (actions : List (EnterAction C)) → length actions ≤ 0 → as_actions actions ≡ []
+none_entered [] few = refl
+none_entered (action ∷ actions) few = absurd (omega (arith, few))

@@ -12,6 +12,7 @@ mod engine;
 mod entered;
 mod entry;
 mod laws;
+mod made;
 mod new_data;
 mod numbers;
 mod outcomes;

@@ -1,5 +1,6 @@
 //! What the actions of an event and of the enter call after it ask for.
 ghost use Rattle.std.specs.Prelude.{◌≡◌, ◌++◌, List, IfOk};
+ghost use Rattle.std.specs.Option.{option_to_list};
 ghost use Rattle.st_events.specs.Rows.{ActionsFit, EnterActionsFit, RepliesFit, InsertsFit, SettingsFit, PlannedFits};
 ghost use Rattle.st_events.specs.declared.action.Action.{Action};
 ghost use Rattle.st_events.specs.declared.enter_action.EnterAction.{EnterAction};
@@ -8,7 +9,7 @@ ghost use Rattle.st_actions.specs.Plan.{plan_of};
 ghost use Rattle.st_core.specs.Callbacks.{reply_actions};
 
 use st_actions::{Planned, join, plan, plan_enter};
-use st_events::{Actions, EnterActions, Inserts, Replies, Settings};
+use st_events::{Action, Actions, EnterActions, Inserts, Replies, Settings};
 use std::alloc::{AllocError, Global};
 
 /// What actions ask for.
@@ -23,6 +24,27 @@ pub(crate) fn plan_actions<C: Drop>(
     ensures { IfOk result (λ planned. planned ≡ plan_of actions) }
 {
     Ok(plan(alloc, actions)?)
+}
+
+/// What one action at most asks for.
+pub(crate) fn plan_one<C: Drop>(
+    alloc: Global,
+    asked: Option<Action<C>>,
+) -> Result<Planned<C>, AllocError>
+    requires actions_fit { ActionsFit C.row }
+    requires replies_fit { RepliesFit C.row }
+    requires inserts_fit { InsertsFit C.row }
+    requires settings_fit { SettingsFit C.row }
+    ensures { IfOk result (λ planned. planned ≡ plan_of (option_to_list asked)) }
+{
+    let mut actions = Actions::new(alloc);
+    match asked {
+        None => plan_actions(alloc, actions),
+        Some(action) => {
+            actions.push(action)?;
+            plan_actions(alloc, actions)
+        }
+    }
 }
 
 /// What replies alone ask for. It takes no memory.

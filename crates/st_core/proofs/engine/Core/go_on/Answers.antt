@@ -69,5 +69,5 @@ invariant_of-self-2 g c =
     let next : option_map (λ (event : Event _). event.number) (next_in old.agenda.schedule) ≡ Some c.args.number = rw (← c.self.view_is) at c.requires.number_is in
     let enough = enough_for_all old.agenda.schedule.next_number (length planned.inserts) (numbers_taken planned.requests) c.in_ok-prepared.ensures.numbers in
     rw (c.settle.ensures, c.answer_all.ensures.answered, c.prepare.ensures.same_schedule, c.max-self-inside.ensures)
-    (settled_keeps old.id old.agenda.schedule old.requests old.latest c.args.now old.ended c.args.number planned.postpone c.args.changed planned.inserts planned.requests planned.replies
+    (settled_keeps old.id old.agenda.schedule old.requests old.latest c.args.now old.ended c.args.number planned.postpone c.args.made.changed planned.inserts planned.requests planned.replies
     c.requires.moment next enough c.self.invariant)

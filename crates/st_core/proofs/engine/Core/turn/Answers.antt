@@ -45,6 +45,18 @@ conclude-requires-send-M-Content g c κs within = c.type_bounds.send-M-Content
 pub conclude-requires-send-M-Arg : goal.conclude-requires-send-M-Arg
 conclude-requires-send-M-Arg g c κs within = c.type_bounds.send-M-Arg
 
+pub enter_one-requires-send-M-State : goal.enter_one-requires-send-M-State
+enter_one-requires-send-M-State g c κs within = c.type_bounds.send-M-State
+
+pub enter_one-requires-send-M-Data : goal.enter_one-requires-send-M-Data
+enter_one-requires-send-M-Data g c κs within = c.type_bounds.send-M-Data
+
+pub enter_one-requires-send-M-Content : goal.enter_one-requires-send-M-Content
+enter_one-requires-send-M-Content g c κs within = c.type_bounds.send-M-Content
+
+pub enter_one-requires-send-M-Arg : goal.enter_one-requires-send-M-Arg
+enter_one-requires-send-M-Arg g c κs within = c.type_bounds.send-M-Arg
+
 pub conclude_one-requires-send-M-State : goal.conclude_one-requires-send-M-State
 conclude_one-requires-send-M-State g c κs within = c.type_bounds.send-M-State
 
@@ -71,12 +83,19 @@ conclude-requires-after_bounds g c κs within =
     let named : option_map name_of_event next ≡ Some (c.in-Some-next_event.number, c.in-Some-next_event.kind) = rw (← c.self.view_is) (sym c.next_event.ensures ∙ c.in-Some-next_event.is) in
     (g.met.M.Module.lawful.outcome_fits, (early, number_named next (c.in-Some-next_event.number, c.in-Some-next_event.kind) named))
 
+pub enter_one-requires-after_bounds : goal.enter_one-requires-after_bounds
+enter_one-requires-after_bounds g c κs within =
+    let early : c.args.now < 2 ^ 63 = omega (arith, c.if-now-ge-MOMENT_LIMIT.false) in
+    let next = next_event_of c.args.self.now.machine in
+    let named : option_map name_of_event next ≡ Some (c.in-Some-next_event.number, c.in-Some-next_event.kind) = rw (← c.self.view_is) (sym c.next_event.ensures ∙ c.in-Some-next_event.is) in
+    (g.met.M.Module.lawful.outcome_fits, (early, (number_named next (c.in-Some-next_event.number, c.in-Some-next_event.kind) named, c.asks_little-little.ensures c.if-little.true)))
+
 pub conclude_one-requires-after_bounds : goal.conclude_one-requires-after_bounds
 conclude_one-requires-after_bounds g c κs within =
     let early : c.args.now < 2 ^ 63 = omega (arith, c.if-now-ge-MOMENT_LIMIT.false) in
     let next = next_event_of c.args.self.now.machine in
     let named : option_map name_of_event next ≡ Some (c.in-Some-next_event.number, c.in-Some-next_event.kind) = rw (← c.self.view_is) (sym c.next_event.ensures ∙ c.in-Some-next_event.is) in
-    (g.met.M.Module.lawful.outcome_fits, (early, (number_named next (c.in-Some-next_event.number, c.in-Some-next_event.kind) named, c.asks_little.ensures c.if-asks_little.true)))
+    (g.met.M.Module.lawful.outcome_fits, (early, (number_named next (c.in-Some-next_event.number, c.in-Some-next_event.kind) named, c.asks_little-little.ensures c.if-little-2.true)))
 
 -- `handle` finds no memory
 pub returns-in-Err-clause-does : goal.returns-in-Err-clause-does
@@ -93,9 +112,30 @@ returns-in-Err-clause-does g c =
     let there = event_is next (c.in-Some-next_event.number, c.in-Some-next_event.kind) c.in-Some-next_content.content.now named content in
     inr (turn_wants_memory callbacks machine c.args.now event ended early there, refl, refl)
 
+-- with an enter call, and with one action at most
+pub returns-then-little-clause-does : goal.returns-then-little-clause-does
+returns-then-little-clause-does g c =
+    let callbacks = callbacks_of g.M.Module g.M.State.PartialEq.eq c.args.self.now.module_ in
+    let machine = c.args.self.now.machine in
+    let next = next_event_of machine in
+    let event : Event _ = record { number = c.in-Some-next_event.number; kind = c.in-Some-next_event.kind; content = c.in-Some-next_content.content.now } in
+    let ended : machine.ended ≡ None = rw (← c.self.view_is) c.in_default.is in
+    let early : c.args.now < 2 ^ 63 = omega (arith, c.if-now-ge-MOMENT_LIMIT.false) in
+    let named : option_map name_of_event next ≡ Some (c.in-Some-next_event.number, c.in-Some-next_event.kind) = rw (← c.self.view_is) (sym c.next_event.ensures ∙ c.in-Some-next_event.is) in
+    let content : option_map (λ (e : Event _). e.content) next ≡ Some c.in-Some-next_content.content.now =
+    rw (← c.self.view_is) (sym c.next_content.ensures ∙ rw c.in-Some-next_content.is refl) in
+    let there = event_is next (c.in-Some-next_event.number, c.in-Some-next_event.kind) c.in-Some-next_content.content.now named content in
+    let answered : c.in-Ok.outcome ≡ outcome_of callbacks machine event = rw (c.in-Ok.ensures, ← c.self.view_is) refl in
+    let call : is_entered callbacks machine.state (outcome_of callbacks machine event) ≡ true =
+    rw (← answered) (rw (← c.self.view_is) (sym c.is_entered.ensures ∙ c.if-is_entered.true)) in
+    turn_does (callbacks_of g.M.Module g.M.State.PartialEq.eq) c.args.self.now c.enter_one.new.self c.args.now c.enter_one.result c.enter_one.ensures.unchanged_module
+    (meets_same turn_takes_memory turn_without_memory _ _ _ (turn_enters callbacks machine c.args.now event ended early there call)
+    (c.enter_one.ensures.step (entered_by callbacks machine.state (handled_with callbacks.same_state event.number event.kind machine.state machine.data (outcome_of callbacks machine event)))
+    (ap (λ outcome. entered_by callbacks machine.state (handled_with callbacks.same_state event.number event.kind machine.state machine.data outcome)) (sym answered))))
+
 -- with an enter call
-pub returns-then-is_entered-clause-does : goal.returns-then-is_entered-clause-does
-returns-then-is_entered-clause-does g c =
+pub returns-else-little-clause-does : goal.returns-else-little-clause-does
+returns-else-little-clause-does g c =
     let callbacks = callbacks_of g.M.Module g.M.State.PartialEq.eq c.args.self.now.module_ in
     let machine = c.args.self.now.machine in
     let next = next_event_of machine in
@@ -115,8 +155,8 @@ returns-then-is_entered-clause-does g c =
     (ap (λ outcome. entered_by callbacks machine.state (handled_with callbacks.same_state event.number event.kind machine.state machine.data outcome)) (sym answered))))
 
 -- with none, and with one action at most
-pub returns-then-asks_little-clause-does : goal.returns-then-asks_little-clause-does
-returns-then-asks_little-clause-does g c =
+pub returns-then-little-2-clause-does : goal.returns-then-little-2-clause-does
+returns-then-little-2-clause-does g c =
     let callbacks = callbacks_of g.M.Module g.M.State.PartialEq.eq c.args.self.now.module_ in
     let machine = c.args.self.now.machine in
     let next = next_event_of machine in
@@ -136,8 +176,8 @@ returns-then-asks_little-clause-does g c =
     (ap (λ outcome. handled_with callbacks.same_state event.number event.kind machine.state machine.data outcome) (sym answered))))
 
 -- with none
-pub returns-else-asks_little-clause-does : goal.returns-else-asks_little-clause-does
-returns-else-asks_little-clause-does g c =
+pub returns-else-little-2-clause-does : goal.returns-else-little-2-clause-does
+returns-else-little-2-clause-does g c =
     let callbacks = callbacks_of g.M.Module g.M.State.PartialEq.eq c.args.self.now.module_ in
     let machine = c.args.self.now.machine in
     let next = next_event_of machine in
