@@ -24,6 +24,7 @@ mod tag;
 mod tests;
 mod time;
 mod timer;
+mod token;
 
 pub use action::{Action, Actions};
 pub use enter_action::{EnterAction, EnterActions};
@@ -45,3 +46,4 @@ pub use small_list_builder::SmallListBuilder;
 pub use tag::Tag;
 pub use time::Time;
 pub use timer::Timer;
+pub use token::Token;
