@@ -15,6 +15,7 @@ mod laws;
 mod made;
 mod new_data;
 mod numbers;
+mod opening;
 mod outcomes;
 mod planning;
 mod post;

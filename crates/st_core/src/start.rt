@@ -7,6 +7,7 @@ ghost use Rattle.st_core.specs.Start.{start_of, begun_as, started_with, ended_wi
 use crate::calls::{one_call, with_call};
 use crate::entered::{entered_reason, plan_entered};
 use crate::new_data::replace;
+use crate::opening::Opening;
 use crate::planning::plan_actions;
 use crate::prepared::prepare;
 use crate::{Call, Core, Done, Report};
@@ -82,10 +83,17 @@ impl<M: Module> Core<M> {
             Ok(Init::Ignore) => Ok(Start::Ignored),
             Ok(Init::Stop(reason)) => Ok(Start::Stopped(reason)),
             Ok(Init::Ok(state, data, actions)) => {
-                if module.enters() {
-                    Core::begin_entered(alloc, module, id, state, data, actions, now, first)
+                let opening = Opening {
+                    alloc,
+                    module,
+                    id,
+                    now,
+                    first,
+                };
+                if opening.module.enters() {
+                    Core::begin_entered(opening, state, data, actions)
                 } else {
-                    Core::begin(alloc, module, id, state, data, actions, now, first)
+                    Core::begin(opening, state, data, actions)
                 }
             }
         }
@@ -93,101 +101,87 @@ impl<M: Module> Core<M> {
 
     /// Begins in a state with data, and does what `init` asked for, with no enter call.
     fn begin(
-        alloc: Global,
-        module: M,
-        id: MachineId,
+        opening: Opening<M>,
         state: M::State,
         data: M::Data,
         actions: Actions<M::Content>,
-        now: u64,
-        first: u64,
     ) -> Result<Start<M>, Refused<M>>
-        requires moment { now < 2 ^ 63 }
-        requires greatest { first < 2 ^ 63 }
-        ensures start { Starts «module» result (started_with «module» (first_state id state «data» now first) (begun_with state «data» actions)) }
+        requires moment { opening.now < 2 ^ 63 }
+        requires greatest { opening.first < 2 ^ 63 }
+        ensures start { Starts opening.module result (started_with opening.module (first_state opening.id state «data» opening.now opening.first) (begun_with state «data» actions)) }
     {
-        let Ok(planned) = plan_actions(alloc, actions) else {
-            return Err(Refused::new(Refusal::NoMemory, module));
+        let Ok(planned) = plan_actions(opening.alloc, actions) else {
+            return Err(Refused::new(Refusal::NoMemory, opening.module));
         };
-        let calls = PlainList::new(alloc);
-        Core::run_from(alloc, module, id, calls, state, data, planned, now, first)
+        let calls = PlainList::new(opening.alloc);
+        Core::run_from(opening, calls, state, data, planned)
     }
 
     /// Begins in a state with data, which is entered, and does what `init` and the enter call asked for.
     fn begin_entered(
-        alloc: Global,
-        module: M,
-        id: MachineId,
+        opening: Opening<M>,
         state: M::State,
         mut data: M::Data,
         actions: Actions<M::Content>,
-        now: u64,
-        first: u64,
     ) -> Result<Start<M>, Refused<M>>
-        requires moment { now < 2 ^ 63 }
-        requires greatest { first < 2 ^ 63 }
+        requires moment { opening.now < 2 ^ 63 }
+        requires greatest { opening.first < 2 ^ 63 }
         ensures start { (called : Called M.State M.Data M.Content)
-            → called ≡ entered_by (callbacks_of M.Module M.State.eq «module») state (begun_with state «data» actions)
-            → Starts «module» result (begun_as (callbacks_of M.Module M.State.eq «module») «module» id called now first) }
+            → called ≡ entered_by (callbacks_of M.Module M.State.eq opening.module) state (begun_with state «data» actions)
+            → Starts opening.module result (begun_as (callbacks_of M.Module M.State.eq opening.module) opening.module opening.id called opening.now opening.first) }
     {
-        let Ok(planned) = plan_actions(alloc, actions) else {
-            return Err(Refused::new(Refusal::NoMemory, module));
+        let Ok(planned) = plan_actions(opening.alloc, actions) else {
+            return Err(Refused::new(Refusal::NoMemory, opening.module));
         };
-        let Ok(entered) = module.enter(alloc, state, state, &data) else {
-            return Err(Refused::new(Refusal::NoMemory, module));
+        let Ok(entered) = opening.module.enter(opening.alloc, state, state, &data) else {
+            return Err(Refused::new(Refusal::NoMemory, opening.module));
         };
         let reason = entered_reason(&entered);
         let mut new = None;
-        let Ok(planned) = plan_entered(alloc, planned, entered, &mut new) else {
-            return Err(Refused::new(Refusal::NoMemory, module));
+        let Ok(planned) = plan_entered(opening.alloc, planned, entered, &mut new) else {
+            return Err(Refused::new(Refusal::NoMemory, opening.module));
         };
-        let Ok(calls) = one_call(alloc, Call::Enter { old: state, state }) else {
-            return Err(Refused::new(Refusal::NoMemory, module));
+        let Ok(calls) = one_call(opening.alloc, Call::Enter { old: state, state }) else {
+            return Err(Refused::new(Refusal::NoMemory, opening.module));
         };
         replace(&mut data, new);
         match reason {
-            None => Core::run_from(alloc, module, id, calls, state, data, planned, now, first),
-            Some(reason) => {
-                Core::end_at(alloc, module, id, calls, state, data, now, first, reason)
-            }
+            None => Core::run_from(opening, calls, state, data, planned),
+            Some(reason) => Core::end_at(opening, calls, state, data, reason),
         }
     }
 
     /// A machine runs in a state with data, after these callbacks, and does what the actions ask for. A
     /// Postpone is ignored.
     fn run_from(
-        alloc: Global,
-        module: M,
-        id: MachineId,
+        opening: Opening<M>,
         calls: PlainList<Call<M::State>>,
         state: M::State,
         data: M::Data,
         planned: Planned<M::Content>,
-        now: u64,
-        first: u64,
     ) -> Result<Start<M>, Refused<M>>
-        requires moment { now < 2 ^ 63 }
-        requires greatest { first < 2 ^ 63 }
+        requires moment { opening.now < 2 ^ 63 }
+        requires greatest { opening.first < 2 ^ 63 }
         ensures start { (called : Called M.State M.Data M.Content) → called.calls ≡ calls → plan_of called.actions ≡ planned
-            → Starts «module» result (started_with «module» (first_state id state «data» now first) called) }
+            → Starts opening.module result (started_with opening.module (first_state opening.id state «data» opening.now opening.first) called) }
     {
-        let mut agenda = Agenda::new(alloc, first);
-        let prepared = match prepare(alloc, &mut agenda, &planned) {
+        let mut agenda = Agenda::new(opening.alloc, opening.first);
+        let prepared = match prepare(opening.alloc, &mut agenda, &planned) {
             Ok(prepared) => prepared,
-            Err(refusal) => return Err(Refused::new(refusal, module)),
+            Err(refusal) => return Err(Refused::new(refusal, opening.module)),
         };
         // Nothing fails from here on.
         agenda.insert(planned.inserts);
-        agenda.set_all(now, planned.requests);
+        agenda.set_all(opening.now, planned.requests);
         let core = Core {
-            alloc,
-            module,
-            id,
+            alloc: opening.alloc,
+            module: opening.module,
+            id: opening.id,
             state,
             data,
             agenda,
-            requests: Requests::new(alloc),
-            latest: now,
+            requests: Requests::new(opening.alloc),
+            latest: opening.now,
             ended: None,
         };
         let report = Report {
@@ -196,7 +190,7 @@ impl<M: Module> Core<M> {
             calls,
             before: state,
             after: state,
-            replied: PlainList::new(alloc),
+            replied: PlainList::new(opening.alloc),
             inserted: prepared.inserted,
             set: prepared.set,
         };
@@ -206,39 +200,35 @@ impl<M: Module> Core<M> {
     /// The first enter call stops for a reason, after these callbacks, in a state with data: there is a
     /// machine, which has ended.
     fn end_at(
-        alloc: Global,
-        module: M,
-        id: MachineId,
+        opening: Opening<M>,
         calls: PlainList<Call<M::State>>,
         state: M::State,
         data: M::Data,
-        now: u64,
-        first: u64,
         reason: Reason,
     ) -> Result<Start<M>, Refused<M>>
-        requires moment { now < 2 ^ 63 }
-        requires greatest { first < 2 ^ 63 }
+        requires moment { opening.now < 2 ^ 63 }
+        requires greatest { opening.first < 2 ^ 63 }
         ensures start { (called : Called M.State M.Data M.Content) → called.calls ≡ calls
-            → Starts «module» result (ended_with (callbacks_of M.Module M.State.eq «module») «module» (first_state id state «data» now first) called reason) }
+            → Starts opening.module result (ended_with (callbacks_of M.Module M.State.eq opening.module) opening.module (first_state opening.id state «data» opening.now opening.first) called reason) }
     {
-        let word = module.terminate(reason, state, &data);
+        let word = opening.module.terminate(reason, state, &data);
         let terminate = Call::Terminate {
             reason,
             state,
             word,
         };
         let Ok(calls) = with_call(calls, terminate) else {
-            return Err(Refused::new(Refusal::NoMemory, module));
+            return Err(Refused::new(Refusal::NoMemory, opening.module));
         };
         let core = Core {
-            alloc,
-            module,
-            id,
+            alloc: opening.alloc,
+            module: opening.module,
+            id: opening.id,
             state,
             data,
-            agenda: Agenda::new(alloc, first),
-            requests: Requests::new(alloc),
-            latest: now,
+            agenda: Agenda::new(opening.alloc, opening.first),
+            requests: Requests::new(opening.alloc),
+            latest: opening.now,
             ended: Some((reason, word)),
         };
         let report = Report {
@@ -247,9 +237,9 @@ impl<M: Module> Core<M> {
             calls,
             before: state,
             after: state,
-            replied: PlainList::new(alloc),
-            inserted: PlainList::new(alloc),
-            set: PlainList::new(alloc),
+            replied: PlainList::new(opening.alloc),
+            inserted: PlainList::new(opening.alloc),
+            set: PlainList::new(opening.alloc),
         };
         Ok(Start::Running(core, report))
     }

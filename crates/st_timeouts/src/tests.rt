@@ -1,494 +1,311 @@
 //! Each call once with memory at hand, and all of them where one allocation is refused.
-ghost use Rattle.std.specs.Prelude.{◌≡◌, ◌≤◌, ◌<◌, ◌^◌};
+ghost use Rattle.std.specs.Prelude.{◌≡◌, ◌<◌};
 
+mod call;
 mod host;
+mod seen;
 
 use crate::{Due, Timeouts};
+use call::Call::{
+    Cancel, Content, CountDue, FirstZero, IsLive, List, NextDue, NextExpiry, Reserve, Set, Take,
+    TakeDue,
+};
+use call::{Call, row_answers, set};
 use host::Host;
-use st_events::{PlainList, Timer};
+use st_events::Timer;
 use st_steps::Steps;
 use std::alloc::Global;
 use std::marker::Brand;
 use std::process::Abort;
 use std::sync::ledger::{Blank, Ledger};
 
-/// All that can be read of time-outs without a change to them, of up to eight with their contents.
-#[derive(Drop)]
-struct Seen {
-    list: PlainList<(Timer, u64, Due)>,
-    contents: [Option<char>; 8],
-    first_zero: Option<(Timer, u64)>,
-    next_due: Option<u64>,
-    due: [usize; 3],
-}
-
-/// The list. Where it finds no memory, it is asked for again.
-fn listed(rt: &Host<impl Abort>, timeouts: &Timeouts<char>) -> PlainList<(Timer, u64, Due)> {
-    if let Ok(list) = timeouts.list() {
-        return list;
-    }
-    rt.retry();
-    timeouts
-        .list()
-        .expect(rt, "one allocation alone is refused")
-}
-
-fn readable<L: Ledger>(
-    rt: &Host<impl Abort>,
-    timeouts: &Timeouts<char>,
-    steps: &mut Steps<L>,
-) -> Seen {
-    let list = listed(rt, timeouts);
-    let mut contents = [None; 8];
-    for (content, (timer, number, _)) in contents.iter_mut().zip(list.as_slice()) {
-        assert!(rt; timeouts.is_live(*timer, *number));
-        *content = timeouts.content(*timer, *number).copied();
-    }
-    Seen {
-        list,
-        contents,
-        first_zero: timeouts.first_zero(),
-        next_due: timeouts.next_due(),
-        due: [
-            timeouts.count_due(0, steps),
-            timeouts.count_due(20, steps),
-            timeouts.count_due(u64::MAX, steps),
-        ],
-    }
-}
-
-/// Reserves for so many. A call that finds no memory changes nothing that can be read, and is made again.
-fn reserve_for<L: Ledger>(
-    rt: &Host<impl Abort>,
-    timeouts: &mut Timeouts<char>,
-    count: usize,
-    steps: &mut Steps<L>,
-)
-    ensures { count ≤ timeouts.new.reserved }
-{
-    let before = readable(rt, timeouts, steps);
-    if timeouts.reserve(count).is_err() {
-        let after = readable(rt, timeouts, steps);
-        assert_eq!(rt; after.list.as_slice(), before.list.as_slice());
-        assert_eq!(rt; after.contents, before.contents);
-        assert_eq!(rt; after.first_zero, before.first_zero);
-        assert_eq!(rt; after.next_due, before.next_due);
-        assert_eq!(rt; after.due, before.due);
-        rt.retry();
-        assert!(rt; timeouts.reserve(count).is_ok());
-    }
-}
-
-/// Sets a timer, and reserves for it before.
-fn set<L: Ledger>(
-    rt: &Host<impl Abort>,
-    timeouts: &mut Timeouts<char>,
-    timer: Timer,
-    time: u32,
-    content: char,
-    number: u64,
-    now: u64,
-    steps: &mut Steps<L>,
-) -> Option<char>
-    requires { now < 2 ^ 63 }
-{
-    reserve_for(rt, timeouts, 1, steps);
-    timeouts.set(timer, time, content, number, now)
-}
-
-fn answers<L: Ledger>(rt: &Host<impl Abort>, alloc: Global, blank: Blank)
-    requires name { blank.name ≡ L.name }
-    requires parts { blank.parts ≡ L.parts }
-    requires some { 0 < blank.parts }
-{
-    let mut steps = Steps::<L>::new(blank);
-    let mut timeouts = Timeouts::new(alloc);
-    assert_eq!(rt; timeouts.first_zero(), None);
-    assert_eq!(rt; timeouts.next_due(), None);
-    reserve_for(rt, &mut timeouts, 3, &mut steps);
-    assert_eq!(rt;
-        set(rt, &mut timeouts, Timer::Event, 0, 'a', 1, 5, &mut steps),
-        None
-    );
-    assert_eq!(rt;
-        set(rt, &mut timeouts, Timer::State, 10, 'b', 2, 5, &mut steps),
-        None
-    );
-    assert_eq!(rt;
-        set(
-            rt,
-            &mut timeouts,
-            Timer::Named(7),
-            20,
-            'c',
-            3,
-            5,
-            &mut steps
-        ),
-        None
-    );
-    assert_eq!(rt; timeouts.first_zero(), Some((Timer::Event, 1)));
-    assert_eq!(rt; timeouts.count_due(14, &mut steps), 0);
-    assert_eq!(rt; timeouts.count_due(15, &mut steps), 1);
-    assert_eq!(rt; timeouts.count_due(25, &mut steps), 2);
-    assert_eq!(rt; timeouts.next_due(), Some(15));
-    assert_eq!(rt; timeouts.content(Timer::State, 2).copied(), Some('b'));
-    assert_eq!(rt; timeouts.content(Timer::State, 3).copied(), None);
-    assert!(rt; timeouts.is_live(Timer::Event, 1));
-    assert!(rt; !timeouts.is_live(Timer::Event, 2));
-    assert!(rt; !timeouts.is_live(Timer::Named(8), 3));
-    assert_eq!(rt; timeouts.next_expiry(14, &mut steps), None);
-    assert_eq!(rt;
-        timeouts.next_expiry(15, &mut steps),
-        Some((Timer::State, 2))
-    );
-    assert_eq!(rt; timeouts.next_expiry(15, &mut steps), None);
-    assert_eq!(rt; timeouts.next_due(), Some(25));
-    assert_eq!(rt;
-        listed(rt, &timeouts).as_slice(),
-        [
+#[test]
+fn each_call_answers(rt: HostRuntime) {
+    const ROW: [Call; 28] = [
+        FirstZero(None),
+        NextDue(None),
+        Reserve(3),
+        Set {
+            timer: Timer::Event,
+            time: 0,
+            content: 'a',
+            number: 1,
+            now: 5,
+            returned: None,
+        },
+        Set {
+            timer: Timer::State,
+            time: 10,
+            content: 'b',
+            number: 2,
+            now: 5,
+            returned: None,
+        },
+        Set {
+            timer: Timer::Named(7),
+            time: 20,
+            content: 'c',
+            number: 3,
+            now: 5,
+            returned: None,
+        },
+        FirstZero(Some((Timer::Event, 1))),
+        CountDue(14, 0),
+        CountDue(15, 1),
+        CountDue(25, 2),
+        NextDue(Some(15)),
+        Content(Timer::State, 2, Some('b')),
+        Content(Timer::State, 3, None),
+        IsLive(Timer::Event, 1, true),
+        IsLive(Timer::Event, 2, false),
+        IsLive(Timer::Named(8), 3, false),
+        NextExpiry(14, None),
+        NextExpiry(15, Some((Timer::State, 2))),
+        NextExpiry(15, None),
+        NextDue(Some(25)),
+        List(&[
             (Timer::Event, 1, Due::Zero),
             (Timer::State, 2, Due::At(15)),
             (Timer::Named(7), 3, Due::At(25)),
-        ]
-        .as_slice()
-    );
-    assert_eq!(rt; timeouts.take(Timer::Event, 2), None);
-    assert_eq!(rt; timeouts.take(Timer::Event, 1), Some('a'));
-    assert!(rt; !timeouts.is_live(Timer::Event, 1));
-    assert_eq!(rt; timeouts.cancel(Timer::State), Some('b'));
-    assert_eq!(rt; timeouts.cancel(Timer::State), None);
-    assert_eq!(rt;
-        set(rt, &mut timeouts, Timer::Named(7), 1, 'd', 4, 6, &mut steps),
-        Some('c')
-    );
-    assert_eq!(rt;
-        listed(rt, &timeouts).as_slice(),
-        [(Timer::Named(7), 4, Due::At(7))].as_slice()
-    );
-}
-
-#[test]
-fn each_call_answers(rt: HostRuntime) {
+        ]),
+        Take(Timer::Event, 2, None),
+        Take(Timer::Event, 1, Some('a')),
+        IsLive(Timer::Event, 1, false),
+        Cancel(Timer::State, Some('b')),
+        Cancel(Timer::State, None),
+        Set {
+            timer: Timer::Named(7),
+            time: 1,
+            content: 'd',
+            number: 4,
+            now: 6,
+            returned: Some('c'),
+        },
+        List(&[(Timer::Named(7), 4, Due::At(7))]),
+    ];
     let rt = Host::new(rt);
-    answers::<Brand>(&rt, rt.alloc(), Blank::new(1));
+    row_answers::<Brand>(&rt, rt.alloc(), Blank::new(1), &ROW);
     rt.end();
-}
-
-fn by_number<L: Ledger>(rt: &Host<impl Abort>, alloc: Global, blank: Blank)
-    requires name { blank.name ≡ L.name }
-    requires parts { blank.parts ≡ L.parts }
-    requires some { 0 < blank.parts }
-{
-    let mut steps = Steps::<L>::new(blank);
-    let mut timeouts = Timeouts::new(alloc);
-    assert_eq!(rt;
-        set(
-            rt,
-            &mut timeouts,
-            Timer::Named(1),
-            20,
-            'a',
-            1,
-            0,
-            &mut steps
-        ),
-        None
-    );
-    assert_eq!(rt;
-        set(
-            rt,
-            &mut timeouts,
-            Timer::Named(2),
-            10,
-            'b',
-            2,
-            0,
-            &mut steps
-        ),
-        None
-    );
-    assert_eq!(rt;
-        set(
-            rt,
-            &mut timeouts,
-            Timer::Named(3),
-            20,
-            'c',
-            3,
-            0,
-            &mut steps
-        ),
-        None
-    );
-    assert_eq!(rt; timeouts.count_due(20, &mut steps), 3);
-    assert_eq!(rt;
-        timeouts.next_expiry(20, &mut steps),
-        Some((Timer::Named(2), 2))
-    );
-    assert_eq!(rt;
-        timeouts.next_expiry(20, &mut steps),
-        Some((Timer::Named(1), 1))
-    );
-    assert_eq!(rt; timeouts.take_due(), Some((Timer::Named(3), 3)));
-    assert_eq!(rt; timeouts.take_due(), None);
-    assert_eq!(rt; timeouts.next_expiry(20, &mut steps), None);
 }
 
 #[test]
 fn two_time_outs_for_one_moment_come_by_number(rt: HostRuntime) {
+    const ROW: [Call; 9] = [
+        Set {
+            timer: Timer::Named(1),
+            time: 20,
+            content: 'a',
+            number: 1,
+            now: 0,
+            returned: None,
+        },
+        Set {
+            timer: Timer::Named(2),
+            time: 10,
+            content: 'b',
+            number: 2,
+            now: 0,
+            returned: None,
+        },
+        Set {
+            timer: Timer::Named(3),
+            time: 20,
+            content: 'c',
+            number: 3,
+            now: 0,
+            returned: None,
+        },
+        CountDue(20, 3),
+        NextExpiry(20, Some((Timer::Named(2), 2))),
+        NextExpiry(20, Some((Timer::Named(1), 1))),
+        TakeDue(Some((Timer::Named(3), 3))),
+        TakeDue(None),
+        NextExpiry(20, None),
+    ];
     let rt = Host::new(rt);
-    by_number::<Brand>(&rt, rt.alloc(), Blank::new(1));
+    row_answers::<Brand>(&rt, rt.alloc(), Blank::new(1), &ROW);
     rt.end();
-}
-
-fn set_anew<L: Ledger>(rt: &Host<impl Abort>, alloc: Global, blank: Blank)
-    requires name { blank.name ≡ L.name }
-    requires parts { blank.parts ≡ L.parts }
-    requires some { 0 < blank.parts }
-{
-    let mut steps = Steps::<L>::new(blank);
-    let mut timeouts = Timeouts::new(alloc);
-    assert_eq!(rt;
-        set(
-            rt,
-            &mut timeouts,
-            Timer::Named(1),
-            20,
-            'a',
-            1,
-            0,
-            &mut steps
-        ),
-        None
-    );
-    assert_eq!(rt;
-        set(
-            rt,
-            &mut timeouts,
-            Timer::Named(2),
-            20,
-            'b',
-            2,
-            0,
-            &mut steps
-        ),
-        None
-    );
-    assert_eq!(rt;
-        set(
-            rt,
-            &mut timeouts,
-            Timer::Named(1),
-            20,
-            'c',
-            3,
-            0,
-            &mut steps
-        ),
-        Some('a')
-    );
-    assert_eq!(rt;
-        listed(rt, &timeouts).as_slice(),
-        [
-            (Timer::Named(2), 2, Due::At(20)),
-            (Timer::Named(1), 3, Due::At(20)),
-        ]
-        .as_slice()
-    );
-    assert!(rt; !timeouts.is_live(Timer::Named(1), 1));
-    assert!(rt; timeouts.is_live(Timer::Named(1), 3));
-    assert_eq!(rt; timeouts.content(Timer::Named(1), 1).copied(), None);
-    assert_eq!(rt; timeouts.content(Timer::Named(1), 3).copied(), Some('c'));
-    assert_eq!(rt; timeouts.take(Timer::Named(1), 1), None);
-    assert_eq!(rt; timeouts.take(Timer::Named(1), 3), Some('c'));
 }
 
 #[test]
 fn a_timer_set_anew_goes_last(rt: HostRuntime) {
+    const ROW: [Call; 10] = [
+        Set {
+            timer: Timer::Named(1),
+            time: 20,
+            content: 'a',
+            number: 1,
+            now: 0,
+            returned: None,
+        },
+        Set {
+            timer: Timer::Named(2),
+            time: 20,
+            content: 'b',
+            number: 2,
+            now: 0,
+            returned: None,
+        },
+        Set {
+            timer: Timer::Named(1),
+            time: 20,
+            content: 'c',
+            number: 3,
+            now: 0,
+            returned: Some('a'),
+        },
+        List(&[
+            (Timer::Named(2), 2, Due::At(20)),
+            (Timer::Named(1), 3, Due::At(20)),
+        ]),
+        IsLive(Timer::Named(1), 1, false),
+        IsLive(Timer::Named(1), 3, true),
+        Content(Timer::Named(1), 1, None),
+        Content(Timer::Named(1), 3, Some('c')),
+        Take(Timer::Named(1), 1, None),
+        Take(Timer::Named(1), 3, Some('c')),
+    ];
     let rt = Host::new(rt);
-    set_anew::<Brand>(&rt, rt.alloc(), Blank::new(1));
+    row_answers::<Brand>(&rt, rt.alloc(), Blank::new(1), &ROW);
     rt.end();
-}
-
-fn at_once<L: Ledger>(rt: &Host<impl Abort>, alloc: Global, blank: Blank)
-    requires name { blank.name ≡ L.name }
-    requires parts { blank.parts ≡ L.parts }
-    requires some { 0 < blank.parts }
-{
-    let mut steps = Steps::<L>::new(blank);
-    let mut timeouts = Timeouts::new(alloc);
-    assert_eq!(rt;
-        set(rt, &mut timeouts, Timer::Named(5), 0, 'a', 8, 4, &mut steps),
-        None
-    );
-    assert_eq!(rt;
-        set(rt, &mut timeouts, Timer::Event, 0, 'b', 9, 4, &mut steps),
-        None
-    );
-    assert_eq!(rt; timeouts.count_due(u64::MAX, &mut steps), 0);
-    assert_eq!(rt; timeouts.next_due(), None);
-    assert_eq!(rt; timeouts.next_expiry(u64::MAX, &mut steps), None);
-    assert_eq!(rt; timeouts.first_zero(), Some((Timer::Named(5), 8)));
-    assert_eq!(rt; timeouts.take(Timer::Named(5), 8), Some('a'));
-    assert_eq!(rt; timeouts.first_zero(), Some((Timer::Event, 9)));
 }
 
 #[test]
 fn a_zero_time_out_waits_for_no_moment(rt: HostRuntime) {
+    const ROW: [Call; 8] = [
+        Set {
+            timer: Timer::Named(5),
+            time: 0,
+            content: 'a',
+            number: 8,
+            now: 4,
+            returned: None,
+        },
+        Set {
+            timer: Timer::Event,
+            time: 0,
+            content: 'b',
+            number: 9,
+            now: 4,
+            returned: None,
+        },
+        CountDue(u64::MAX, 0),
+        NextDue(None),
+        NextExpiry(u64::MAX, None),
+        FirstZero(Some((Timer::Named(5), 8))),
+        Take(Timer::Named(5), 8, Some('a')),
+        FirstZero(Some((Timer::Event, 9))),
+    ];
     let rt = Host::new(rt);
-    at_once::<Brand>(&rt, rt.alloc(), Blank::new(1));
+    row_answers::<Brand>(&rt, rt.alloc(), Blank::new(1), &ROW);
     rt.end();
-}
-
-fn once<L: Ledger>(rt: &Host<impl Abort>, alloc: Global, blank: Blank)
-    requires name { blank.name ≡ L.name }
-    requires parts { blank.parts ≡ L.parts }
-    requires some { 0 < blank.parts }
-{
-    let mut steps = Steps::<L>::new(blank);
-    let mut timeouts = Timeouts::new(alloc);
-    assert_eq!(rt;
-        set(rt, &mut timeouts, Timer::State, 10, 'a', 1, 0, &mut steps),
-        None
-    );
-    assert_eq!(rt;
-        timeouts.next_expiry(10, &mut steps),
-        Some((Timer::State, 1))
-    );
-    assert_eq!(rt; timeouts.count_due(10, &mut steps), 0);
-    assert_eq!(rt; timeouts.next_due(), None);
-    assert_eq!(rt; timeouts.next_expiry(10, &mut steps), None);
-    assert_eq!(rt;
-        listed(rt, &timeouts).as_slice(),
-        [(Timer::State, 1, Due::At(10))].as_slice()
-    );
-    assert!(rt; timeouts.is_live(Timer::State, 1));
-    assert_eq!(rt; timeouts.content(Timer::State, 1).copied(), Some('a'));
-    assert_eq!(rt;
-        set(rt, &mut timeouts, Timer::State, 10, 'b', 2, 10, &mut steps),
-        Some('a')
-    );
-    assert_eq!(rt;
-        timeouts.next_expiry(20, &mut steps),
-        Some((Timer::State, 2))
-    );
 }
 
 #[test]
 fn an_expiry_comes_once(rt: HostRuntime) {
+    const ROW: [Call; 10] = [
+        Set {
+            timer: Timer::State,
+            time: 10,
+            content: 'a',
+            number: 1,
+            now: 0,
+            returned: None,
+        },
+        NextExpiry(10, Some((Timer::State, 1))),
+        CountDue(10, 0),
+        NextDue(None),
+        NextExpiry(10, None),
+        List(&[(Timer::State, 1, Due::At(10))]),
+        IsLive(Timer::State, 1, true),
+        Content(Timer::State, 1, Some('a')),
+        Set {
+            timer: Timer::State,
+            time: 10,
+            content: 'b',
+            number: 2,
+            now: 10,
+            returned: Some('a'),
+        },
+        NextExpiry(20, Some((Timer::State, 2))),
+    ];
     let rt = Host::new(rt);
-    once::<Brand>(&rt, rt.alloc(), Blank::new(1));
+    row_answers::<Brand>(&rt, rt.alloc(), Blank::new(1), &ROW);
     rt.end();
-}
-
-fn the_longest<L: Ledger>(rt: &Host<impl Abort>, alloc: Global, blank: Blank)
-    requires name { blank.name ≡ L.name }
-    requires parts { blank.parts ≡ L.parts }
-    requires some { 0 < blank.parts }
-{
-    let mut steps = Steps::<L>::new(blank);
-    let mut timeouts = Timeouts::new(alloc);
-    let now = 9_223_372_036_854_775_807;
-    assert_eq!(rt;
-        set(
-            rt,
-            &mut timeouts,
-            Timer::Event,
-            4_294_967_295,
-            'a',
-            1,
-            now,
-            &mut steps
-        ),
-        None
-    );
-    assert_eq!(rt;
-        listed(rt, &timeouts).as_slice(),
-        [(Timer::Event, 1, Due::At(9_223_372_041_149_743_102))].as_slice()
-    );
-    assert_eq!(rt; timeouts.next_due(), Some(9_223_372_041_149_743_102));
-    assert_eq!(rt;
-        timeouts.next_expiry(9_223_372_041_149_743_101, &mut steps),
-        None
-    );
-    assert_eq!(rt;
-        timeouts.next_expiry(9_223_372_041_149_743_102, &mut steps),
-        Some((Timer::Event, 1))
-    );
 }
 
 #[test]
 fn the_last_moment_and_the_longest_time(rt: HostRuntime) {
+    const ROW: [Call; 5] = [
+        Set {
+            timer: Timer::Event,
+            time: 4_294_967_295,
+            content: 'a',
+            number: 1,
+            now: 9_223_372_036_854_775_807,
+            returned: None,
+        },
+        List(&[(Timer::Event, 1, Due::At(9_223_372_041_149_743_102))]),
+        NextDue(Some(9_223_372_041_149_743_102)),
+        NextExpiry(9_223_372_041_149_743_101, None),
+        NextExpiry(9_223_372_041_149_743_102, Some((Timer::Event, 1))),
+    ];
     let rt = Host::new(rt);
-    the_longest::<Brand>(&rt, rt.alloc(), Blank::new(1));
+    row_answers::<Brand>(&rt, rt.alloc(), Blank::new(1), &ROW);
     rt.end();
-}
-
-fn refusals<L: Ledger>(rt: &Host<impl Abort>, alloc: Global, blank: Blank)
-    requires name { blank.name ≡ L.name }
-    requires parts { blank.parts ≡ L.parts }
-    requires some { 0 < blank.parts }
-{
-    let mut steps = Steps::<L>::new(blank);
-    let mut timeouts = Timeouts::new(alloc);
-    assert_eq!(rt;
-        set(rt, &mut timeouts, Timer::Event, 0, 'a', 1, 0, &mut steps),
-        None
-    );
-    assert_eq!(rt;
-        set(rt, &mut timeouts, Timer::State, 10, 'b', 2, 0, &mut steps),
-        None
-    );
-    assert_eq!(rt;
-        set(
-            rt,
-            &mut timeouts,
-            Timer::Named(1),
-            20,
-            'c',
-            3,
-            0,
-            &mut steps
-        ),
-        None
-    );
-    assert_eq!(rt;
-        timeouts.next_expiry(10, &mut steps),
-        Some((Timer::State, 2))
-    );
-    reserve_for(rt, &mut timeouts, 20, &mut steps);
-    assert_eq!(rt; timeouts.count_due(20, &mut steps), 1);
-    assert_eq!(rt;
-        set(rt, &mut timeouts, Timer::Named(2), 5, 'd', 4, 0, &mut steps),
-        None
-    );
-    reserve_for(rt, &mut timeouts, 100, &mut steps);
-    assert_eq!(rt;
-        listed(rt, &timeouts).as_slice(),
-        [
-            (Timer::Event, 1, Due::Zero),
-            (Timer::State, 2, Due::At(10)),
-            (Timer::Named(1), 3, Due::At(20)),
-            (Timer::Named(2), 4, Due::At(5)),
-        ]
-        .as_slice()
-    );
-    assert_eq!(rt;
-        timeouts.next_expiry(20, &mut steps),
-        Some((Timer::Named(2), 4))
-    );
-    assert_eq!(rt;
-        timeouts.next_expiry(20, &mut steps),
-        Some((Timer::Named(1), 3))
-    );
-    assert_eq!(rt; timeouts.next_expiry(20, &mut steps), None);
 }
 
 #[test]
 fn a_refused_call_changes_nothing(rt: HostRuntime) {
+    const ROW: [Call; 12] = [
+        Set {
+            timer: Timer::Event,
+            time: 0,
+            content: 'a',
+            number: 1,
+            now: 0,
+            returned: None,
+        },
+        Set {
+            timer: Timer::State,
+            time: 10,
+            content: 'b',
+            number: 2,
+            now: 0,
+            returned: None,
+        },
+        Set {
+            timer: Timer::Named(1),
+            time: 20,
+            content: 'c',
+            number: 3,
+            now: 0,
+            returned: None,
+        },
+        NextExpiry(10, Some((Timer::State, 2))),
+        Reserve(20),
+        CountDue(20, 1),
+        Set {
+            timer: Timer::Named(2),
+            time: 5,
+            content: 'd',
+            number: 4,
+            now: 0,
+            returned: None,
+        },
+        Reserve(100),
+        List(&[
+            (Timer::Event, 1, Due::Zero),
+            (Timer::State, 2, Due::At(10)),
+            (Timer::Named(1), 3, Due::At(20)),
+            (Timer::Named(2), 4, Due::At(5)),
+        ]),
+        NextExpiry(20, Some((Timer::Named(2), 4))),
+        NextExpiry(20, Some((Timer::Named(1), 3))),
+        NextExpiry(20, None),
+    ];
     let rt = Host::new(rt);
-    refusals::<Brand>(&rt, rt.alloc(), Blank::new(1));
+    row_answers::<Brand>(&rt, rt.alloc(), Blank::new(1), &ROW);
     rt.end();
 }
 

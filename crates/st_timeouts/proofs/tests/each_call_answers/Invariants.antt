@@ -1,4 +1,4 @@
 use Rattle.st_timeouts.proofs.tests.each_call_answers.Given as goal
 
-abbrev pub ghosts-answers : goal.ghosts-answers
-ghosts-answers g a = record { name = a.blank.name; parts = a.blank.parts }
+abbrev pub ghosts-row_answers : goal.ghosts-row_answers
+ghosts-row_answers g a = record { name = a.blank.name; parts = a.blank.parts }

@@ -34,32 +34,32 @@ end_at-requires-send-M-Arg g c κs within = c.type_bounds.send-M-Arg
 pub returns-in_default-enter : goal.returns-in_default-enter
 returns-in_default-enter g c = record {
   start = λ called called_is.
-      let callbacks = callbacks_of g.M.Module g.M.State.PartialEq.eq c.args.module in
-      let machine = first_state c.args.id called.state called.data c.args.now c.args.first in
-      inr (begun_takes_memory _ callbacks c.args.module machine called called.reason, rw c.new-in_default-enter.ensures refl);
+      let callbacks = callbacks_of g.M.Module g.M.State.PartialEq.eq c.args.opening.module in
+      let machine = first_state c.args.opening.id called.state called.data c.args.opening.now c.args.opening.first in
+      inr (begun_takes_memory _ callbacks c.args.opening.module machine called called.reason, rw c.new-in_default-enter.ensures refl);
 }
 
 pub returns-in_default-plan_entered : goal.returns-in_default-plan_entered
 returns-in_default-plan_entered g c = record {
   start = λ called called_is.
-      let callbacks = callbacks_of g.M.Module g.M.State.PartialEq.eq c.args.module in
-      let machine = first_state c.args.id called.state called.data c.args.now c.args.first in
-      inr (begun_takes_memory _ callbacks c.args.module machine called called.reason, rw c.new-in_default-plan_entered.ensures refl);
+      let callbacks = callbacks_of g.M.Module g.M.State.PartialEq.eq c.args.opening.module in
+      let machine = first_state c.args.opening.id called.state called.data c.args.opening.now c.args.opening.first in
+      inr (begun_takes_memory _ callbacks c.args.opening.module machine called called.reason, rw c.new-in_default-plan_entered.ensures refl);
 }
 
 pub returns-in_default-one_call : goal.returns-in_default-one_call
 returns-in_default-one_call g c = record {
   start = λ called called_is.
-      let callbacks = callbacks_of g.M.Module g.M.State.PartialEq.eq c.args.module in
-      let machine = first_state c.args.id called.state called.data c.args.now c.args.first in
-      inr (begun_takes_memory _ callbacks c.args.module machine called called.reason, rw c.new-in_default-one_call.ensures refl);
+      let callbacks = callbacks_of g.M.Module g.M.State.PartialEq.eq c.args.opening.module in
+      let machine = first_state c.args.opening.id called.state called.data c.args.opening.now c.args.opening.first in
+      inr (begun_takes_memory _ callbacks c.args.opening.module machine called called.reason, rw c.new-in_default-one_call.ensures refl);
 }
 
 -- the machine runs
 pub returns-in-None : goal.returns-in-None
 returns-in-None g c = record {
   start = λ called called_is.
-      let callbacks = callbacks_of g.M.Module g.M.State.PartialEq.eq c.args.module in
+      let callbacks = callbacks_of g.M.Module g.M.State.PartialEq.eq c.args.opening.module in
       let begun = begun_with c.args.state c.args.data c.args.actions in
       let called_as : called ≡ entered_with c.args.state begun c.in-Ok-enter.entered =
       called_is ∙ ap (λ entered. entered_with c.args.state begun entered) (sym c.in-Ok-enter.ensures) in
@@ -70,7 +70,7 @@ returns-in-None g c = record {
       let none : called.reason ≡ None = rw called_as (sym c.entered_reason-reason.ensures ∙ c.in-None.is) in
       let asked : plan_of called.actions ≡ c.in-Ok-plan_entered.planned =
       ap (λ (last : Called _ _ _). plan_of last.actions) called_as ∙ sym (c.in-Ok-plan_entered.ensures.planned c.args.actions c.in-Ok.ensures) in
-      starts_same _ c.args.module _ (begins _ callbacks c.args.module c.args.id called c.args.now c.args.first none state held)
+      starts_same _ c.args.opening.module _ (begins _ callbacks c.args.opening.module c.args.opening.id called c.args.opening.now c.args.opening.first none state held)
       (c.run_from.ensures.start called calls asked);
 }
 
@@ -78,7 +78,7 @@ returns-in-None g c = record {
 pub returns-in-Some : goal.returns-in-Some
 returns-in-Some g c = record {
   start = λ called called_is.
-      let callbacks = callbacks_of g.M.Module g.M.State.PartialEq.eq c.args.module in
+      let callbacks = callbacks_of g.M.Module g.M.State.PartialEq.eq c.args.opening.module in
       let begun = begun_with c.args.state c.args.data c.args.actions in
       let called_as : called ≡ entered_with c.args.state begun c.in-Ok-enter.entered =
       called_is ∙ ap (λ entered. entered_with c.args.state begun entered) (sym c.in-Ok-enter.ensures) in
@@ -87,7 +87,7 @@ returns-in-Some g c = record {
       let held : called.data ≡ c.replace.new.held =
       ap (λ (last : Called _ _ _). last.data) called_as ∙ sym (c.plan_entered.ensures.new_data c.args.data) ∙ sym c.replace.ensures in
       let some : called.reason ≡ Some c.in-Some.reason = rw called_as (sym c.entered_reason-reason.ensures ∙ c.in-Some.is) in
-      starts_same _ c.args.module _ (ends _ callbacks c.args.module c.args.id called c.args.now c.args.first c.in-Some.reason some state held)
+      starts_same _ c.args.opening.module _ (ends _ callbacks c.args.opening.module c.args.opening.id called c.args.opening.now c.args.opening.first c.in-Some.reason some state held)
       (c.end_at.ensures.start called calls);
 }
 

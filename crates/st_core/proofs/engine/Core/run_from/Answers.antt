@@ -15,14 +15,14 @@ pub returns : goal.returns
 returns g c =
     record {
       start = λ called same_calls same_plan.
-          let machine = first_state c.args.id c.args.state c.args.data c.args.now c.args.first in
+          let machine = first_state c.args.opening.id c.args.state c.args.data c.args.opening.now c.args.opening.first in
           let planned = sym same_plan in
-          let next : c.new-agenda.result.schedule.next_number ≡ c.args.first = ap (λ (a : Agenda _). a.schedule.next_number) c.new-agenda.ensures in
+          let next : c.new-agenda.result.schedule.next_number ≡ c.args.opening.first = ap (λ (a : Agenda _). a.schedule.next_number) c.new-agenda.ensures in
           let enough : has_numbers machine called.actions ≡ true = rw (next, planned) at c.in-Ok.ensures.numbers in
-          let inserted : c.in-Ok.prepared.inserted ≡ numbers_of (numbered c.args.first (inserts_of called.actions)) =
+          let inserted : c.in-Ok.prepared.inserted ≡ numbers_of (numbered c.args.opening.first (inserts_of called.actions)) =
           rw (next, planned) at c.in-Ok.ensures.inserted in
           let set : c.in-Ok.prepared.set ≡ times_of (settings_of called.actions) = rw planned at c.in-Ok.ensures.set in
-          started_is _ c.args.module machine called enough
+          started_is _ c.args.opening.module machine called enough
           (rw (c.set_all.ensures, c.insert.ensures, c.prepare.ensures.same_schedule, c.new-agenda.ensures, c.new-2.ensures, planned) refl)
           (rw (c.new-3.ensures, inserted, set, same_calls) refl);
     }
@@ -32,9 +32,9 @@ pub returns-in-Err : goal.returns-in-Err
 returns-in-Err g c =
     record {
       start = λ called same_calls same_plan.
-          let machine = first_state c.args.id c.args.state c.args.data c.args.now c.args.first in
-          let next : c.new-agenda.result.schedule.next_number ≡ c.args.first = ap (λ (a : Agenda _). a.schedule.next_number) c.new-agenda.ensures in
-          started_refused _ c.args.module machine called c.in-Err.refusal (rw (next, sym same_plan) at c.in-Err.ensures.refusals)
+          let machine = first_state c.args.opening.id c.args.state c.args.data c.args.opening.now c.args.opening.first in
+          let next : c.new-agenda.result.schedule.next_number ≡ c.args.opening.first = ap (λ (a : Agenda _). a.schedule.next_number) c.new-agenda.ensures in
+          started_refused _ c.args.opening.module machine called c.in-Err.refusal (rw (next, sym same_plan) at c.in-Err.ensures.refusals)
           (rw c.new.ensures refl);
     }
 
@@ -66,7 +66,7 @@ array_drop-planned-requires-in-Err-2 g c = omega (arith, g.met.M.Module.lawful.s
 pub invariant_of-core : goal.invariant_of-core
 invariant_of-core g c =
     let planned = c.args.planned in
-    let next : c.new-agenda.result.schedule.next_number ≡ c.args.first = ap (λ (a : Agenda _). a.schedule.next_number) c.new-agenda.ensures in
-    let enough = enough_for_all c.args.first (length planned.inserts) (numbers_taken planned.requests) (rw next at c.in-Ok.ensures.numbers) in
+    let next : c.new-agenda.result.schedule.next_number ≡ c.args.opening.first = ap (λ (a : Agenda _). a.schedule.next_number) c.new-agenda.ensures in
+    let enough = enough_for_all c.args.opening.first (length planned.inserts) (numbers_taken planned.requests) (rw next at c.in-Ok.ensures.numbers) in
     rw (c.set_all.ensures, c.insert.ensures, c.prepare.ensures.same_schedule, c.new-agenda.ensures, c.new-2.ensures)
-    (begun_keeps c.args.id c.args.now c.args.first planned.inserts planned.requests c.requires.moment enough)
+    (begun_keeps c.args.opening.id c.args.opening.now c.args.opening.first planned.inserts planned.requests c.requires.moment enough)

@@ -1,0 +1,71 @@
+//! What can be read of time-outs, and that a refused call leaves it as it was.
+ghost use Rattle.std.specs.Prelude.{◌≤◌};
+
+use super::host::Host;
+use crate::{Due, Timeouts};
+use st_events::{PlainList, Timer};
+use st_steps::Steps;
+use std::process::Abort;
+use std::sync::ledger::Ledger;
+
+/// All that can be read of time-outs without a change to them, of up to eight with their contents.
+#[derive(Debug, Drop, PartialEq, Eq)]
+struct Seen {
+    list: PlainList<(Timer, u64, Due)>,
+    contents: [Option<char>; 8],
+    first_zero: Option<(Timer, u64)>,
+    next_due: Option<u64>,
+    due: [usize; 3],
+}
+
+/// The list. Where it finds no memory, it is asked for again.
+pub fn listed(rt: &Host<impl Abort>, timeouts: &Timeouts<char>) -> PlainList<(Timer, u64, Due)> {
+    if let Ok(list) = timeouts.list() {
+        return list;
+    }
+    rt.retry();
+    timeouts
+        .list()
+        .expect(rt, "one allocation alone is refused")
+}
+
+fn readable<L: Ledger>(
+    rt: &Host<impl Abort>,
+    timeouts: &Timeouts<char>,
+    steps: &mut Steps<L>,
+) -> Seen {
+    let list = listed(rt, timeouts);
+    let mut contents = [None; 8];
+    for (content, (timer, number, _)) in contents.iter_mut().zip(list.as_slice()) {
+        assert!(rt; timeouts.is_live(*timer, *number));
+        *content = timeouts.content(*timer, *number).copied();
+    }
+    Seen {
+        list,
+        contents,
+        first_zero: timeouts.first_zero(),
+        next_due: timeouts.next_due(),
+        due: [
+            timeouts.count_due(0, steps),
+            timeouts.count_due(20, steps),
+            timeouts.count_due(u64::MAX, steps),
+        ],
+    }
+}
+
+/// Reserves for so many. A call that finds no memory changes nothing that can be read, and is made again.
+pub fn reserve_for<L: Ledger>(
+    rt: &Host<impl Abort>,
+    timeouts: &mut Timeouts<char>,
+    count: usize,
+    steps: &mut Steps<L>,
+)
+    ensures { count ≤ timeouts.new.reserved }
+{
+    let before = readable(rt, timeouts, steps);
+    if timeouts.reserve(count).is_err() {
+        assert_eq!(rt; readable(rt, timeouts, steps), before);
+        rt.retry();
+        assert!(rt; timeouts.reserve(count).is_ok());
+    }
+}
