@@ -117,10 +117,7 @@ pub(crate) fn take_out<V>(
 }
 
 /// Makes room for a slot at the end: where there is none, the holes are closed.
-pub(crate) fn make_room<V: Drop>(
-    slots: &mut Vec<Option<Slot<V>>>,
-    index: &mut Index,
-)
+pub(crate) fn make_room<V: Drop>(slots: &mut Vec<Option<Slot<V>>>, index: &mut Index)
     requires once_each { OnceEach (rows_of slots.old.items) }
     requires tied { IsTied index.old slots.old.items }
     requires fits { length (rows_of slots.old.items) < vec_capacity slots.old }

@@ -49,8 +49,7 @@ fn listed(rt: &Host<impl Abort + AllocGlobal>, map: &TimerMap<Letter>) -> Vec<(T
         return list;
     }
     rt.retry();
-    map.list()
-        .expect(rt, "one allocation alone is refused")
+    map.list().expect(rt, "one allocation alone is refused")
 }
 
 /// Says that each timer that is listed is found with its letter.

@@ -6,8 +6,7 @@ use crate::Kept;
 use crate::index::Index;
 use crate::slot::Slot;
 use crate::slots::{
-    list_rows, make_room, mark_at, place_of, put_last, reserve_places, room_for,
-    slot_at, take_out,
+    list_rows, make_room, mark_at, place_of, put_last, reserve_places, room_for, slot_at, take_out,
 };
 use st_events::Timer;
 use std::alloc::{AllocError, Global};
