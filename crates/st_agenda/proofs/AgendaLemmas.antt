@@ -5,7 +5,8 @@ use Rattle.st_events.specs.declared.event.Event.{Event}
 use Rattle.st_events.specs.declared.timer.Timer.{Timer}
 use Rattle.st_events.specs.Timers.{same_timer}
 use Rattle.st_events.proofs.ComparedLemmas.{same_number}
-use Rattle.st_timeouts.specs.Running.{Running, OneEach, running_of, runs_for}
+use Rattle.st_timeouts.specs.declared.running.Running.{Running}
+use Rattle.st_timeouts.specs.Running.{OneEach, running_of, runs_for}
 use Rattle.st_timeouts.specs.Timeouts.{Listed, all_of, live, with_this_number, without_listed, with_expired}
 use Rattle.st_timeouts.proofs.OrderLemmas.{one_each_without, all_of_more, one_each_more}
 use Rattle.st_agenda.specs.declared.slot.Slot.{Slot}

@@ -9,7 +9,8 @@ use Rattle.st_events.specs.Timers.{same_timer}
 use Rattle.st_events.proofs.ComparedLemmas.{same_number, timers_same}
 use Rattle.st_timeouts.specs.declared.due.Due.{Due}
 use Rattle.st_timeouts.specs.declared.due.Due.TheVariants.{Zero, At}
-use Rattle.st_timeouts.specs.Running.{Running, running_of, is_zero, is_due_by, is_before, put_in_order, in_order}
+use Rattle.st_timeouts.specs.declared.running.Running.{Running}
+use Rattle.st_timeouts.specs.Running.{running_of, is_zero, is_due_by, is_before, put_in_order, in_order}
 use Rattle.st_timeouts.specs.Timeouts.{Timeouts, Listed, all_of, live, name_of, without_listed, with_expired, expiring, first_of, with_first_expired, with_set, shown, next_due_of}
 use Rattle.st_timeouts.proofs.OrderLemmas.{expiring_after, all_of_more, all_of_with_expired, without_listed_none}
 use Rattle.st_timeouts.specs.Waiting.{waiting_of}
@@ -18,7 +19,8 @@ use Rattle.st_agenda.specs.declared.slot.Slot.TheVariants as slot
 use Rattle.st_agenda.specs.Items.{has}
 use Rattle.st_agenda.specs.Timing.{expiring_by, next_due_among}
 use Rattle.st_agenda.specs.Waiting.{Place, Unseen, Waiting, place_numbers, next_of, AreBelow, IsOrdered}
-use Rattle.st_agenda.specs.Agenda.{Schedule, IsMarked, AreMarked, Agrees, IsKept, timeout_numbers, items_in, schedule_of, with_all_expired, with_first_expiry, all_but_first}
+use Rattle.st_agenda.specs.declared.schedule.Schedule.{Schedule}
+use Rattle.st_agenda.specs.Agenda.{IsMarked, AreMarked, Agrees, IsKept, timeout_numbers, items_in, schedule_of, with_all_expired, with_first_expiry, all_but_first}
 use Rattle.st_agenda.proofs.PendingLemmas.{no_tail, differs, has_below, below_more}
 use Rattle.st_agenda.proofs.ItemsLemmas.{AllFound, all_found, items_begun, items_expiry_more, items_same, expiring_is, next_due_is, slots_counted}
 use Rattle.st_agenda.proofs.AgreesLemmas.{has_behind, expiry_before, expiry_last}

@@ -14,12 +14,15 @@ use Rattle.st_events.specs.Timers.{same_timer}
 use Rattle.st_events.proofs.ComparedLemmas.{same_number, same_timer_self, timers_same, same_timer_flips}
 use Rattle.st_timeouts.specs.declared.due.Due.{Due}
 use Rattle.st_timeouts.specs.declared.due.Due.TheVariants.{Zero, At}
-use Rattle.st_timeouts.specs.Running.{Running, OneEach, due_after, running_of, runs_for, without_running, is_due_by, is_before, put_in_order, in_order}
+use Rattle.st_timeouts.specs.declared.running.Running.{Running}
+use Rattle.st_timeouts.specs.Running.{OneEach, due_after, running_of, runs_for, without_running, is_due_by, is_before, put_in_order, in_order}
 use Rattle.st_timeouts.proofs.OrderLemmas.{not_first, gone, one_each_more, put_none, ordered_none}
-use Rattle.st_agenda.specs.Item.{Item, Received, Posted, Expiry}
+use Rattle.st_agenda.specs.declared.item.Item.{Item}
+use Rattle.st_agenda.specs.declared.item.Item.TheVariants.{Received, Posted, Expiry}
 use Rattle.st_agenda.specs.Items.{has, first_received, is_postponed, numbers_of, placed, numbered}
 use Rattle.st_agenda.specs.Timing.{is_expiry, without_expiry, expiry_waits, number_taken, numbers_taken, expiring_by}
-use Rattle.st_agenda.specs.Agenda.{Schedule, with_all_expired, cancelled_in, retried_in, inserted_in, begun_in, set_in, all_set_in}
+use Rattle.st_agenda.specs.declared.schedule.Schedule.{Schedule}
+use Rattle.st_agenda.specs.Agenda.{with_all_expired, cancelled_in, retried_in, inserted_in, begun_in, set_in, all_set_in}
 use Rattle.st_agenda.specs.Lawful.{times, waiting_numbers, running_numbers, live_numbers, NoneReceived, ReceivedFirst, PostponedFirst, IsDueBy, ExpiriesDue, IsLawfulSchedule}
 use Rattle.st_agenda.proofs.PendingLemmas.{eq_flips}
 use Rattle.st_agenda.proofs.ItemsLemmas.{first_cancelled}

@@ -11,7 +11,8 @@ use Rattle.st_events.specs.declared.timer.Timer.TheVariants as timer
 use Rattle.st_events.proofs.ComparedLemmas.{same_number}
 use Rattle.st_agenda.specs.Items.{has, first_received, numbers_of, numbered}
 use Rattle.st_agenda.specs.Timing.{numbers_taken}
-use Rattle.st_agenda.specs.Agenda.{Schedule, next_in, received_in, cancelled_in, disposed_in, retried_in, inserted_in, settled_in}
+use Rattle.st_agenda.specs.declared.schedule.Schedule.{Schedule}
+use Rattle.st_agenda.specs.Agenda.{next_in, received_in, cancelled_in, disposed_in, retried_in, inserted_in, settled_in}
 use Rattle.st_agenda.specs.Lawful.{times, waiting_numbers, running_numbers, live_numbers, IsLawfulSchedule}
 use Rattle.st_agenda.proofs.LawfulReceiving.{received_lawful, received_is_first, received_live, received_waiting, next_is_live, disposed_lawful, disposed_waiting, disposed_live}
 use Rattle.st_agenda.proofs.LawfulSetting.{times-append, numbered_times, numbered_times_once, cancelled_waiting, cancelled_live, cancelled_first, lawful_cancelled, lawful_retried, retried_waiting, retried_live, retried_next, inserted_waiting, inserted_live, lawful_inserted, set_all_waiting, set_all_next, set_all_live, lawful_set_all}

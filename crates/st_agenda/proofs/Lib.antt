@@ -6,6 +6,7 @@ pub mod AgendaLemmas
 pub mod ChoiceLemmas
 pub mod SweepLemmas
 pub mod ReceiveLemmas
+pub mod CopyingLemmas
 pub mod ExpireLemmas
 pub mod LoopLemmas
 pub mod LawfulSetting

@@ -6,9 +6,10 @@ use Rattle.std.proofs.lemmas.Option.{slice_get_cases}
 use Rattle.st_events.specs.declared.setting.Setting.{Setting}
 use Rattle.st_events.specs.declared.time.Time.{Time}
 use Rattle.st_events.specs.declared.time.Time.TheVariants.{After, Infinity}
-use Rattle.st_timeouts.specs.Running.{Running}
+use Rattle.st_timeouts.specs.declared.running.Running.{Running}
 use Rattle.st_agenda.specs.Timing.{expiring_by, number_taken, numbers_taken}
-use Rattle.st_agenda.specs.Agenda.{Schedule, Agenda, with_all_expired, all_set_in}
+use Rattle.st_agenda.specs.declared.schedule.Schedule.{Schedule}
+use Rattle.st_agenda.specs.Agenda.{Agenda, with_all_expired, all_set_in}
 
 module _ {C : Type 0} where
   -- what expires of a schedule

@@ -7,7 +7,8 @@ use Rattle.st_events.specs.declared.timer.Timer.{Timer}
 use Rattle.st_events.specs.declared.kind.Kind.TheVariants.{Timeout}
 use Rattle.st_events.specs.Timers.{same_timer}
 use Rattle.st_events.proofs.ComparedLemmas.{same_number}
-use Rattle.st_timeouts.specs.Running.{Running, running_of, without_running, first_zero_of, is_zero}
+use Rattle.st_timeouts.specs.declared.running.Running.{Running}
+use Rattle.st_timeouts.specs.Running.{running_of, without_running, first_zero_of, is_zero}
 use Rattle.st_timeouts.specs.Timeouts.{Timeouts, Listed, all_of, live, name_of, without_listed, with_cancelled, with_taken}
 use Rattle.st_timeouts.proofs.OrderLemmas.{all_of_without_listed}
 use Rattle.st_agenda.specs.declared.slot.Slot.{Slot}
@@ -16,7 +17,8 @@ use Rattle.st_agenda.specs.Items.{has, first_received, received_first, received_
 use Rattle.st_agenda.specs.Slots.{number_of}
 use Rattle.st_agenda.specs.Choice.{Arrived, Expired, timeout_event, event_of, first_unreceived, items_with}
 use Rattle.st_agenda.specs.Waiting.{Place, Seen, Unseen, Waiting, slot_of, place_numbers, slot_numbers, first_seen, first_unseen, with_unseen_seen, with_next_seen, next_of, without_slot, put_in, Distinct, SeenFirst, IsOrdered}
-use Rattle.st_agenda.specs.Agenda.{Schedule, IsMarked, AreMarked, Agrees, IsKept, timeout_numbers, items_in, schedule_of, choice_in, next_in, received_in}
+use Rattle.st_agenda.specs.declared.schedule.Schedule.{Schedule}
+use Rattle.st_agenda.specs.Agenda.{IsMarked, AreMarked, Agrees, IsKept, timeout_numbers, items_in, schedule_of, choice_in, next_in, received_in}
 use Rattle.st_agenda.proofs.PendingLemmas.{eq_flips}
 use Rattle.st_agenda.proofs.ItemsLemmas.{live_is, items_cancelled, items_last, items_unmarked, items_arrived, items_expired, first_is_last, first_is_first, running_gone}
 use Rattle.st_agenda.proofs.AgreesLemmas.{below_member, differ_from, has_step}

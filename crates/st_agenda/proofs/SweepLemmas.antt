@@ -10,12 +10,14 @@ use Rattle.st_timeouts.specs.Timeouts.{Listed, Timeouts, all_of, live, without_l
 use Rattle.st_timeouts.proofs.OrderLemmas.{all_of_without_listed}
 use Rattle.st_agenda.specs.declared.slot.Slot.{Slot}
 use Rattle.st_agenda.specs.declared.slot.Slot.TheVariants as slot
-use Rattle.st_agenda.specs.Item.{Item, Posted}
+use Rattle.st_agenda.specs.declared.item.Item.{Item}
+use Rattle.st_agenda.specs.declared.item.Item.TheVariants.{Posted}
 use Rattle.st_agenda.specs.Items.{has, first_received, with_number, kept, numbered, placed, is_postponed}
 use Rattle.st_agenda.specs.Timing.{without_expiry}
 use Rattle.st_agenda.specs.Slots.{inserted_slots}
 use Rattle.st_agenda.specs.Waiting.{Seen, Unseen, put_in, slot_numbers, Waiting, IsOrdered, place_numbers, first_seen, first_unseen, with_unseen_seen, with_next_seen, next_of, next_number_of, without_slot}
-use Rattle.st_agenda.specs.Agenda.{Schedule, Agenda, Agrees, items_in, schedule_of, dead_at, cancelled_in, disposed_in, retried_in, inserted_in, IsKept, timeout_numbers}
+use Rattle.st_agenda.specs.declared.schedule.Schedule.{Schedule}
+use Rattle.st_agenda.specs.Agenda.{Agenda, Agrees, items_in, schedule_of, dead_at, cancelled_in, disposed_in, retried_in, inserted_in, IsKept, timeout_numbers}
 use Rattle.st_agenda.proofs.PendingLemmas.{has_below}
 use Rattle.st_agenda.proofs.ItemsLemmas.{first_cancelled, received_is, items_without_dead, items_cancelled, items_finished, items_put_in, items_posted}
 use Rattle.st_agenda.proofs.AgreesLemmas.{below_member}

@@ -11,10 +11,12 @@ use Rattle.st_events.specs.declared.timer.Timer.{Timer}
 use Rattle.st_events.specs.declared.timer.Timer.TheVariants as timer
 use Rattle.st_timeouts.specs.declared.due.Due.{Due}
 use Rattle.st_timeouts.specs.declared.due.Due.TheVariants.{Zero, At}
-use Rattle.st_timeouts.specs.Running.{Running}
-use Rattle.st_agenda.specs.Item.{Item, Received, Posted, Expiry}
+use Rattle.st_timeouts.specs.declared.running.Running.{Running}
+use Rattle.st_agenda.specs.declared.item.Item.{Item}
+use Rattle.st_agenda.specs.declared.item.Item.TheVariants.{Received, Posted, Expiry}
 use Rattle.st_agenda.specs.Timing.{expiring_by}
-use Rattle.st_agenda.specs.Agenda.{Schedule, next_in, settled_in, with_all_expired}
+use Rattle.st_agenda.specs.declared.schedule.Schedule.{Schedule}
+use Rattle.st_agenda.specs.Agenda.{next_in, settled_in, with_all_expired}
 
 abbrev cast : ℕ → Event ℕ
 cast number = record { number = number; kind = Cast; content = 10 }

@@ -10,23 +10,18 @@ use Rattle.st_events.specs.declared.time.Time.TheVariants.{After, Infinity}
 use Rattle.st_events.specs.declared.timer.Timer.{Timer}
 use Rattle.st_events.specs.declared.timer.Timer.TheVariants as timer
 use Rattle.st_timeouts.specs.declared.due.Due.{Due}
-use Rattle.st_timeouts.specs.Running.{Running, OneEach, due_after, is_zero, without_running, first_zero_of}
+use Rattle.st_timeouts.specs.declared.running.Running.{Running}
+use Rattle.st_timeouts.specs.Running.{OneEach, due_after, is_zero, without_running, first_zero_of}
 use Rattle.st_timeouts.specs.Timeouts.{Listed, all_of, live}
+use Rattle.st_agenda.specs.declared.schedule.Schedule.{Schedule}
 use Rattle.st_agenda.specs.declared.slot.Slot.{Slot}
 use Rattle.st_agenda.specs.declared.slot.Slot.TheVariants as slot
-use Rattle.st_agenda.specs.Item.{Item, Received, Posted, Expiry}
+use Rattle.st_agenda.specs.declared.item.Item.{Item}
+use Rattle.st_agenda.specs.declared.item.Item.TheVariants.{Received, Posted, Expiry}
 use Rattle.st_agenda.specs.Items.{has, first_received, kept, with_number, placed, numbered}
 use Rattle.st_agenda.specs.Choice.{Choice, event_of, choice_among, items_with, running_with}
 use Rattle.st_agenda.specs.Timing.{without_expiry}
 use Rattle.st_agenda.specs.Waiting.{Waiting, Place, Seen, Unseen, IsOrdered, Distinct, AreBelow, place_numbers, next_of}
-
--- what waits, the numbers of the events that are postponed, the time-outs that run, and the number that
--- the next event gets
-pub record Schedule (C : Type 0) : Type 0 where
-  pub pending : List (Item C)
-  pub postponed : List ℕ
-  pub running : List (Running C)
-  pub next_number : ℕ
 
 -- a schedule, and how many events and time-outs more can come in without memory
 pub record Agenda (C : Type 0) : Type 0 where
@@ -52,6 +47,13 @@ module _ {C : Type 0} where
   items_in listed (Unseen (slot.Event event) ∷ places) = Posted event ∷ items_in listed places
   items_in listed (Unseen (slot.Expiry timer number) ∷ places) =
       with_live (is_some (live timer number listed)) timer (items_in listed places)
+
+  -- what a slot is read as: an expiry that was received, or whose time-out runs no more, is none
+  abbrev pub item_of : List (Listed C) → Bool → Slot C → Option (Item C)
+  item_of listed true (slot.Event event) = Some (Received event)
+  item_of listed true (slot.Expiry timer number) = None
+  item_of listed false (slot.Event event) = Some (Posted event)
+  item_of listed false (slot.Expiry timer number) = if is_some (live timer number listed) then Some (Expiry timer) else None
 
   -- the schedule of a queue and of running time-outs
   abbrev pub schedule_of : Waiting C → List (Listed C) → Schedule C

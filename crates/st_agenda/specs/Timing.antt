@@ -7,9 +7,11 @@ use Rattle.st_events.specs.declared.time.Time.{Time}
 use Rattle.st_events.specs.declared.time.Time.TheVariants.{After, Infinity}
 use Rattle.st_events.specs.declared.timer.Timer.{Timer}
 use Rattle.st_events.specs.Timers.{same_timer}
-use Rattle.st_timeouts.specs.Running.{Running, is_zero, is_due_by, moment_of, in_order}
+use Rattle.st_timeouts.specs.declared.running.Running.{Running}
+use Rattle.st_timeouts.specs.Running.{is_zero, is_due_by, moment_of, in_order}
 use Rattle.st_timeouts.specs.Timeouts.{first_of}
-use Rattle.st_agenda.specs.Item.{Item, Received, Posted, Expiry}
+use Rattle.st_agenda.specs.declared.item.Item.{Item}
+use Rattle.st_agenda.specs.declared.item.Item.TheVariants.{Received, Posted, Expiry}
 
 -- how many numbers a setting takes: one where a time-out begins
 abbrev pub number_taken : Time → ℕ

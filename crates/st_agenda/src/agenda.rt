@@ -6,17 +6,18 @@ ghost use Rattle.st_events.specs.Rows.{InsertsFit, SettingsFit};
 ghost use Rattle.st_timeouts.specs.Running.{running_of};
 ghost use Rattle.st_timeouts.specs.Timeouts.{name_of};
 ghost use Rattle.st_agenda.specs.Items.{events_in, first_received};
-ghost use Rattle.st_agenda.specs.Item.{Posted};
+ghost use Rattle.st_agenda.specs.declared.item.Item.TheVariants.{Posted};
 ghost use Rattle.st_events.specs.declared.kind.Kind.TheVariants.{Timeout};
 ghost use Rattle.st_events.specs.declared.time.Time.TheVariants.{After};
 ghost use Rattle.st_agenda.specs.Timing.{expiring_by, has_numbers, next_due_among, number_taken, numbers_taken};
 ghost use Rattle.st_agenda.specs.Waiting.{next_of};
 ghost use Rattle.st_agenda.specs.Agenda.{Agrees, IsAlive, items_in, next_in, zero_in, received_in, cancelled_in, disposed_in, retried_in, received_and_retried_in, inserted_in, begun_in, set_in, all_set_in, settled_in, name_of_event, shown_timers, dead_at, with_first_expiry, all_but_first, with_all_expired};
 
+use crate::Schedule;
 use crate::numbers::numbers_taken;
 use crate::pending::Pending;
 use crate::slot::Slot;
-use st_events::{Event, Inserts, Kind, NUMBER_LIMIT, PlainList, Setting, Settings, Time, Timer};
+use st_events::{Event, Inserts, Kind, Module, NUMBER_LIMIT, PlainList, Setting, Settings, Time, Timer};
 use st_steps::Steps;
 use st_timeouts::{Due, Timeouts};
 use std::alloc::{AllocError, AllocFailed, Global};
@@ -160,6 +161,28 @@ impl<C> Agenda<C> {
         ensures { result ≡ next_due_among self.now.schedule.pending self.now.schedule.running }
     {
         self.timeouts.next_due()
+    }
+
+    /// What waits and the time-outs that run, as a value of its own; a module copies the contents.
+    ///
+    /// Nothing changes, also where memory is wanted and there is none. Ours: docs/DECISIONS.md, Snapshots.
+    pub fn copy<M: Module<Content = C>>(
+        &mut self,
+        alloc: Global,
+        module: &M,
+    ) -> Result<Schedule<C>, AllocError>
+        ensures copy { IfOk result (λ copy. copy ≡ self.old.schedule) }
+        ensures unchanged { self.new ≡ self.old }
+    {
+        let running = self.timeouts.copy(module)?;
+        let (pending, postponed) = self.pending.copy(&self.timeouts, alloc, module)?;
+        let next_number = self.next_number();
+        Ok(Schedule {
+            pending,
+            postponed,
+            running,
+            next_number,
+        })
     }
 }
 

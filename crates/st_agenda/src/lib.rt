@@ -3,13 +3,18 @@
 #![tactic(auto)]
 
 mod agenda;
+mod copying;
+mod item;
 mod numbers;
 mod pending;
+mod schedule;
 mod slot;
 #[cfg(test)]
 mod tests;
 mod uncounted_queue;
 
 pub use agenda::Agenda;
+pub use item::Item;
+pub use schedule::Schedule;
 pub use st_events::{Inserts, Kind, PlainList, Settings, Timer};
-pub use st_timeouts::Due;
+pub use st_timeouts::{Due, Running};

@@ -1,13 +1,17 @@
 //! The events that wait: which comes next, what becomes of it, and where others come in.
 ghost use Rattle.std.specs.Prelude.{◌≡◌, ◌+◌, ◌-◌, ◌<◌, ◌≤◌, ◌^◌, true, false, [], ◌∷◌, ◌++◌, Some, IfOk, IfErr, OnOk, OnErr, is_some, length, map, max, option_copied};
 ghost use Rattle.st_agenda.specs.declared.slot.Slot.TheVariants as slot;
+ghost use Rattle.st_agenda.specs.Agenda.{items_in};
 ghost use Rattle.st_agenda.specs.Items.{has};
 ghost use Rattle.st_agenda.specs.Slots.{inserted_slots, is_event, content_in};
 ghost use Rattle.st_agenda.specs.Waiting.{Seen, Unseen, IsOrdered, first_seen, next_of, next_number_of, with_next_seen, without_slot, put_in, inserted_at, place_numbers};
 
+use crate::Item;
+use crate::copying::copy_queue;
 use crate::slot::Slot;
 use crate::uncounted_queue::UncountedQueue;
-use st_events::{Event, Insert, Inserts, Kind, Timer};
+use st_events::{Event, Insert, Inserts, Kind, Module, PlainList, Timer};
+use st_timeouts::Timeouts;
 use std::alloc::{AllocError, AllocFailed, Global};
 use std::marker::Model;
 
@@ -77,6 +81,23 @@ impl<C> Pending<C> {
         ensures bounded { result ≤ 2 ^ 63 }
     {
         self.next_number
+    }
+
+    /// Copies of what waits, and of the numbers of the events that are postponed; a module copies the contents. An
+    /// expiry whose time-out runs no more is none.
+    ///
+    /// Nothing changes, also where memory is wanted and there is none.
+    pub(crate) fn copy<M: Module<Content = C>>(
+        &mut self,
+        timeouts: &Timeouts<C>,
+        alloc: Global,
+        module: &M,
+    ) -> Result<(PlainList<Item<C>>, PlainList<u64>), AllocError>
+        ensures items { IfOk result (λ copies. copies.0 ≡ items_in timeouts.now.listed self.old.items) }
+        ensures postponed { IfOk result (λ copies. copies.1 ≡ self.old.postponed) }
+        ensures unchanged { self.new ≡ self.old }
+    {
+        copy_queue(&mut self.queue, self.received, timeouts, alloc, module)
     }
 
     /// A law, which does nothing: what waits is in order.

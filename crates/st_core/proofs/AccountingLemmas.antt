@@ -7,12 +7,13 @@ use Rattle.st_events.specs.declared.insert.Insert.{Insert}
 use Rattle.st_events.specs.declared.refusal.Refusal.{Refusal}
 use Rattle.st_events.specs.declared.refusal.Refusal.TheVariants.{Exhausted, Moment}
 use Rattle.st_events.specs.declared.setting.Setting.{Setting}
-use Rattle.st_timeouts.specs.Running.{Running}
+use Rattle.st_timeouts.specs.declared.running.Running.{Running}
 use Rattle.st_actions.specs.Plan.{inserts_of, postpone_of, settings_of}
-use Rattle.st_agenda.specs.Item.{Posted}
+use Rattle.st_agenda.specs.declared.item.Item.TheVariants.{Posted}
 use Rattle.st_agenda.specs.Items.{has, numbered, numbers_of}
 use Rattle.st_agenda.specs.Timing.{numbers_taken}
-use Rattle.st_agenda.specs.Agenda.{Schedule, next_in, with_all_expired, settled_in}
+use Rattle.st_agenda.specs.declared.schedule.Schedule.{Schedule}
+use Rattle.st_agenda.specs.Agenda.{next_in, with_all_expired, settled_in}
 use Rattle.st_agenda.specs.Lawful.{times, waiting_numbers, running_numbers, live_numbers, IsLawfulSchedule}
 use Rattle.st_agenda.proofs.LawfulReceiving.{next_is_live}
 use Rattle.st_agenda.proofs.LawfulSetting.{times-append, numbered_times, posted_waiting, lawful_posted, expired_waiting}
@@ -23,7 +24,8 @@ use Rattle.st_core.specs.declared.command.Command.{Command}
 use Rattle.st_core.specs.declared.command.Command.TheVariants as command
 use Rattle.st_core.specs.declared.entry.Entry.{Entry}
 use Rattle.st_core.specs.declared.turned.Turned.TheVariants.{Reported}
-use Rattle.st_core.specs.MachineState.{MachineState, Machine}
+use Rattle.st_core.specs.declared.machine_state.MachineState.{MachineState}
+use Rattle.st_core.specs.MachineState.{Machine}
 use Rattle.st_core.specs.Callbacks.{Callbacks, Called, called_of}
 use Rattle.st_core.specs.Choice.{next_event_of}
 use Rattle.st_core.specs.Stop.{unless_ended, stop_running}

@@ -1,7 +1,7 @@
 -- A state change is a change of value.
 use Rattle.std.proofs.Common.{◌≡◌, Bool, true, false, not, Option, Some, None, refl, ap, sym, ◌∙◌, if◌then◌else◌}
 use Rattle.st_events.specs.declared.event.Event.{Event}
-use Rattle.st_core.specs.MachineState.{MachineState}
+use Rattle.st_core.specs.declared.machine_state.MachineState.{MachineState}
 use Rattle.st_core.specs.Callbacks.{Callbacks, Called, or_old, differs, said_by, outcome_of, is_entered, handled_with, entered_by, called_of}
 
 not_both : (same : Bool) → same ≡ true → not same ≡ true → ⊥

@@ -18,7 +18,8 @@ use Rattle.st_requests.specs.Requests.{OneEach, AreOf, with_answer, with_answers
 use Rattle.st_requests.proofs.RequestLemmas.{one_each_opened, one_each_answer, one_each_kept, one_each_closed}
 use Rattle.st_requests.proofs.LawfulRequests.{are_of_later, are_of_opened, are_of_answer, are_of_answers, are_of_closed, are_of_kept, fresh, one_each_answers, none_open_closed, none_open_answer, none_open_answers, none_open_kept}
 use Rattle.st_agenda.specs.Timing.{numbers_taken}
-use Rattle.st_agenda.specs.Agenda.{Schedule, inserted_in}
+use Rattle.st_agenda.specs.declared.schedule.Schedule.{Schedule}
+use Rattle.st_agenda.specs.Agenda.{inserted_in}
 use Rattle.st_agenda.proofs.LawfulSetting as schedule
 use Rattle.st_agenda.proofs.LawfulTurn.{settled_lawful, settled_next}
 use Rattle.st_core.specs.declared.answer.Answer.{Answer}
@@ -29,7 +30,8 @@ use Rattle.st_core.specs.declared.entry.Entry.TheVariants.{Call, Cast, Info}
 use Rattle.st_core.specs.declared.report.Report.{Report}
 use Rattle.st_core.specs.declared.start.Start.{Start}
 use Rattle.st_core.specs.declared.start.Start.TheVariants.{Running, Ignored, Stopped}
-use Rattle.st_core.specs.MachineState.{MachineState, Machine}
+use Rattle.st_core.specs.declared.machine_state.MachineState.{MachineState}
+use Rattle.st_core.specs.MachineState.{Machine}
 use Rattle.st_core.specs.Callbacks.{Callbacks, Called, called_of, begun_by}
 use Rattle.st_core.specs.Choice.{next_event_of}
 use Rattle.st_core.specs.Stop.{with_ended, unless_ended, stop_running, stop_of}

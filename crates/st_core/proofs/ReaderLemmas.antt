@@ -4,7 +4,8 @@ use Rattle.st_requests.specs.declared.collected.Collected.TheVariants as collect
 use Rattle.st_requests.specs.declared.request_state.RequestState.{RequestState}
 use Rattle.st_requests.specs.declared.request_state.RequestState.TheVariants.{Open, Reply, Stopped}
 use Rattle.st_requests.specs.Requests.{reply_of, collected_of}
-use Rattle.st_agenda.specs.Item.{Item, Received, Posted, Expiry}
+use Rattle.st_agenda.specs.declared.item.Item.{Item}
+use Rattle.st_agenda.specs.declared.item.Item.TheVariants.{Received, Posted, Expiry}
 use Rattle.st_agenda.specs.Items.{events_in}
 use Rattle.st_agenda.specs.Lawful.{waiting_numbers}
 use Rattle.st_agenda.proofs.LoopLemmas.{some_injective}

@@ -10,7 +10,7 @@ use Rattle.st_core.specs.declared.done.Done.TheVariants.{Started}
 use Rattle.st_core.specs.declared.report.Report.{Report}
 use Rattle.st_core.specs.declared.start.Start.{Start}
 use Rattle.st_core.specs.declared.start.Start.TheVariants.{Running}
-use Rattle.st_core.specs.MachineState.{MachineState}
+use Rattle.st_core.specs.declared.machine_state.MachineState.{MachineState}
 use Rattle.st_core.specs.Callbacks.{Callbacks, Called}
 use Rattle.st_core.specs.Start.{first_state, started_with, ended_with, begun_on, begun_as, with_begun, start_takes_memory, start_refused, start_report_of, Starts}
 use Rattle.st_core.specs.Transition.{has_numbers, inserted_by, times_of}

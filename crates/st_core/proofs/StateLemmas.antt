@@ -9,9 +9,10 @@ use Rattle.st_events.specs.declared.tag.Tag.{Tag}
 use Rattle.st_requests.specs.declared.request.Request.{Request}
 use Rattle.st_requests.specs.Requests.{with_answers}
 use Rattle.st_requests.proofs.LawfulRequests.{are_of_later, are_of_answers, one_each_answers}
-use Rattle.st_timeouts.specs.Running.{Running}
-use Rattle.st_agenda.specs.Item.{Item}
-use Rattle.st_agenda.specs.Agenda.{Schedule, next_in, settled_in, inserted_in, all_set_in}
+use Rattle.st_timeouts.specs.declared.running.Running.{Running}
+use Rattle.st_agenda.specs.declared.item.Item.{Item}
+use Rattle.st_agenda.specs.declared.schedule.Schedule.{Schedule}
+use Rattle.st_agenda.specs.Agenda.{next_in, settled_in, inserted_in, all_set_in}
 use Rattle.st_agenda.specs.Timing.{numbers_taken}
 use Rattle.st_agenda.proofs.LoopLemmas.{none_not_some}
 use Rattle.st_agenda.proofs.LawfulSetting.{lawful_empty, lawful_later, lawful_inserted, lawful_set_all}

@@ -12,7 +12,8 @@ use Rattle.st_core.specs.declared.report.Report.{Report}
 use Rattle.st_core.specs.declared.turned.Turned.{Turned}
 use Rattle.st_core.specs.declared.turned.Turned.TheVariants.{Reported, Idle}
 use Rattle.st_core.specs.declared.turns_end.TurnsEnd.TheVariants as end
-use Rattle.st_core.specs.MachineState.{MachineState, Machine}
+use Rattle.st_core.specs.declared.machine_state.MachineState.{MachineState}
+use Rattle.st_core.specs.MachineState.{Machine}
 use Rattle.st_core.specs.Callbacks.{Callbacks, called_of}
 use Rattle.st_core.specs.Choice.{is_ready_of, next_event_of}
 use Rattle.st_core.specs.Transition.{with_moment, transition_of, unless_refused, turn_running}

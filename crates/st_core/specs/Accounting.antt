@@ -8,7 +8,7 @@ use Rattle.st_core.specs.declared.answer.Answer.TheVariants as answer
 use Rattle.st_core.specs.declared.done.Done.{Done}
 use Rattle.st_core.specs.declared.done.Done.TheVariants.{Started, Finished, PutOff, Ended}
 use Rattle.st_core.specs.declared.turned.Turned.TheVariants.{Reported, Idle}
-use Rattle.st_core.specs.MachineState.{MachineState}
+use Rattle.st_core.specs.declared.machine_state.MachineState.{MachineState}
 
 -- the numbers of the events that wait at a machine
 abbrev pub waiting_in : {S D C : Type 0} → MachineState S D C → List ℕ

@@ -6,7 +6,7 @@ use Rattle.st_timeouts.specs.declared.due.Due.{Due}
 use Rattle.st_agenda.specs.Items.{events_in}
 use Rattle.st_agenda.specs.Agenda.{next_in, shown_timers}
 use Rattle.st_agenda.specs.Timing.{next_due_among}
-use Rattle.st_core.specs.MachineState.{MachineState}
+use Rattle.st_core.specs.declared.machine_state.MachineState.{MachineState}
 
 module _ {S D C : Type 0} where
   -- the event that a turn handles next: the first received one that is not postponed; or else that of

@@ -3,9 +3,9 @@ use Rattle.std.specs.Prelude.{◌≡◌, ℕ, ◌<◌, ◌^◌, Option, Some, No
 use Rattle.st_events.specs.declared.machine_id.MachineId.{MachineId}
 use Rattle.st_requests.specs.declared.request.Request.{Request}
 use Rattle.st_requests.specs.Requests.{OneEach, AreOf, NoneOpen}
-use Rattle.st_agenda.specs.Agenda.{Schedule}
+use Rattle.st_agenda.specs.declared.schedule.Schedule.{Schedule}
 use Rattle.st_agenda.specs.Lawful.{IsLawfulSchedule}
-use Rattle.st_core.specs.MachineState.{MachineState}
+use Rattle.st_core.specs.declared.machine_state.MachineState.{MachineState}
 
 module _ {C : Type 0} where
   -- once a machine has ended, nothing waits, no time-out runs, and no request is open

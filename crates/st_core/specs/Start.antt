@@ -18,7 +18,7 @@ use Rattle.st_core.specs.declared.done.Done.TheVariants.{Started, Ended}
 use Rattle.st_core.specs.declared.report.Report.{Report}
 use Rattle.st_core.specs.declared.start.Start.{Start}
 use Rattle.st_core.specs.declared.start.Start.TheVariants.{Running, Ignored, Stopped}
-use Rattle.st_core.specs.MachineState.{MachineState}
+use Rattle.st_core.specs.declared.machine_state.MachineState.{MachineState}
 use Rattle.st_core.specs.Callbacks.{Callbacks, Called, begun_by}
 use Rattle.st_core.specs.Stop.{with_ended}
 use Rattle.st_core.specs.Transition.{has_numbers, inserted_by, times_of, comes_after_callbacks}

@@ -19,7 +19,7 @@ use Rattle.st_core.specs.declared.done.Done.TheVariants.{Finished, PutOff, Ended
 use Rattle.st_core.specs.declared.report.Report.{Report}
 use Rattle.st_core.specs.declared.turned.Turned.{Turned}
 use Rattle.st_core.specs.declared.turned.Turned.TheVariants.{Reported, Idle}
-use Rattle.st_core.specs.MachineState.{MachineState}
+use Rattle.st_core.specs.declared.machine_state.MachineState.{MachineState}
 use Rattle.st_core.specs.Callbacks.{Callbacks, Called, called_of}
 use Rattle.st_core.specs.Choice.{next_event_of}
 use Rattle.st_core.specs.Stop.{with_ended, unless_ended}

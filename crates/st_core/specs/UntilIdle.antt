@@ -11,7 +11,8 @@ use Rattle.st_core.specs.declared.turns_end.TurnsEnd.{TurnsEnd}
 use Rattle.st_core.specs.declared.turns_end.TurnsEnd.TheVariants.{Idle, AtMost, Ended, Refused}
 use Rattle.st_core.specs.Callbacks.{Callbacks}
 use Rattle.st_core.specs.Choice.{is_ready_of}
-use Rattle.st_core.specs.MachineState.{MachineState, Machine}
+use Rattle.st_core.specs.declared.machine_state.MachineState.{MachineState}
+use Rattle.st_core.specs.MachineState.{Machine}
 use Rattle.st_core.specs.Run.{Runs}
 
 -- turns at a moment, as many as there are reports

@@ -12,6 +12,7 @@ mod engine;
 mod entered;
 mod entry;
 mod laws;
+mod machine_state;
 mod made;
 mod new_data;
 mod numbers;
@@ -24,6 +25,7 @@ mod replies;
 mod report;
 mod run;
 mod settings;
+mod snapshot;
 mod start;
 mod stop;
 mod tick;
@@ -44,14 +46,17 @@ pub use laws::{
     a_state_change_is_a_change_of_value, peek_shows_what_collect_hands_out,
     waiting_counts_what_is_accounted,
 };
+pub use machine_state::MachineState;
 pub use report::Report;
 pub use st_events::{
     Action, Actions, EnterAction, EnterActions, EnterOutcome, Init, Kind, MOMENT_LIMIT, MachineId,
     Module, NUMBER_LIMIT, Outcome, PlainList, Reason, Refusal, Refused, Replies, SmallList, Tag,
     Time, Timer,
 };
-pub use st_requests::Collected;
-pub use st_timeouts::Due;
+pub use st_agenda::{Item, Schedule};
+pub use st_requests::{Collected, Held, Request, RequestState};
+pub use st_timeouts::{Due, Running};
+pub use snapshot::Snapshot;
 pub use start::Start;
 pub use turned::Turned;
 pub use turns::Turns;

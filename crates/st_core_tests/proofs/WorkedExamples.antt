@@ -28,9 +28,11 @@ use Rattle.st_core.specs.declared.answer.Answer.{Answer}
 use Rattle.st_core.specs.declared.answer.Answer.TheVariants as answer
 use Rattle.st_timeouts.specs.declared.due.Due.{Due}
 use Rattle.st_timeouts.specs.declared.due.Due.TheVariants.{Zero, At}
-use Rattle.st_timeouts.specs.Running.{Running as RunningTimeout}
-use Rattle.st_agenda.specs.Item.{Item, Received, Posted, Expiry}
-use Rattle.st_core.specs.MachineState.{MachineState, Machine}
+use Rattle.st_timeouts.specs.declared.running.Running.{Running as RunningTimeout}
+use Rattle.st_agenda.specs.declared.item.Item.{Item}
+use Rattle.st_agenda.specs.declared.item.Item.TheVariants.{Received, Posted, Expiry}
+use Rattle.st_core.specs.declared.machine_state.MachineState.{MachineState}
+use Rattle.st_core.specs.MachineState.{Machine}
 use Rattle.st_core.specs.Callbacks.{Callbacks}
 use Rattle.st_core.specs.Choice.{is_ready_of, waiting_of, timers_of}
 use Rattle.st_core.specs.Start.{start_of, start_refused, Starts}

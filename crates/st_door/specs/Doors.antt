@@ -1,7 +1,7 @@
 -- The doors of a script, in order of registration.
 use Rattle.std.specs.Prelude.{◌≡◌, ℕ, zero, suc, ◌+◌, ◌<◌, ◌≤◌, ◌⊎◌, Bool, true, false, List, [], ◌∷◌, Option, Some, None, Result, Ok, Err, map, find, length, bytes_eq, slice_index_or, ◌==◌, if◌then◌else◌}
 use Rattle.std.specs.List.{list_any, sum_by}
-use Rattle.st_core.specs.MachineState.{MachineState}
+use Rattle.st_core.specs.declared.machine_state.MachineState.{MachineState}
 use Rattle.st_core.specs.Callbacks.{Callbacks}
 use Rattle.st_core.specs.Choice.{is_ready_of}
 use Rattle.st_core.specs.Post.{next_tag}

@@ -5,7 +5,7 @@ use crate::Kind;
 /// An event. Its number comes from one counter of its machine, so it names the event for good.
 ///
 /// Manual: `event_type()`, `event_content()`. Ours: docs/DECISIONS.md, Numbers of events.
-#[derive(Debug, Drop)]
+#[derive(Debug, PartialEq, Eq, Drop)]
 pub struct Event<C> {
     /// Its number.
     pub number: u64,

@@ -3,6 +3,7 @@
 #![tactic(auto)]
 
 mod collected;
+mod held;
 mod request;
 mod request_state;
 mod requests;
@@ -10,6 +11,7 @@ mod requests;
 mod tests;
 
 pub use collected::Collected;
+pub use held::Held;
 pub use request::Request;
 pub use request_state::RequestState;
 pub use requests::Requests;

@@ -1,14 +1,15 @@
 //! A request as it is kept.
-ghost use Rattle.std.specs.Prelude.{◌≡◌, Some, option_copied};
+ghost use Rattle.std.specs.Prelude.{◌≡◌, Some, option_copied, IfOk};
 ghost use Rattle.st_requests.specs.Requests.{is_waiting, reply_of, answered, collected_of, closed};
 
 use crate::{Collected, RequestState};
-use st_events::{Reason, Tag};
+use st_events::{Module, Reason, Tag};
+use std::alloc::{AllocError, Global};
 
 /// A request: its tag, and what stands for it.
 ///
 /// Manual: `from()`.
-#[derive(Debug, Drop)]
+#[derive(Debug, PartialEq, Eq, Drop)]
 pub struct Request<C> {
     /// Its name.
     pub tag: Tag,
@@ -32,6 +33,21 @@ impl<C> Request<C> {
             RequestState::Reply(content) => Some(content),
             RequestState::Open | RequestState::Stopped(_) => None,
         }
+    }
+
+    /// A copy; a module copies the reply. It may find no memory.
+    pub(crate) fn copy<M: Module<Content = C>>(
+        &self,
+        alloc: Global,
+        module: &M,
+    ) -> Result<Request<C>, AllocError>
+        ensures { IfOk result (λ copy. copy ≡ self.now) }
+    {
+        let held = self.held.copy(alloc, module)?;
+        Ok(Request {
+            tag: self.tag,
+            held,
+        })
     }
 
     /// What is collected of it.

@@ -1,11 +1,15 @@
 //! What stands for a request.
+ghost use Rattle.std.specs.Prelude.{◌≡◌, IfOk};
+ghost use Rattle.st_requests.specs.Requests.{held_of};
 
-use st_events::Reason;
+use crate::Held;
+use st_events::{Module, Reason};
+use std::alloc::{AllocError, Global};
 
 /// What stands for a request.
 ///
 /// Manual: `reply/2`; `call/2`, on a machine that dies before it replies.
-#[derive(Debug, Drop)]
+#[derive(Debug, PartialEq, Eq, Drop)]
 pub enum RequestState<C> {
     /// No reply has come.
     Open,
@@ -13,4 +17,35 @@ pub enum RequestState<C> {
     Reply(C),
     /// The reason for which the machine stopped, until it is collected.
     Stopped(Reason),
+}
+
+impl<C> RequestState<C> {
+    /// What is held, without the reply.
+    pub(crate) fn shown(&self) -> Held
+        ensures { result ≡ held_of self.now }
+    {
+        match self {
+            RequestState::Open => Held::Open,
+            RequestState::Reply(_) => Held::Reply,
+            RequestState::Stopped(reason) => Held::Stopped(*reason),
+        }
+    }
+
+    /// A copy; a module copies the reply. It may find no memory.
+    pub(crate) fn copy<M: Module<Content = C>>(
+        &self,
+        alloc: Global,
+        module: &M,
+    ) -> Result<RequestState<C>, AllocError>
+        ensures { IfOk result (λ copy. copy ≡ self.now) }
+    {
+        match self {
+            RequestState::Open => Ok(RequestState::Open),
+            RequestState::Reply(content) => {
+                let content = module.copy_content(alloc, content)?;
+                Ok(RequestState::Reply(content))
+            }
+            RequestState::Stopped(reason) => Ok(RequestState::Stopped(*reason)),
+        }
+    }
 }

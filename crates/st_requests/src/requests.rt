@@ -1,10 +1,10 @@
 //! The requests that are open or kept: in the order in which they were opened, searched by their tags.
-ghost use Rattle.std.specs.Prelude.{◌≡◌, ◌+◌, ◌≤◌, ◌++◌, [], ◌∷◌, None, length, option_copied, position, vec_capacity, OnOk, OnErr};
+ghost use Rattle.std.specs.Prelude.{◌≡◌, ◌+◌, ◌≤◌, ◌++◌, [], ◌∷◌, None, length, map, option_copied, position, vec_capacity, IfOk, OnOk, OnErr};
 ghost use Rattle.st_events.specs.Rows.{RepliesFit};
-ghost use Rattle.st_requests.specs.Requests.{is_for, held_for, reply_of, with_answer, with_answers, taken_by, is_open, collected_of, without_kept, without_request, closed_by};
+ghost use Rattle.st_requests.specs.Requests.{is_for, held_for, reply_of, shown, with_answer, with_answers, taken_by, is_open, collected_of, without_kept, without_request, closed_by};
 
-use crate::{Collected, Request, RequestState};
-use st_events::{Reason, Replies, Tag};
+use crate::{Collected, Held, Request, RequestState};
+use st_events::{Module, PlainList, Reason, Replies, Tag};
 use std::alloc::{AllocError, Global};
 use std::marker::Model;
 
@@ -52,6 +52,38 @@ impl<C> Requests<C> {
         let place = place_of(&self.requests, tag)?;
         let request = &self.requests[place];
         request.reply()
+    }
+
+    /// The requests, in the order in which they were opened, with the replies and the reasons that are kept.
+    ///
+    /// Manual: `from()`; ours: docs/DECISIONS.md, Snapshots.
+    pub fn as_slice(&self) -> &[Request<C>]
+        ensures { result.now ≡ self.now }
+    {
+        &self.requests
+    }
+
+    /// Each tag that is open or kept, once, in the order in which they were opened, with what is held for it. A kept
+    /// reply is shown by `peek`.
+    ///
+    /// Where memory is wanted and there is none, nothing is listed.
+    ///
+    /// Manual: `reqids_to_list/1`; there it is the caller who keeps the requests.
+    pub fn list(&self) -> Result<PlainList<(Tag, Held)>, AllocError>
+        ensures { IfOk result (λ list. list ≡ map shown self.now) }
+    {
+        let alloc = *self.requests.allocator();
+        list_requests(&self.requests, alloc)
+    }
+
+    /// A copy of the requests, in their order; a module copies the replies.
+    ///
+    /// Where memory is wanted and there is none, nothing is copied. Ours: docs/DECISIONS.md, Snapshots.
+    pub fn copy<M: Module<Content = C>>(&self, module: &M) -> Result<PlainList<Request<C>>, AllocError>
+        ensures { IfOk result (λ copy. copy ≡ self.now) }
+    {
+        let alloc = *self.requests.allocator();
+        copy_requests(&self.requests, alloc, module)
     }
 }
 
@@ -155,6 +187,36 @@ impl<C: Drop> Requests<C> {
     {
         close_all(&mut self.requests, reason);
     }
+}
+
+/// Each request's tag, with what is held for it.
+fn list_requests<C>(
+    requests: &[Request<C>],
+    alloc: Global,
+) -> Result<PlainList<(Tag, Held)>, AllocError>
+    ensures { IfOk result (λ list. list ≡ map shown requests.now) }
+{
+    let mut list = Vec::with_capacity(alloc, requests.len())?;
+    for request in requests {
+        list.push_reserved((request.tag, request.held.shown()));
+    }
+    Ok(PlainList::from(list))
+}
+
+/// A copy of each request.
+fn copy_requests<M: Module>(
+    requests: &[Request<M::Content>],
+    alloc: Global,
+    module: &M,
+) -> Result<PlainList<Request<M::Content>>, AllocError>
+    ensures { IfOk result (λ copy. copy ≡ requests.now) }
+{
+    let mut copies = Vec::with_capacity(alloc, requests.len())?;
+    for request in requests {
+        let copy = request.copy(alloc, module)?;
+        copies.push_reserved(copy);
+    }
+    Ok(PlainList::from(copies))
 }
 
 /// The place of a tag's request.

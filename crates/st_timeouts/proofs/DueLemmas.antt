@@ -2,7 +2,8 @@
 use Rattle.std.proofs.Common.{◌≡◌, Bool, true, false, if◌then◌else◌, List, [], ◌∷◌, ◌++◌, refl, sym, ap, ◌∙◌, arith}
 use Rattle.std.specs.List.{filter}
 use Rattle.st_timeouts.specs.declared.key.Key.{Key}
-use Rattle.st_timeouts.specs.Running.{Running, is_before, put_in_order, in_order}
+use Rattle.st_timeouts.specs.declared.running.Running.{Running}
+use Rattle.st_timeouts.specs.Running.{is_before, put_in_order, in_order}
 use Rattle.st_timeouts.specs.Keys.{before, put_key, ordered, put_late, AllBefore, NoneBefore, InOrder, key_of, keys_of}
 
 -- ---- one before another

@@ -11,7 +11,8 @@ use Rattle.st_events.proofs.ComparedLemmas.{same_timer_self}
 use Rattle.st_timeouts.specs.declared.due.Due.{Due}
 use Rattle.st_timeouts.specs.declared.due.Due.TheVariants.{Zero, At}
 use Rattle.st_timeouts.specs.declared.key.Key.{Key}
-use Rattle.st_timeouts.specs.Running.{Running, is_zero, is_due_by, moment_of, runs_for, first_zero_of, without_running, in_order}
+use Rattle.st_timeouts.specs.declared.running.Running.{Running}
+use Rattle.st_timeouts.specs.Running.{is_zero, is_due_by, moment_of, runs_for, first_zero_of, without_running, in_order}
 use Rattle.st_timeouts.specs.Timeouts.{Listed, Timeouts, all_of, name_of, expiring, first_of, with_expired, with_first_expired, next_due_of}
 use Rattle.st_timeouts.specs.Keys.{ordered, NoneBefore, InOrder, key_of, keys_of}
 use Rattle.st_timeouts.specs.Order.{has_come, is_other, OnceEach, first_key, other_keys}

@@ -3,6 +3,7 @@ pub mod DueLemmas
 pub mod FallingLemmas
 pub mod HandedLemmas
 pub mod OrderLemmas
+pub mod CopyLemmas
 pub mod RowLemmas
 pub mod SoundLemmas
 pub mod WaitingLemmas

@@ -12,7 +12,8 @@ use Rattle.st_timeouts.specs.declared.entry.Entry.{Entry}
 use Rattle.st_timeouts.specs.declared.key.Key.{Key}
 use Rattle.st_timeouts.specs.declared.due.Due.{Due}
 use Rattle.st_timeouts.specs.declared.due.Due.TheVariants.{At}
-use Rattle.st_timeouts.specs.Running.{Running, is_zero, moment_of, runs_for, running_of, OneEach}
+use Rattle.st_timeouts.specs.declared.running.Running.{Running}
+use Rattle.st_timeouts.specs.Running.{is_zero, moment_of, runs_for, running_of, OneEach}
 use Rattle.st_timeouts.specs.Timeouts.{Listed, all_of, name_of, shown, without_listed, content_of, runs, with_expired, live}
 use Rattle.st_timeouts.specs.Order.{NoneElse}
 use Rattle.st_timeouts.specs.Keys.{before, put_key, put_late, ordered, key_at, key_of, keys_of}

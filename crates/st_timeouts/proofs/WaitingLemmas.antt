@@ -8,7 +8,8 @@ use Rattle.st_events.specs.declared.timer.Timer.{Timer}
 use Rattle.st_events.specs.Timers.{same_timer}
 use Rattle.st_events.proofs.ComparedLemmas.{same_timer_flips}
 use Rattle.st_timeouts.specs.declared.key.Key.{Key}
-use Rattle.st_timeouts.specs.Running.{Running, runs_for, running_of, without_running, OneEach}
+use Rattle.st_timeouts.specs.declared.running.Running.{Running}
+use Rattle.st_timeouts.specs.Running.{runs_for, running_of, without_running, OneEach}
 use Rattle.st_timeouts.specs.Timeouts.{Listed, all_of, without_listed}
 use Rattle.st_timeouts.specs.Keys.{before, put_key, put_late, ordered, key_of, keys_of}
 use Rattle.st_timeouts.specs.Order.{is_other, NoneElse, OtherThan, OnceEach}

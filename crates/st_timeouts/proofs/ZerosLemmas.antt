@@ -7,7 +7,8 @@ use Rattle.std.proofs.lemmas.List.Elements.{filter-append}
 use Rattle.st_events.specs.declared.timer.Timer.{Timer}
 use Rattle.st_events.specs.Timers.{same_timer}
 use Rattle.st_events.proofs.ComparedLemmas.{timers_same}
-use Rattle.st_timeouts.specs.Running.{Running, is_zero, runs_for, running_of, without_running, OneEach}
+use Rattle.st_timeouts.specs.declared.running.Running.{Running}
+use Rattle.st_timeouts.specs.Running.{is_zero, runs_for, running_of, without_running, OneEach}
 use Rattle.st_timeouts.specs.Timeouts.{Listed, all_of, name_of, without_listed}
 use Rattle.st_timeouts.specs.Waiting.{zeros_of}
 use Rattle.st_timeouts.specs.Zeros.{other_zero, OtherZeros, OnceZeros}

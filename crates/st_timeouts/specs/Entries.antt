@@ -4,7 +4,8 @@ use Rattle.st_events.specs.declared.timer.Timer.{Timer}
 use Rattle.st_timer_map.specs.Rows.{Rows}
 use Rattle.st_timeouts.specs.declared.entry.Entry.{Entry}
 use Rattle.st_timeouts.specs.Order.{Order}
-use Rattle.st_timeouts.specs.Running.{Running, OneEach}
+use Rattle.st_timeouts.specs.declared.running.Running.{Running}
+use Rattle.st_timeouts.specs.Running.{OneEach}
 use Rattle.st_timeouts.specs.Timeouts.{Listed, all_of}
 use Rattle.st_timeouts.specs.Waiting.{due_keys, zeros_of}
 use Rattle.st_timeouts.specs.Zeros.{Zeros}

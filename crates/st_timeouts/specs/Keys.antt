@@ -2,7 +2,8 @@
 use Rattle.std.specs.Prelude.{◌≡◌, ℕ, Bool, true, false, ◌||◌, ◌&&◌, ◌==◌, nat_lt, if◌then◌else◌, List, [], ◌∷◌, map}
 use Rattle.st_events.specs.declared.timer.Timer.{Timer}
 use Rattle.st_timeouts.specs.declared.key.Key.{Key}
-use Rattle.st_timeouts.specs.Running.{Running, moment_of}
+use Rattle.st_timeouts.specs.declared.running.Running.{Running}
+use Rattle.st_timeouts.specs.Running.{moment_of}
 
 -- one comes before another: it is due earlier, or at the same moment and has the lower number
 abbrev pub before : Key → Key → Bool

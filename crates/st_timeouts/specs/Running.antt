@@ -4,13 +4,7 @@ use Rattle.st_events.specs.declared.timer.Timer.{Timer}
 use Rattle.st_events.specs.Timers.{same_timer}
 use Rattle.st_timeouts.specs.declared.due.Due.{Due}
 use Rattle.st_timeouts.specs.declared.due.Due.TheVariants.{Zero, At}
-
--- a time-out that runs: its timer, the number of its event, when it is due, and its event's content
-pub record Running (C : Type 0) : Type 0 where
-  pub timer : Timer
-  pub number : ℕ
-  pub due : Due
-  pub content : C
+use Rattle.st_timeouts.specs.declared.running.Running.{Running}
 
 -- when a time-out is due that is set for so many milliseconds at a moment: at once where it is for none
 abbrev pub due_after : ℕ → ℕ → Due

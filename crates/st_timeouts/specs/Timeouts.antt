@@ -3,7 +3,8 @@ use Rattle.std.specs.Prelude.{ℕ, ◌-◌, Bool, not, ◌&&◌, ◌==◌, if◌
 use Rattle.std.specs.Option.{option_map}
 use Rattle.st_events.specs.declared.timer.Timer.{Timer}
 use Rattle.st_timeouts.specs.declared.due.Due.{Due}
-use Rattle.st_timeouts.specs.Running.{Running, due_after, is_zero, is_due_by, moment_of, runs_for, running_of, in_order}
+use Rattle.st_timeouts.specs.declared.running.Running.{Running}
+use Rattle.st_timeouts.specs.Running.{due_after, is_zero, is_due_by, moment_of, runs_for, running_of, in_order}
 
 -- a running time-out, and whether its expiry was handed out
 pub record Listed (C : Type 0) : Type 0 where

@@ -1,9 +1,11 @@
 //! One time-out as it is kept.
-ghost use Rattle.std.specs.Prelude.{true};
+ghost use Rattle.std.specs.Prelude.{◌≡◌, true, IfOk};
+ghost use Rattle.st_timeouts.specs.Entries.{running};
 
-use crate::Due;
-use st_events::Timer;
+use crate::{Due, Running};
+use st_events::{Module, Timer};
 use st_timer_map::Kept;
+use std::alloc::{AllocError, Global};
 
 /// What is kept of the time-out of a timer that runs, and whether its expiry was handed out.
 #[derive(Drop)]
@@ -27,5 +29,25 @@ impl<C> Kept for Entry<C> {
 
     fn mark(&mut self) {
         self.expired = true;
+    }
+}
+
+impl<C> Entry<C> {
+    /// A copy of the time-out of its timer; a module copies the content. It may find no memory.
+    pub(crate) fn copy<M: Module<Content = C>>(
+        &self,
+        timer: Timer,
+        alloc: Global,
+        module: &M,
+    ) -> Result<Running<C>, AllocError>
+        ensures { IfOk result (λ copy. copy ≡ running timer self.now) }
+    {
+        let content = module.copy_content(alloc, &self.content)?;
+        Ok(Running {
+            timer,
+            number: self.number,
+            due: self.due,
+            content,
+        })
     }
 }

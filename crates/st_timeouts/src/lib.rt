@@ -6,11 +6,13 @@ mod entry;
 mod key;
 mod moment;
 mod order;
+mod running;
 #[cfg(test)]
 mod tests;
 mod timeouts;
 mod zeros;
 
 pub use due::Due;
+pub use running::Running;
 pub use st_events::{PlainList, Timer};
 pub use timeouts::Timeouts;

@@ -9,13 +9,13 @@ ghost use Rattle.st_timeouts.specs.Timeouts.{all_of, name_of, shown, begun, cont
 ghost use Rattle.st_timeouts.specs.Waiting.{waiting_of, due_keys, zeros_of};
 ghost use Rattle.st_timeouts.specs.Zeros.{with_zero};
 
-use crate::Due;
+use crate::{Due, Running};
 use crate::entry::Entry;
 use crate::key::Key;
 use crate::moment::Moment;
 use crate::order::Order;
 use crate::zeros::Zeros;
-use st_events::{PlainList, Timer};
+use st_events::{Module, PlainList, Timer};
 use st_steps::Steps;
 use st_timer_map::TimerMap;
 use std::alloc::{AllocError, Global};
@@ -153,6 +153,17 @@ impl<C> Timeouts<C> {
     {
         Ok(PlainList::from(self.entries.list()?))
     }
+
+    /// A copy of the running time-outs, in the order in which they were set; a module copies their contents.
+    ///
+    /// Where memory is wanted and there is none, nothing is copied. Ours: docs/DECISIONS.md, Snapshots.
+    pub fn copy<M: Module<Content = C>>(&self, module: &M) -> Result<PlainList<Running<C>>, AllocError>
+        ensures { IfOk result (λ copy. copy ≡ all_of self.now.listed) }
+    {
+        let rows = self.entries.list()?;
+        let alloc = *rows.allocator();
+        copy_all(&self.entries, &rows, alloc, module)
+    }
 }
 
 impl<C: Drop> Timeouts<C> {
@@ -226,6 +237,29 @@ impl<C: Drop> Timeouts<C> {
             None
         }
     }
+}
+
+/// A copy of each time-out, where these are their rows in order.
+fn copy_all<M: Module>(
+    entries: &TimerMap<Entry<M::Content>>,
+    rows: &[(Timer, u64, Due)],
+    alloc: Global,
+    module: &M,
+) -> Result<PlainList<Running<M::Content>>, AllocError>
+    requires one_each { OneEach (all_of (listed_of entries.now.rows)) }
+    requires rows { rows.now ≡ map shown (listed_of entries.now.rows) }
+    ensures { IfOk result (λ copy. copy ≡ all_of (listed_of entries.now.rows)) }
+{
+    let mut copies = Vec::with_capacity(alloc, rows.len())?;
+    for row in rows {
+        let timer = row.0;
+        let Some(entry) = entries.get(timer) else {
+            unreachable!()
+        };
+        let copy = entry.copy(timer, alloc, module)?;
+        copies.push_reserved(copy);
+    }
+    Ok(PlainList::from(copies))
 }
 
 /// Takes a timer out of those that wait.

@@ -1,5 +1,6 @@
 use Rattle.std.proofs.Common.{◌≡◌, ◌≤◌, ◌+◌, ◌^◌, length, ap, arith}
-use Rattle.st_agenda.specs.Agenda.{Agenda, Schedule}
+use Rattle.st_agenda.specs.declared.schedule.Schedule.{Schedule}
+use Rattle.st_agenda.specs.Agenda.{Agenda}
 use Rattle.st_agenda.specs.Timing.{numbers_taken}
 use Rattle.st_agenda.proofs.LoopLemmas.{taken_within}
 use Rattle.st_agenda.proofs.tests.begin.Goals as goal

@@ -1,5 +1,6 @@
 use Rattle.std.proofs.Common.{refl, sym, ap, ◌∙◌}
-use Rattle.st_agenda.specs.Agenda.{Schedule, set_in}
+use Rattle.st_agenda.specs.declared.schedule.Schedule.{Schedule}
+use Rattle.st_agenda.specs.Agenda.{set_in}
 use Rattle.st_agenda.proofs.SweepLemmas.{none_inserted}
 use Rattle.st_core.proofs.acted.act.Goals as goal
 

@@ -1,5 +1,6 @@
 use Rattle.std.proofs.Common.{◌≡◌, ◌+◌, ◌≤◌, length, refl, sym, ap, ◌∙◌, arith}
-use Rattle.st_agenda.specs.Agenda.{Agenda, Schedule}
+use Rattle.st_agenda.specs.declared.schedule.Schedule.{Schedule}
+use Rattle.st_agenda.specs.Agenda.{Agenda}
 use Rattle.st_agenda.specs.Timing.{expiring_by}
 use Rattle.st_agenda.proofs.ExpireLemmas.{due_is}
 use Rattle.st_agenda.proofs.LoopLemmas.{expired_none_yet}

@@ -1,5 +1,6 @@
 use Rattle.std.proofs.Common.{◌≡◌, ◌≤◌, ◌+◌, ap, ◌∙◌, arith}
-use Rattle.st_agenda.specs.Agenda.{Agenda, Schedule}
+use Rattle.st_agenda.specs.declared.schedule.Schedule.{Schedule}
+use Rattle.st_agenda.specs.Agenda.{Agenda}
 use Rattle.st_agenda.proofs.SweepLemmas.{next_received, retried_next}
 use Rattle.st_agenda.proofs.agenda.Agenda.settle_alone.Goals as goal
 

@@ -5,7 +5,8 @@ use Rattle.st_actions.specs.Plan.{replies_of, inserts_of, postpone_of, settings_
 use Rattle.st_requests.specs.Requests.{taken_by}
 use Rattle.st_core.proofs.StateLemmas.{settled_keeps}
 use Rattle.st_events.specs.declared.event.Event.{Event}
-use Rattle.st_agenda.specs.Agenda.{Schedule, next_in}
+use Rattle.st_agenda.specs.declared.schedule.Schedule.{Schedule}
+use Rattle.st_agenda.specs.Agenda.{next_in}
 use Rattle.st_agenda.specs.Items.{numbered, numbers_of}
 use Rattle.st_agenda.specs.Timing.{numbers_taken}
 use Rattle.st_core.specs.Transition.{with_moment, has_numbers, times_of}

@@ -4,7 +4,8 @@ use Rattle.std.specs.Option.{option_map, option_to_list}
 use Rattle.st_actions.specs.Plan.{replies_of, inserts_of, postpone_of, settings_of}
 use Rattle.st_requests.specs.Requests.{taken_by}
 use Rattle.st_events.specs.declared.event.Event.{Event}
-use Rattle.st_agenda.specs.Agenda.{Schedule, next_in, inserted_in, all_set_in}
+use Rattle.st_agenda.specs.declared.schedule.Schedule.{Schedule}
+use Rattle.st_agenda.specs.Agenda.{next_in, inserted_in, all_set_in}
 use Rattle.st_agenda.specs.Items.{numbered, numbers_of}
 use Rattle.st_agenda.specs.Timing.{numbers_taken}
 use Rattle.st_core.specs.Transition.{with_moment, has_numbers, times_of}

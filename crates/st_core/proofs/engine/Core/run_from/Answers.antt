@@ -1,6 +1,7 @@
 use Rattle.std.proofs.Common.{◌≡◌, ◌≤◌, ◌+◌, ◌^◌, true, length, refl, ap, sym, arith}
 use Rattle.st_actions.specs.Plan.{inserts_of, settings_of}
-use Rattle.st_agenda.specs.Agenda.{Agenda, Schedule}
+use Rattle.st_agenda.specs.declared.schedule.Schedule.{Schedule}
+use Rattle.st_agenda.specs.Agenda.{Agenda}
 use Rattle.st_agenda.specs.Items.{numbered, numbers_of}
 use Rattle.st_agenda.specs.Timing.{numbers_taken}
 use Rattle.st_core.specs.Start.{first_state}
