@@ -17,7 +17,9 @@ use crate::Schedule;
 use crate::numbers::numbers_taken;
 use crate::pending::Pending;
 use crate::slot::Slot;
-use st_events::{Event, Inserts, Kind, Module, NUMBER_LIMIT, PlainList, Setting, Settings, Time, Timer};
+use st_events::{
+    CopyContent, Event, Inserts, Kind, NUMBER_LIMIT, PlainList, Setting, Settings, Time, Timer,
+};
 use st_steps::Steps;
 use st_timeouts::{Due, Timeouts};
 use std::alloc::{AllocError, AllocFailed, Global};
@@ -162,20 +164,22 @@ impl<C> Agenda<C> {
     {
         self.timeouts.next_due()
     }
+}
 
-    /// What waits and the time-outs that run, as a value of its own; a module copies the contents.
+impl<C: Drop> Agenda<C> {
+    /// What waits and the time-outs that run, as a value of its own; a copier copies the contents.
     ///
     /// Nothing changes, also where memory is wanted and there is none. Ours: docs/DECISIONS.md, Snapshots.
-    pub fn copy<M: Module<Content = C>>(
+    pub fn copy<K: CopyContent<C>>(
         &mut self,
         alloc: Global,
-        module: &M,
+        copier: &K,
     ) -> Result<Schedule<C>, AllocError>
         ensures copy { IfOk result (λ copy. copy ≡ self.old.schedule) }
         ensures unchanged { self.new ≡ self.old }
     {
-        let running = self.timeouts.copy(module)?;
-        let (pending, postponed) = self.pending.copy(&self.timeouts, alloc, module)?;
+        let running = self.timeouts.copy(copier)?;
+        let (pending, postponed) = self.pending.copy(&self.timeouts, alloc, copier)?;
         let next_number = self.next_number();
         Ok(Schedule {
             pending,
@@ -184,9 +188,7 @@ impl<C> Agenda<C> {
             next_number,
         })
     }
-}
 
-impl<C: Drop> Agenda<C> {
     /// Puts a posted event behind all that waits, and answers its number.
     ///
     /// Where memory is wanted and there is none, nothing changes and the content comes back.

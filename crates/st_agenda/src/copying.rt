@@ -8,19 +8,19 @@ ghost use Rattle.st_agenda.specs.Waiting.{places_of, postponed_of, slot_numbers}
 use crate::Item;
 use crate::slot::Slot;
 use crate::uncounted_queue::UncountedQueue;
-use st_events::{Event, Module, PlainList};
+use st_events::{CopyContent, Event, PlainList};
 use st_timeouts::Timeouts;
 use std::alloc::{AllocError, Global};
 
 /// Copies of what waits in a queue of which the first so many slots were received, and the numbers of those before
 /// its cursor, which are postponed. The cursor walks over all and comes back, also where no memory is found.
-pub(crate) fn copy_queue<M: Module>(
-    queue: &mut UncountedQueue<Slot<M::Content>>,
+pub(crate) fn copy_queue<C: Drop, K: CopyContent<C>>(
+    queue: &mut UncountedQueue<Slot<C>>,
     received: usize,
-    timeouts: &Timeouts<M::Content>,
+    timeouts: &Timeouts<C>,
     alloc: Global,
-    module: &M,
-) -> Result<(PlainList<Item<M::Content>>, PlainList<u64>), AllocError>
+    copier: &K,
+) -> Result<(PlainList<Item<C>>, PlainList<u64>), AllocError>
     ensures items { IfOk result (λ copies. copies.0 ≡ items_in timeouts.now.listed (places_of received queue.old.items)) }
     ensures postponed { IfOk result (λ copies. copies.1 ≡ postponed_of queue.old.cursor queue.old.items) }
     ensures unchanged { queue.new ≡ queue.old }
@@ -28,20 +28,20 @@ pub(crate) fn copy_queue<M: Module>(
     let before = queue.before();
     let mut numbers = Vec::with_capacity(alloc, before)?;
     queue.rewind();
-    let items = copy_items(queue, received, timeouts, alloc, module);
+    let items = copy_items(queue, received, timeouts, alloc, copier);
     queue.rewind();
     pass(queue, before, &mut numbers);
     Ok((items?, PlainList::from(numbers)))
 }
 
 /// Copies of what waits, from the start of the queue to its end, where the cursor stands then.
-fn copy_items<M: Module>(
-    queue: &mut UncountedQueue<Slot<M::Content>>,
+fn copy_items<C: Drop, K: CopyContent<C>>(
+    queue: &mut UncountedQueue<Slot<C>>,
     received: usize,
-    timeouts: &Timeouts<M::Content>,
+    timeouts: &Timeouts<C>,
     alloc: Global,
-    module: &M,
-) -> Result<PlainList<Item<M::Content>>, AllocError>
+    copier: &K,
+) -> Result<PlainList<Item<C>>, AllocError>
     requires start { queue.old.cursor ≡ 0 }
     ensures items { IfOk result (λ items. items ≡ items_in timeouts.now.listed (places_of received queue.old.items)) }
     ensures slots { queue.new.items ≡ queue.old.items }
@@ -50,7 +50,7 @@ fn copy_items<M: Module>(
     let mut items = Vec::with_capacity(alloc, queue.len())?;
     while let Some(slot) = queue.peek() {
         let was_received = queue.before() < received;
-        let copy = copy_slot(slot, was_received, timeouts, alloc, module)?;
+        let copy = copy_slot(slot, was_received, timeouts, alloc, copier)?;
         push_any(copy, &mut items);
         let _passed = queue.skip();
     }
@@ -69,18 +69,18 @@ fn push_any<T: Drop>(item: Option<T>, items: &mut Vec<T>)
 }
 
 /// A copy of what a slot is read as: an expiry whose time-out runs no more is nothing.
-fn copy_slot<M: Module>(
-    slot: &Slot<M::Content>,
+fn copy_slot<C, K: CopyContent<C>>(
+    slot: &Slot<C>,
     was_received: bool,
-    timeouts: &Timeouts<M::Content>,
+    timeouts: &Timeouts<C>,
     alloc: Global,
-    module: &M,
-) -> Result<Option<Item<M::Content>>, AllocError>
+    copier: &K,
+) -> Result<Option<Item<C>>, AllocError>
     ensures { IfOk result (λ item. item ≡ item_of timeouts.now.listed was_received slot.now) }
 {
     match slot {
         Slot::Event(event) => {
-            let event = copy_event(event, alloc, module)?;
+            let event = copy_event(event, alloc, copier)?;
             if was_received {
                 Ok(Some(Item::Received(event)))
             } else {
@@ -97,15 +97,15 @@ fn copy_slot<M: Module>(
     }
 }
 
-/// A copy of an event; a module copies the content.
-fn copy_event<M: Module>(
-    event: &Event<M::Content>,
+/// A copy of an event; a copier copies the content.
+fn copy_event<C, K: CopyContent<C>>(
+    event: &Event<C>,
     alloc: Global,
-    module: &M,
-) -> Result<Event<M::Content>, AllocError>
+    copier: &K,
+) -> Result<Event<C>, AllocError>
     ensures { IfOk result (λ copy. copy ≡ event.now) }
 {
-    let content = module.copy_content(alloc, &event.content)?;
+    let content = copier.copy_of(alloc, &event.content)?;
     Ok(Event {
         number: event.number,
         kind: event.kind,

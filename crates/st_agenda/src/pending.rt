@@ -10,7 +10,7 @@ use crate::Item;
 use crate::copying::copy_queue;
 use crate::slot::Slot;
 use crate::uncounted_queue::UncountedQueue;
-use st_events::{Event, Insert, Inserts, Kind, Module, PlainList, Timer};
+use st_events::{CopyContent, Event, Insert, Inserts, Kind, PlainList, Timer};
 use st_timeouts::Timeouts;
 use std::alloc::{AllocError, AllocFailed, Global};
 use std::marker::Model;
@@ -83,23 +83,6 @@ impl<C> Pending<C> {
         self.next_number
     }
 
-    /// Copies of what waits, and of the numbers of the events that are postponed; a module copies the contents. An
-    /// expiry whose time-out runs no more is none.
-    ///
-    /// Nothing changes, also where memory is wanted and there is none.
-    pub(crate) fn copy<M: Module<Content = C>>(
-        &mut self,
-        timeouts: &Timeouts<C>,
-        alloc: Global,
-        module: &M,
-    ) -> Result<(PlainList<Item<C>>, PlainList<u64>), AllocError>
-        ensures items { IfOk result (λ copies. copies.0 ≡ items_in timeouts.now.listed self.old.items) }
-        ensures postponed { IfOk result (λ copies. copies.1 ≡ self.old.postponed) }
-        ensures unchanged { self.new ≡ self.old }
-    {
-        copy_queue(&mut self.queue, self.received, timeouts, alloc, module)
-    }
-
     /// A law, which does nothing: what waits is in order.
     pub(crate) fn in_order(&self)
         ensures { IsOrdered self.now }
@@ -137,6 +120,23 @@ impl<C> Pending<C> {
 }
 
 impl<C: Drop> Pending<C> {
+    /// Copies of what waits, and of the numbers of the events that are postponed; a copier copies the contents. An
+    /// expiry whose time-out runs no more is none.
+    ///
+    /// Nothing changes, also where memory is wanted and there is none.
+    pub(crate) fn copy<K: CopyContent<C>>(
+        &mut self,
+        timeouts: &Timeouts<C>,
+        alloc: Global,
+        copier: &K,
+    ) -> Result<(PlainList<Item<C>>, PlainList<u64>), AllocError>
+        ensures items { IfOk result (λ copies. copies.0 ≡ items_in timeouts.now.listed self.old.items) }
+        ensures postponed { IfOk result (λ copies. copies.1 ≡ self.old.postponed) }
+        ensures unchanged { self.new ≡ self.old }
+    {
+        copy_queue(&mut self.queue, self.received, timeouts, alloc, copier)
+    }
+
     /// Puts a posted event behind all others, and answers its number.
     pub(crate) fn push(&mut self, kind: Kind, content: C) -> Result<u64, AllocFailed<C>>
         requires { self.old.next_number < 2 ^ 63 }

@@ -3,12 +3,14 @@ ghost use Rattle.std.specs.Prelude.{◌≡◌, ◌+◌, ◌≤◌, ◌<◌, leng
 
 mod host;
 
-use crate::Agenda;
+use crate::{Agenda, Item, Schedule};
 use host::Host;
-use st_events::{Insert, Inserts, Kind, PlainList, Setting, Settings, Time, Timer};
+use st_events::{
+    CopyContent, Event, Insert, Inserts, Kind, PlainList, Setting, Settings, Time, Timer,
+};
 use st_steps::Steps;
-use st_timeouts::Due;
-use std::alloc::Global;
+use st_timeouts::{Due, Running};
+use std::alloc::{AllocError, Global};
 use std::marker::Brand;
 use std::process::Abort;
 use std::sync::ledger::{Blank, Ledger};
@@ -403,4 +405,79 @@ fn begin(rt: &Host<impl Abort>, agenda: &mut Agenda<u64>, alloc: Global) {
     reserve_for(rt, agenda, events, timers);
     agenda.insert(inserts);
     agenda.set_all(3, settings);
+}
+
+/// Copies numbers.
+#[derive(Drop)]
+struct Numbers;
+
+impl CopyContent<u64> for Numbers {
+    fn copy_of(&self, _alloc: Global, content: &u64) -> Result<u64, AllocError> {
+        Ok(*content)
+    }
+}
+
+/// A copy of all. Where memory was refused, nothing has changed, and it is copied again.
+fn copied(rt: &Host<impl Abort>, agenda: &mut Agenda<u64>, alloc: Global) -> Schedule<u64> {
+    let before = readable(agenda);
+    let mut copy = agenda.copy(alloc, &Numbers);
+    assert_eq!(rt; readable(agenda), before);
+    if copy.is_err() {
+        rt.retry();
+        copy = agenda.copy(alloc, &Numbers);
+    }
+    copy.expect(rt, "one allocation alone is refused")
+}
+
+/// A cast with its number and its content.
+fn cast(number: u64, content: u64) -> Event<u64> {
+    Event {
+        number,
+        kind: Kind::Cast,
+        content,
+    }
+}
+
+/// A postponed event, a posted one, an expiry that waits and one whose timer was stopped: the copy has what waits in
+/// order and no expiry of the stopped timer, and what comes next comes next still.
+#[test]
+fn all_is_copied_and_stays(rt: HostRuntime) {
+    let rt = Host::new(rt);
+    let mut agenda = Agenda::new(rt.alloc(), 1);
+    push(&rt, &mut agenda, 10, 1);
+    push(&rt, &mut agenda, 20, 2);
+    let inserts = insert(&rt, rt.alloc(), 30);
+    let settings = two(
+        &rt,
+        rt.alloc(),
+        (Timer::Named(1), Time::After(5), 40),
+        (Timer::Named(2), Time::After(5), 50),
+    );
+    settle(&rt, &mut agenda, 0, 1, true, false, inserts, settings);
+    tick(&rt, &mut agenda, 5, 2);
+    let settings = one(&rt, rt.alloc(), Timer::Named(1), Time::Infinity, 0);
+    let none = Inserts::new(rt.alloc());
+    settle(&rt, &mut agenda, 5, 3, false, false, none, settings);
+    let copy = copied(&rt, &mut agenda, rt.alloc());
+    let pending = [
+        Item::Received(cast(1, 10)),
+        Item::Posted(cast(2, 20)),
+        Item::Expiry(Timer::Named(2)),
+    ];
+    let running = [Running {
+        timer: Timer::Named(2),
+        number: 5,
+        due: Due::At(5),
+        content: 50,
+    }];
+    assert!(rt; copy.pending.as_slice() == pending.as_slice(), "what waits");
+    assert_eq!(rt; copy.postponed.as_slice(), [1].as_slice());
+    assert!(rt; copy.running.as_slice() == running.as_slice(), "what runs");
+    assert_eq!(rt; copy.next_number, 6);
+    assert!(rt;
+        copy == copied(&rt, &mut agenda, rt.alloc()),
+        "another copy"
+    );
+    comes(&rt, &agenda, (2, Kind::Cast, 20), 2);
+    rt.end();
 }

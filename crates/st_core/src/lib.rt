@@ -48,15 +48,15 @@ pub use laws::{
 };
 pub use machine_state::MachineState;
 pub use report::Report;
-pub use st_events::{
-    Action, Actions, EnterAction, EnterActions, EnterOutcome, Init, Kind, MOMENT_LIMIT, MachineId,
-    Module, NUMBER_LIMIT, Outcome, PlainList, Reason, Refusal, Refused, Replies, SmallList, Tag,
-    Time, Timer,
-};
+pub use snapshot::Snapshot;
 pub use st_agenda::{Item, Schedule};
+pub use st_events::{
+    Action, Actions, EnterAction, EnterActions, EnterOutcome, Event, Init, Kind, MOMENT_LIMIT,
+    MachineId, Module, NUMBER_LIMIT, Outcome, PlainList, Reason, Refusal, Refused, Replies,
+    SmallList, Tag, Time, Timer,
+};
 pub use st_requests::{Collected, Held, Request, RequestState};
 pub use st_timeouts::{Due, Running};
-pub use snapshot::Snapshot;
 pub use start::Start;
 pub use turned::Turned;
 pub use turns::Turns;

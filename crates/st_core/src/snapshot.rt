@@ -8,8 +8,11 @@ use st_events::{Module, Refusal};
 /// A machine's snapshot: all of it but its module, as a value of its own. Two of them can be compared and printed.
 ///
 /// Manual: `sys:get_state/1`, whose result is the state and the data alone.
-pub type Snapshot<M> =
-    MachineState<<M as Module>::State, <M as Module>::Data, <M as Module>::Content>;
+pub type Snapshot<M> = MachineState<
+    <M as Module>::State,
+    <M as Module>::Data,
+    <M as Module>::Content,
+>;
 
 impl<M: Module> Core<M> {
     /// The whole machine as a value of its own: state, data, what waits, what is postponed, which time-outs run, the

@@ -15,6 +15,7 @@ mod reserved;
 mod runs;
 mod seen;
 mod shown;
+mod snapshots;
 mod starts;
 mod stops;
 mod table;

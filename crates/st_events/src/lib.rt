@@ -3,6 +3,7 @@
 #![tactic(auto)]
 
 mod action;
+mod copy_content;
 mod enter_action;
 mod enter_outcome;
 mod event;
@@ -27,6 +28,7 @@ mod timer;
 mod token;
 
 pub use action::{Action, Actions};
+pub use copy_content::CopyContent;
 pub use enter_action::{EnterAction, EnterActions};
 pub use enter_outcome::EnterOutcome;
 pub use event::Event;

@@ -3,7 +3,7 @@ ghost use Rattle.std.specs.Prelude.{◌≡◌, Some, option_copied, IfOk};
 ghost use Rattle.st_requests.specs.Requests.{is_waiting, reply_of, answered, collected_of, closed};
 
 use crate::{Collected, RequestState};
-use st_events::{Module, Reason, Tag};
+use st_events::{CopyContent, Reason, Tag};
 use std::alloc::{AllocError, Global};
 
 /// A request: its tag, and what stands for it.
@@ -35,15 +35,15 @@ impl<C> Request<C> {
         }
     }
 
-    /// A copy; a module copies the reply. It may find no memory.
-    pub(crate) fn copy<M: Module<Content = C>>(
+    /// A copy; a copier copies the reply. It may find no memory.
+    pub(crate) fn copy<K: CopyContent<C>>(
         &self,
         alloc: Global,
-        module: &M,
+        copier: &K,
     ) -> Result<Request<C>, AllocError>
         ensures { IfOk result (λ copy. copy ≡ self.now) }
     {
-        let held = self.held.copy(alloc, module)?;
+        let held = self.held.copy(alloc, copier)?;
         Ok(Request {
             tag: self.tag,
             held,

@@ -3,7 +3,7 @@ ghost use Rattle.std.specs.Prelude.{◌≡◌, IfOk};
 ghost use Rattle.st_requests.specs.Requests.{held_of};
 
 use crate::Held;
-use st_events::{Module, Reason};
+use st_events::{CopyContent, Reason};
 use std::alloc::{AllocError, Global};
 
 /// What stands for a request.
@@ -31,18 +31,18 @@ impl<C> RequestState<C> {
         }
     }
 
-    /// A copy; a module copies the reply. It may find no memory.
-    pub(crate) fn copy<M: Module<Content = C>>(
+    /// A copy; a copier copies the reply. It may find no memory.
+    pub(crate) fn copy<K: CopyContent<C>>(
         &self,
         alloc: Global,
-        module: &M,
+        copier: &K,
     ) -> Result<RequestState<C>, AllocError>
         ensures { IfOk result (λ copy. copy ≡ self.now) }
     {
         match self {
             RequestState::Open => Ok(RequestState::Open),
             RequestState::Reply(content) => {
-                let content = module.copy_content(alloc, content)?;
+                let content = copier.copy_of(alloc, content)?;
                 Ok(RequestState::Reply(content))
             }
             RequestState::Stopped(reason) => Ok(RequestState::Stopped(*reason)),

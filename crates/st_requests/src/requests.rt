@@ -4,7 +4,7 @@ ghost use Rattle.st_events.specs.Rows.{RepliesFit};
 ghost use Rattle.st_requests.specs.Requests.{is_for, held_for, reply_of, shown, with_answer, with_answers, taken_by, is_open, collected_of, without_kept, without_request, closed_by};
 
 use crate::{Collected, Held, Request, RequestState};
-use st_events::{Module, PlainList, Reason, Replies, Tag};
+use st_events::{CopyContent, PlainList, Reason, Replies, Tag};
 use std::alloc::{AllocError, Global};
 use std::marker::Model;
 
@@ -75,19 +75,19 @@ impl<C> Requests<C> {
         let alloc = *self.requests.allocator();
         list_requests(&self.requests, alloc)
     }
-
-    /// A copy of the requests, in their order; a module copies the replies.
-    ///
-    /// Where memory is wanted and there is none, nothing is copied. Ours: docs/DECISIONS.md, Snapshots.
-    pub fn copy<M: Module<Content = C>>(&self, module: &M) -> Result<PlainList<Request<C>>, AllocError>
-        ensures { IfOk result (λ copy. copy ≡ self.now) }
-    {
-        let alloc = *self.requests.allocator();
-        copy_requests(&self.requests, alloc, module)
-    }
 }
 
 impl<C: Drop> Requests<C> {
+    /// A copy of the requests, in their order; a copier copies the replies.
+    ///
+    /// Where memory is wanted and there is none, nothing is copied. Ours: docs/DECISIONS.md, Snapshots.
+    pub fn copy<K: CopyContent<C>>(&self, copier: &K) -> Result<PlainList<Request<C>>, AllocError>
+        ensures { IfOk result (λ copy. copy ≡ self.now) }
+    {
+        let alloc = *self.requests.allocator();
+        copy_requests(&self.requests, alloc, copier)
+    }
+
     /// Opens a request, behind all others. For its tag nothing may be held.
     ///
     /// Where there is no memory, it opens none, and all stays as it was.
@@ -204,16 +204,16 @@ fn list_requests<C>(
 }
 
 /// A copy of each request.
-fn copy_requests<M: Module>(
-    requests: &[Request<M::Content>],
+fn copy_requests<C: Drop, K: CopyContent<C>>(
+    requests: &[Request<C>],
     alloc: Global,
-    module: &M,
-) -> Result<PlainList<Request<M::Content>>, AllocError>
+    copier: &K,
+) -> Result<PlainList<Request<C>>, AllocError>
     ensures { IfOk result (λ copy. copy ≡ requests.now) }
 {
     let mut copies = Vec::with_capacity(alloc, requests.len())?;
     for request in requests {
-        let copy = request.copy(alloc, module)?;
+        let copy = request.copy(alloc, copier)?;
         copies.push_reserved(copy);
     }
     Ok(PlainList::from(copies))

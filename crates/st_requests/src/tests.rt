@@ -4,10 +4,10 @@ ghost use Rattle.st_requests.specs.Requests.{held_for};
 
 mod host;
 
-use crate::{Collected, RequestState, Requests};
+use crate::{Collected, Held, Request, RequestState, Requests};
 use host::Host;
-use st_events::{MachineId, Replies, SmallList, Tag};
-use std::alloc::Global;
+use st_events::{CopyContent, MachineId, PlainList, Replies, SmallList, Tag};
+use std::alloc::{AllocError, Global};
 use std::process::Abort;
 
 /// A request to one machine.
@@ -27,6 +27,42 @@ fn replies(requests: &Requests<u32>) -> [Option<u32>; 8] {
         *reply = requests.peek(tag(request)).copied();
     }
     replies
+}
+
+/// Copies numbers.
+#[derive(Drop)]
+struct Numbers;
+
+impl CopyContent<u32> for Numbers {
+    fn copy_of(&self, _alloc: Global, content: &u32) -> Result<u32, AllocError> {
+        Ok(*content)
+    }
+}
+
+/// What is held for each tag. Where memory was refused, nothing has changed, and it is listed again.
+fn listed(rt: &Host<impl Abort>, requests: &Requests<u32>) -> PlainList<(Tag, Held)> {
+    match requests.list() {
+        Ok(list) => list,
+        Err(_) => {
+            rt.retry();
+            requests
+                .list()
+                .expect(rt, "one allocation alone is refused")
+        }
+    }
+}
+
+/// A copy of the requests. Where memory was refused, nothing has changed, and they are copied again.
+fn copied(rt: &Host<impl Abort>, requests: &Requests<u32>) -> PlainList<Request<u32>> {
+    match requests.copy(&Numbers) {
+        Ok(copy) => copy,
+        Err(_) => {
+            rt.retry();
+            requests
+                .copy(&Numbers)
+                .expect(rt, "one allocation alone is refused")
+        }
+    }
 }
 
 /// Opens a request. A call that finds no memory changes nothing that can be read, and is made again.
@@ -200,5 +236,47 @@ fn replies_are_taken_in_order(rt: HostRuntime) {
     );
     assert!(rt; matches!(requests.collect(tag(3)), Collected::Waiting));
     assert!(rt; matches!(requests.collect(tag(4)), Collected::Gone));
+    rt.end();
+}
+
+#[test]
+fn what_is_held_is_listed_and_copied(rt: HostRuntime) {
+    let rt = Host::new(rt);
+    let mut requests = Requests::new(rt.alloc());
+    open(&rt, &mut requests, tag(1));
+    open(&rt, &mut requests, tag(2));
+    open(&rt, &mut requests, tag(3));
+    assert!(rt; requests.answer(tag(2), 50));
+    let open = [
+        (tag(1), Held::Open),
+        (tag(2), Held::Reply),
+        (tag(3), Held::Open),
+    ];
+    assert!(rt;
+        listed(&rt, &requests).as_slice() == open.as_slice(),
+        "what is open and kept"
+    );
+    requests.close(9);
+    assert!(rt; matches!(requests.collect(tag(3)), Collected::Stopped(9)));
+    let kept = [(tag(1), Held::Stopped(9)), (tag(2), Held::Reply)];
+    assert!(rt;
+        listed(&rt, &requests).as_slice() == kept.as_slice(),
+        "what is kept"
+    );
+    let copy = [
+        Request {
+            tag: tag(1),
+            held: RequestState::Stopped(9),
+        },
+        Request {
+            tag: tag(2),
+            held: RequestState::Reply(50),
+        },
+    ];
+    assert!(rt; requests.as_slice() == copy.as_slice(), "the requests");
+    assert!(rt;
+        copied(&rt, &requests).as_slice() == copy.as_slice(),
+        "their copy"
+    );
     rt.end();
 }

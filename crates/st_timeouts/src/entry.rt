@@ -3,7 +3,7 @@ ghost use Rattle.std.specs.Prelude.{◌≡◌, true, IfOk};
 ghost use Rattle.st_timeouts.specs.Entries.{running};
 
 use crate::{Due, Running};
-use st_events::{Module, Timer};
+use st_events::{CopyContent, Timer};
 use st_timer_map::Kept;
 use std::alloc::{AllocError, Global};
 
@@ -33,16 +33,16 @@ impl<C> Kept for Entry<C> {
 }
 
 impl<C> Entry<C> {
-    /// A copy of the time-out of its timer; a module copies the content. It may find no memory.
-    pub(crate) fn copy<M: Module<Content = C>>(
+    /// A copy of the time-out of its timer; a copier copies the content. It may find no memory.
+    pub(crate) fn copy<K: CopyContent<C>>(
         &self,
         timer: Timer,
         alloc: Global,
-        module: &M,
+        copier: &K,
     ) -> Result<Running<C>, AllocError>
         ensures { IfOk result (λ copy. copy ≡ running timer self.now) }
     {
-        let content = module.copy_content(alloc, &self.content)?;
+        let content = copier.copy_of(alloc, &self.content)?;
         Ok(Running {
             timer,
             number: self.number,

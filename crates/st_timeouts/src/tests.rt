@@ -7,8 +7,8 @@ mod seen;
 
 use crate::{Due, Timeouts};
 use call::Call::{
-    Cancel, Content, CountDue, FirstZero, IsLive, List, NextDue, NextExpiry, Reserve, Set, Take,
-    TakeDue,
+    Cancel, Content, Copy, CountDue, FirstZero, IsLive, List, NextDue, NextExpiry, Reserve, Set,
+    Take, TakeDue,
 };
 use call::{Call, row_answers, set};
 use host::Host;
@@ -129,7 +129,7 @@ fn two_time_outs_for_one_moment_come_by_number(rt: HostRuntime) {
 
 #[test]
 fn a_timer_set_anew_goes_last(rt: HostRuntime) {
-    const ROW: [Call; 10] = [
+    const ROW: [Call; 11] = [
         Set {
             timer: Timer::Named(1),
             time: 20,
@@ -157,6 +157,10 @@ fn a_timer_set_anew_goes_last(rt: HostRuntime) {
         List(&[
             (Timer::Named(2), 2, Due::At(20)),
             (Timer::Named(1), 3, Due::At(20)),
+        ]),
+        Copy(&[
+            (Timer::Named(2), 2, Due::At(20), 'b'),
+            (Timer::Named(1), 3, Due::At(20), 'c'),
         ]),
         IsLive(Timer::Named(1), 1, false),
         IsLive(Timer::Named(1), 3, true),

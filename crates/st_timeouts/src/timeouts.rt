@@ -9,13 +9,13 @@ ghost use Rattle.st_timeouts.specs.Timeouts.{all_of, name_of, shown, begun, cont
 ghost use Rattle.st_timeouts.specs.Waiting.{waiting_of, due_keys, zeros_of};
 ghost use Rattle.st_timeouts.specs.Zeros.{with_zero};
 
-use crate::{Due, Running};
 use crate::entry::Entry;
 use crate::key::Key;
 use crate::moment::Moment;
 use crate::order::Order;
 use crate::zeros::Zeros;
-use st_events::{Module, PlainList, Timer};
+use crate::{Due, Running};
+use st_events::{CopyContent, PlainList, Timer};
 use st_steps::Steps;
 use st_timer_map::TimerMap;
 use std::alloc::{AllocError, Global};
@@ -153,20 +153,20 @@ impl<C> Timeouts<C> {
     {
         Ok(PlainList::from(self.entries.list()?))
     }
+}
 
-    /// A copy of the running time-outs, in the order in which they were set; a module copies their contents.
+impl<C: Drop> Timeouts<C> {
+    /// A copy of the running time-outs, in the order in which they were set; a copier copies their contents.
     ///
     /// Where memory is wanted and there is none, nothing is copied. Ours: docs/DECISIONS.md, Snapshots.
-    pub fn copy<M: Module<Content = C>>(&self, module: &M) -> Result<PlainList<Running<C>>, AllocError>
+    pub fn copy<K: CopyContent<C>>(&self, copier: &K) -> Result<PlainList<Running<C>>, AllocError>
         ensures { IfOk result (λ copy. copy ≡ all_of self.now.listed) }
     {
         let rows = self.entries.list()?;
         let alloc = *rows.allocator();
-        copy_all(&self.entries, &rows, alloc, module)
+        copy_all(&self.entries, &rows, alloc, copier)
     }
-}
 
-impl<C: Drop> Timeouts<C> {
     /// Reserves memory, so that `count` time-outs can be set that do not run. Where so much is reserved, it
     /// takes no memory. Where memory is wanted and there is none, nothing changes.
     ///
@@ -240,12 +240,12 @@ impl<C: Drop> Timeouts<C> {
 }
 
 /// A copy of each time-out, where these are their rows in order.
-fn copy_all<M: Module>(
-    entries: &TimerMap<Entry<M::Content>>,
+fn copy_all<C: Drop, K: CopyContent<C>>(
+    entries: &TimerMap<Entry<C>>,
     rows: &[(Timer, u64, Due)],
     alloc: Global,
-    module: &M,
-) -> Result<PlainList<Running<M::Content>>, AllocError>
+    copier: &K,
+) -> Result<PlainList<Running<C>>, AllocError>
     requires one_each { OneEach (all_of (listed_of entries.now.rows)) }
     requires rows { rows.now ≡ map shown (listed_of entries.now.rows) }
     ensures { IfOk result (λ copy. copy ≡ all_of (listed_of entries.now.rows)) }
@@ -256,7 +256,7 @@ fn copy_all<M: Module>(
         let Some(entry) = entries.get(timer) else {
             unreachable!()
         };
-        let copy = entry.copy(timer, alloc, module)?;
+        let copy = entry.copy(timer, alloc, copier)?;
         copies.push_reserved(copy);
     }
     Ok(PlainList::from(copies))

@@ -2,7 +2,7 @@
 ghost use Rattle.std.specs.Prelude.{◌≡◌, ◌<◌, ◌^◌};
 
 use super::host::Host;
-use super::seen::{listed, reserve_for};
+use super::seen::{copied, listed, reserve_for};
 use crate::{Due, Timeouts};
 use st_events::Timer;
 use st_steps::Steps;
@@ -45,6 +45,8 @@ pub enum Call {
     NextDue(Option<u64>),
     /// All that run.
     List(&'static [(Timer, u64, Due)]),
+    /// A copy of all that run, with their contents.
+    Copy(&'static [(Timer, u64, Due, char)]),
 }
 
 /// Sets a timer, and reserves for it before.
@@ -109,6 +111,18 @@ fn make<L: Ledger>(
         Call::TakeDue(wanted) => agree(rt, place, timeouts.take_due(), wanted),
         Call::NextDue(wanted) => agree(rt, place, timeouts.next_due(), wanted),
         Call::List(wanted) => agree(rt, place, listed(rt, timeouts).as_slice(), wanted),
+        Call::Copy(wanted) => {
+            let copy = copied(rt, timeouts);
+            agree(rt, place, copy.as_slice().len(), wanted.len());
+            for (one, wanted) in copy.as_slice().iter().zip(wanted) {
+                agree(
+                    rt,
+                    place,
+                    (one.timer, one.number, one.due, one.content),
+                    *wanted,
+                );
+            }
+        }
     }
 }
 

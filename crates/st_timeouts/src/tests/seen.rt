@@ -2,9 +2,10 @@
 ghost use Rattle.std.specs.Prelude.{◌≤◌};
 
 use super::host::Host;
-use crate::{Due, Timeouts};
-use st_events::{PlainList, Timer};
+use crate::{Due, Running, Timeouts};
+use st_events::{CopyContent, PlainList, Timer};
 use st_steps::Steps;
+use std::alloc::{AllocError, Global};
 use std::process::Abort;
 use std::sync::ledger::Ledger;
 
@@ -26,6 +27,27 @@ pub fn listed(rt: &Host<impl Abort>, timeouts: &Timeouts<char>) -> PlainList<(Ti
     rt.retry();
     timeouts
         .list()
+        .expect(rt, "one allocation alone is refused")
+}
+
+/// Copies letters.
+#[derive(Drop)]
+struct Letters;
+
+impl CopyContent<char> for Letters {
+    fn copy_of(&self, _alloc: Global, content: &char) -> Result<char, AllocError> {
+        Ok(*content)
+    }
+}
+
+/// A copy. Where it finds no memory, it is made again.
+pub fn copied(rt: &Host<impl Abort>, timeouts: &Timeouts<char>) -> PlainList<Running<char>> {
+    if let Ok(copy) = timeouts.copy(&Letters) {
+        return copy;
+    }
+    rt.retry();
+    timeouts
+        .copy(&Letters)
         .expect(rt, "one allocation alone is refused")
 }
 

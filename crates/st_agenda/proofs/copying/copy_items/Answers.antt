@@ -19,9 +19,9 @@ loop-slot-preserved g c =
     let less = at_within queue.items queue.cursor one at in
     let skipped = on_some_before _ c.skip-passed.ensures.skipped c.skip-passed.ensures.end less in
     let copy : c.in_ok-copy.copy ≡ item_of listed (nat_lt queue.cursor c.args.received) one =
-        c.in_ok-copy.ensures ∙ ap (λ place. item_of listed (nat_lt place c.args.received) one) c.before-in-Some.ensures.cursor in
+    c.in_ok-copy.ensures ∙ ap (λ place. item_of listed (nat_lt place c.args.received) one) c.before-in-Some.ensures.cursor in
     let more : c.push_any.new.items.items ≡ old ++ option_to_list (item_of listed (nat_lt queue.cursor c.args.received) one) =
-        c.push_any.ensures.pushed ∙ ap (λ o. old ++ option_to_list o) copy in
+    c.push_any.ensures.pushed ∙ ap (λ o. old ++ option_to_list o) copy in
     rw skipped (record {
       items = ap (λ items. items ++ unread listed c.args.received (queue.cursor + 1) queue.items) more
           ∙ read_more listed c.args.received queue.cursor queue.items one old at so_far.items;
