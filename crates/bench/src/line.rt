@@ -5,8 +5,13 @@ use crate::drive::{
 };
 use crate::latch::{Latch, Press};
 use crate::load::{Load, Work};
+use crate::queue::pass;
+use crate::robbed_queue::RobbedQueue;
+use crate::shared_queue::SharedQueue;
 use st_core::{Core, MachineId, Refusal};
+use st_runq::Lane;
 use std::alloc::Global;
+use std::sync::Wait;
 
 /// The identity of a measured machine.
 const ID: MachineId = MachineId { slot: 0, serial: 1 };
@@ -48,10 +53,17 @@ pub enum Line {
     Inserts,
     /// Machines that are started and stopped.
     StartAndStop,
+    /// Tokens that a worker puts into its own run queue and takes from it, while so many others wait there: those that
+    /// come in order are counted.
+    OwnQueue,
+    /// The same, where another worker steals them.
+    Steals,
+    /// The same with the shared run queue.
+    SharedQueue,
 }
 
 /// Each line by its name.
-pub const LINES: [(&str, Line); 16] = [
+pub const LINES: [(&str, Line); 19] = [
     ("casts", Line::Casts),
     ("casts-beside", Line::CastsBeside),
     ("casts-with-ticks", Line::CastsWithTicks),
@@ -68,15 +80,28 @@ pub const LINES: [(&str, Line); 16] = [
     ("settings", Line::Settings),
     ("inserts", Line::Inserts),
     ("start-and-stop", Line::StartAndStop),
+    ("own-queue", Line::OwnQueue),
+    ("steals", Line::Steals),
+    ("shared-queue", Line::SharedQueue),
 ];
 
 impl Line {
-    /// Does the line so many times, and answers how many events were handled, replies collected or machines ended.
-    pub fn done(self, alloc: Global, count: u32, more: u32) -> Result<u64, Refusal> {
+    /// Does the line so many times, and answers how many events were handled, replies collected, machines ended or
+    /// tokens taken.
+    pub fn done(
+        self,
+        rt: &impl Wait,
+        alloc: Global,
+        count: u32,
+        more: u32,
+    ) -> Result<u64, Refusal> {
         match self {
             Line::WrongButtons | Line::DoorCycle => self.done_by_latch(alloc, count),
             Line::Machines => many_machines(alloc, count, more),
             Line::StartAndStop => started_and_stopped(alloc, count),
+            Line::OwnQueue => pass(&mut Lane::new(alloc)?, count, more),
+            Line::Steals => pass(&mut RobbedQueue::new(alloc)?, count, more),
+            Line::SharedQueue => pass(&mut SharedQueue::new(rt, alloc)?, count, more),
             _ => self.done_by_load(alloc, count, more),
         }
     }

@@ -1,16 +1,21 @@
-//! `bench NAME COUNT [MORE]`: does what one line says, COUNT times, and prints how many events were handled. It has no
-//! clock: `tools/count-instructions` counts what the processor does. `bench all COUNT [MORE]` does each line.
+//! `bench NAME COUNT [MORE]`: does what one line says, COUNT times, and prints how many events were handled, or how many
+//! tokens came out of a run queue in order. It has no clock: `tools/count-instructions` counts what the processor does.
+//! `bench all COUNT [MORE]` does each line.
 #![tactic(auto)]
 
 mod drive;
 mod latch;
 mod line;
 mod load;
+mod queue;
+mod robbed_queue;
+mod shared_queue;
 
 use line::{LINES, Line};
 use st_core::Refusal;
 use std::alloc::Global;
 use std::process::ExitCode;
+use std::sync::Wait;
 use std::{env, io};
 
 /// The status of words that are not understood.
@@ -26,8 +31,9 @@ fn line_of(name: &str) -> Option<Line> {
     None
 }
 
-/// Does one line, and writes down how many events were handled.
+/// Does one line, and writes down what it counts.
 fn measure(
+    rt: &impl Wait,
     alloc: Global,
     name: &str,
     line: Line,
@@ -35,20 +41,26 @@ fn measure(
     more: u32,
     log: &mut String,
 ) -> Result<(), Refusal> {
-    let handled = line.done(alloc, count, more)?;
+    let handled = line.done(rt, alloc, count, more)?;
     log.push_str(format!(in alloc; "{name} {count} {more}: {handled}\n")?.as_str())?;
     Ok(())
 }
 
 /// Does the line of a name, or each of them, and answers what was written down; nothing where no line has that name.
-fn report(alloc: Global, name: &str, count: u32, more: u32) -> Result<String, Refusal> {
+fn report(
+    rt: &impl Wait,
+    alloc: Global,
+    name: &str,
+    count: u32,
+    more: u32,
+) -> Result<String, Refusal> {
     let mut log = String::new(alloc);
     if name == "all" {
         for (known, line) in LINES {
-            measure(alloc, known, line, count, more, &mut log)?;
+            measure(rt, alloc, known, line, count, more, &mut log)?;
         }
     } else if let Some(line) = line_of(name) {
-        measure(alloc, name, line, count, more, &mut log)?;
+        measure(rt, alloc, name, line, count, more, &mut log)?;
     }
     Ok(log)
 }
@@ -80,7 +92,7 @@ fn main(rt: HostRuntime) -> ExitCode {
         let _ = eprintln!(rt; "bench: bench NAME COUNT [MORE]");
         return ExitCode::from(NOT_UNDERSTOOD);
     };
-    match report(rt.alloc(), name, count, more) {
+    match report(&rt, rt.alloc(), name, count, more) {
         Ok(log) if log.is_empty() => ExitCode::from(NOT_UNDERSTOOD),
         Ok(log) => match print!(rt; "{log}") {
             Ok(()) => ExitCode::SUCCESS,

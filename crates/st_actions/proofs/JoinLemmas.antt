@@ -9,7 +9,6 @@ use Rattle.st_events.specs.declared.setting.Setting.{Setting}
 use Rattle.st_events.specs.declared.timer.Timer.{Timer}
 use Rattle.st_events.specs.Timers.{same_timer}
 use Rattle.st_actions.specs.Joined.{is_setting_of, is_set_by, remaining_of, with_elements}
-use Rattle.st_actions.proofs.PlanLemmas.{goes_over}
 
 module _ {X : Type 0} where
   -- what is reserved is enough for the second list behind the first
@@ -70,13 +69,3 @@ module _ {X : Type 0} where
   is_there [] index within none = omega (arith, within)
   is_there (element ∷ elements) zero within none = cc
   is_there (element ∷ elements) (suc index) within none = is_there elements index (omega (arith, within)) none
-
-  -- an element goes over, since it passes the test
-  pub passing_over : (stays : X → Bool) (element : X) (old new rest whole : List X) → stays element ≡ true
-      → new ≡ old ++ element ∷ [] → old ++ filter stays (element ∷ rest) ≡ whole → new ++ filter stays rest ≡ whole
-  passing_over stays element old new rest whole passes same all = goes_over old new (filter stays rest) whole element same (rw passes at all)
-
-  -- it does not pass
-  pub passed_by : (stays : X → Bool) (element : X) (old rest whole : List X) → stays element ≡ false
-      → old ++ filter stays (element ∷ rest) ≡ whole → old ++ filter stays rest ≡ whole
-  passed_by stays element old rest whole fails all = rw fails at all

@@ -20,15 +20,11 @@ use Rattle.st_actions.specs.Plan.{replies_of, inserts_of, postpone_or, postpone_
 use Rattle.st_actions.specs.Joined.{as_actions, enter_plan_of, is_set_by, remaining_of, joined_of}
 
 -- what was last is the first in the other order
-pub last_is_first : {X : Type 0} (old new : List X) (x : X) → old ≡ new ++ x ∷ [] → reverse old ≡ x ∷ reverse new
+last_is_first : {X : Type 0} (old new : List X) (x : X) → old ≡ new ++ x ∷ [] → reverse old ≡ x ∷ reverse new
 last_is_first old new x same = ap reverse same ∙ reverse-append new (x ∷ [])
 
 pub one_fewer : {X : Type 0} (old new : List X) (x : X) → old ≡ new ++ x ∷ [] → length old ≡ length new + 1
 one_fewer old new x same = ap length same ∙ length-append new (x ∷ [])
-
--- an element goes over from what is left to what was taken
-pub goes_over : {X : Type 0} (old new rest all : List X) (x : X) → new ≡ old ++ x ∷ [] → old ++ x ∷ rest ≡ all → new ++ rest ≡ all
-goes_over old new rest all x same whole = ap (λ t. t ++ rest) same ∙ (append_assoc old (x ∷ []) rest ∙ whole)
 
 -- what was last is taken before what was taken so far
 pub taken_before : {X : Type 0} (old new taken all : List X) (x : X) → old ≡ new ++ x ∷ [] → old ++ taken ≡ all → new ++ x ∷ taken ≡ all

@@ -93,13 +93,13 @@ fn reserved_for<T: Drop>(
 }
 
 /// Moves a list's elements to the end of a list in the making, in their order.
-fn move_all<T: Drop>(mut elements: SmallList<T>, onto: &mut SmallListBuilder<T>)
+fn move_all<T: Drop>(elements: SmallList<T>, onto: &mut SmallListBuilder<T>)
     requires fits { FitsInMemory (list_row T.row) }
     requires reserved { length elements ≤ onto.old.reserved }
     ensures moved { onto.new ≡ with_elements onto.old elements }
 {
-    elements.reverse();
-    while let Some(element) = elements.pop() {
+    let mut left = elements.into_places();
+    for element in left.take_each() {
         onto.push(element);
     }
 }
@@ -122,7 +122,7 @@ fn timers_of<C>(alloc: Global, settings: &Settings<C>) -> Result<NotedTimers, Al
 
 /// Moves the settings whose timers no later one sets to the end of a list in the making, in their order.
 fn move_remaining<C: Drop>(
-    mut settings: Settings<C>,
+    settings: Settings<C>,
     later: &NotedTimers,
     onto: &mut SmallListBuilder<Setting<C>>,
 )
@@ -130,8 +130,8 @@ fn move_remaining<C: Drop>(
     requires reserved { length settings ≤ onto.old.reserved }
     ensures moved { onto.new ≡ with_elements onto.old (filter (λ setting. not (is_noted setting.timer later.now)) settings) }
 {
-    settings.reverse();
-    while let Some(setting) = settings.pop() {
+    let mut left = settings.into_places();
+    for setting in left.take_each() {
         if !later.has(setting.timer) {
             onto.push(setting);
         }

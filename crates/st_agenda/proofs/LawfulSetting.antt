@@ -613,7 +613,7 @@ module _ {C : Type 0} where
   set_waiting now s setting =
       ap waiting_numbers (begun_waiting now (cancelled_in s setting.timer) setting.timer setting.time setting.content) ∙ waiting_without setting.timer s.pending
 
-  set_next : (now : ℕ) (s : Schedule C) (setting : Setting C) → (set_in now s setting).next_number ≡ s.next_number + number_taken setting.time
+  pub set_next : (now : ℕ) (s : Schedule C) (setting : Setting C) → (set_in now s setting).next_number ≡ s.next_number + number_taken setting.time
   set_next now s setting = begun_next now (cancelled_in s setting.timer) setting.timer setting.time setting.content
 
   set_live : (now : ℕ) (s : Schedule C) (setting : Setting C) (n : ℕ) → n < s.next_number → times n (live_numbers (set_in now s setting)) ≤ times n (live_numbers s)

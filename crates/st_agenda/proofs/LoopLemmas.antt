@@ -1,5 +1,5 @@
 -- One expiry after another, and one setting after another.
-use Rattle.std.proofs.Common.{◌≡◌, ℕ, suc, ◌+◌, ◌<◌, ◌≤◌, ◌^◌, ◌⊎◌, inl, inr, Option, Some, None, List, [], ◌∷◌, ◌++◌, arith, ap, refl, sym, ◌∙◌, length, reverse, take, get_or}
+use Rattle.std.proofs.Common.{◌≡◌, ℕ, suc, ◌+◌, ◌<◌, ◌≤◌, ◌^◌, ◌⊎◌, inl, inr, Option, Some, None, List, [], ◌∷◌, ◌++◌, arith, ap, refl, sym, ◌∙◌, length, take, get_or}
 use Rattle.std.specs.Prelude.{slice_get}
 use Rattle.std.proofs.Math.Seq.{take-suc}
 use Rattle.std.proofs.lemmas.Option.{slice_get_cases}
@@ -33,9 +33,9 @@ module _ {C : Type 0} where
 
   -- some settings are done; those that are left are to be done
   pub record SetSoFar (now : ℕ) (old : Schedule C) (settings : List (Setting C)) (agenda : Agenda C) (left : List (Setting C)) : Type 0 where
-    pub all : all_set_in now agenda.schedule (reverse left) ≡ all_set_in now old settings
+    pub all : all_set_in now agenda.schedule left ≡ all_set_in now old settings
     pub reserved : length left ≤ agenda.reserved
-    pub numbers : agenda.schedule.next_number + numbers_taken (reverse left) ≤ 2 ^ 63
+    pub numbers : agenda.schedule.next_number + numbers_taken left ≤ 2 ^ 63
 
 -- a setting takes one number at most
 pub one_at_most : (time : Time) → number_taken time ≤ 1

@@ -443,9 +443,8 @@ impl<C: Drop> Agenda<C> {
         requires numbers { self.old.schedule.next_number + numbers_taken settings ≤ 2 ^ 63 }
         ensures { self.new.schedule ≡ all_set_in now self.old.schedule settings }
     {
-        let mut left = settings;
-        left.reverse();
-        while let Some(setting) = left.pop() {
+        let mut left = settings.into_places();
+        for setting in left.take_each() {
             self.set(now, setting);
         }
     }

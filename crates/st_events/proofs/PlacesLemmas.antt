@@ -2,6 +2,7 @@
 use Rattle.std.proofs.Common.{◌≡◌, ◌<◌, ◌++◌, List, [], ◌∷◌, Option, Some, None, refl, sym, ap, ◌∙◌, map, reverse, take, length, append-nil, arith}
 use Rattle.std.specs.Option.{option_to_list, option_flatten, IsSome, IsNone, IfNone}
 use Rattle.std.specs.List.{refill}
+use Rattle.std.specs.Iterator.{YieldsFirst}
 use Rattle.std.proofs.lemmas.List.{map-append, take-map, take_all, drop_all}
 use Rattle.std.proofs.lemmas.List.Elements.{filter_map-append}
 use Rattle.std.proofs.lemmas.Grind.{reverse_onto}
@@ -59,6 +60,21 @@ empty_gives_none old (y ∷ new) (Some x) same empty = absurd cc
 pub none_keeps : {T : Type 0} (old new : List T) (taken : Option T) → old ≡ new ++ option_to_list taken → IfNone taken (new ≡ old)
 none_keeps old new None same = sym (same ∙ append-nil new)
 none_keeps old new (Some x) same = tt
+
+-- the first place is not empty
+no_empty_first : {T : Type 0} (rest : List (Option T)) (xs : List T) → None ∷ rest ≡ map Some xs → ⊥
+no_empty_first rest [] same = cc
+no_empty_first rest (x ∷ xs) same = cc
+
+-- the first element is taken out of its place: the other places are full, and hold what is left
+pub full-rest : {T : Type 0} (places rest : List (Option T)) (first : Option T) → IsFull places → places ≡ first ∷ rest → IsFull rest
+full-rest places rest None full same = absurd (no_empty_first rest _ (rw same at full))
+full-rest places rest (Some x) full same = let whole = rw same at full in cc
+
+pub present-first : {T : Type 0} (places rest : List (Option T)) (first : Option T) → IsFull places → places ≡ first ∷ rest
+    → YieldsFirst (λ (left : List T). left) (present places) first (present rest)
+present-first places rest None full same = absurd (no_empty_first rest _ (rw same at full))
+present-first places rest (Some x) full same = ap present same
 
 -- the places in the other order
 reverse-map : {A B : Type 0} (f : A → B) (xs : List A) → reverse (map f xs) ≡ map f (reverse xs)

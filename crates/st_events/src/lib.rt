@@ -4,6 +4,7 @@
 
 mod action;
 mod copy_content;
+mod elements;
 mod enter_action;
 mod enter_outcome;
 mod event;
@@ -14,6 +15,7 @@ mod limits;
 mod machine_id;
 mod module;
 mod outcome;
+mod places;
 mod plain_list;
 mod refusal;
 mod refused;
@@ -29,6 +31,7 @@ mod token;
 
 pub use action::{Action, Actions};
 pub use copy_content::CopyContent;
+pub use elements::Elements;
 pub use enter_action::{EnterAction, EnterActions};
 pub use enter_outcome::EnterOutcome;
 pub use event::Event;
@@ -39,6 +42,7 @@ pub use limits::{MOMENT_LIMIT, NUMBER_LIMIT};
 pub use machine_id::MachineId;
 pub use module::Module;
 pub use outcome::{Outcome, Reason, Replies};
+pub use places::Places;
 pub use plain_list::PlainList;
 pub use refusal::Refusal;
 pub use refused::Refused;

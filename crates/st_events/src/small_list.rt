@@ -1,7 +1,9 @@
 //! Short lists that contracts see as lists.
 ghost use Rattle.std.specs.Prelude.{◌≡◌, ◌↔◌, ◌<◌, [], ◌∷◌, ◌++◌, length, reverse, slice_get, option_copied, IsTrue, IsNone, IsOk, IfNone, OnOk, OnErr, IfErr};
 ghost use Rattle.std.specs.Option.{option_to_list};
+ghost use Rattle.st_events.specs.Places.{present, IsFull};
 
+use crate::Places;
 use smallvec::SmallVec;
 use std::alloc::{AllocFailed, Global};
 use std::fmt::{self, Debug, Formatter, Write};
@@ -98,6 +100,16 @@ impl<T> SmallList<T> {
         ensures reversed { self.new ≡ reverse self.old }
     {
         self.elements.as_mut_slice().reverse();
+    }
+
+    /// The places of the elements, from which they can be taken in their order. It takes no memory.
+    pub fn into_places(self) -> Places<T>
+        ensures full { IsFull result }
+        ensures elements { present result ≡ self }
+    {
+        Places {
+            places: self.elements,
+        }
     }
 }
 

@@ -116,11 +116,21 @@ fn each_call_answers(rt: HostRuntime) {
     assert_eq!(rt; short.pop(), Some(6));
     has(&rt, &short, &[2, 4]);
     assert_eq!(rt; shown(&rt, rt.alloc(), &short).as_str(), "[2, 4]");
+    assert!(rt; short.push(8).is_ok());
+    let mut places = short.into_places();
+    let mut left = places.take_each();
+    for number in [2, 4, 8] {
+        assert_eq!(rt; left.next(), Some(number));
+    }
+    assert_eq!(rt; left.next(), None);
 
     let mut builder = with_reserved(&rt, rt.alloc(), 2);
     builder.push(3);
     builder.push(1);
-    has(&rt, &builder.finish(), &[3, 1]);
+    let pair_of_numbers = builder.finish();
+    has(&rt, &pair_of_numbers, &[3, 1]);
+    // The second is let go with its place.
+    assert_eq!(rt; pair_of_numbers.into_places().take_each().next(), Some(3));
 
     let none: PlainList<u64> = PlainList::new(rt.alloc());
     assert_eq!(rt; none.as_slice(), [].as_slice());
@@ -174,12 +184,13 @@ fn a_refused_push_changes_nothing(rt: HostRuntime) {
         }
         has_replies(&rt, &actions, count.saturating_add(1));
     }
-    actions.reverse();
+    let mut places = actions.into_places();
+    let mut left = places.take_each();
     for request in 0..6 {
-        let action = actions.pop().expect(&rt, "there are so many");
+        let action = left.next().expect(&rt, "there are so many");
         assert!(rt; is_reply(&action, request));
     }
-    assert!(rt; actions.is_empty());
+    assert!(rt; left.next().is_none());
     rt.end();
 }
 

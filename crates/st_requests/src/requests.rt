@@ -150,9 +150,8 @@ impl<C: Drop> Requests<C> {
         ensures answered { self.new ≡ with_answers self.old replies }
         ensures taken { taken.new.items ≡ taken.old.items ++ taken_by self.old replies }
     {
-        let mut left = replies;
-        left.reverse();
-        while let Some((tag, content)) = left.pop() {
+        let mut left = replies.into_places();
+        for (tag, content) in left.take_each() {
             if self.answer(tag, content) {
                 taken.push_reserved(tag);
             }

@@ -1,4 +1,4 @@
-use Rattle.std.proofs.Common.{◌≡◌, ◌+◌, ◌≤◌, ◌++◌, length, reverse}
+use Rattle.std.proofs.Common.{◌≡◌, ◌+◌, ◌≤◌, ◌++◌, length}
 use Rattle.std.specs.Prelude.{filter, not}
 use Rattle.st_events.specs.declared.setting.Setting.{Setting}
 use Rattle.st_actions.specs.Noted.{is_noted}
@@ -9,10 +9,10 @@ abbrev pub invariant-loop-setting : goal.invariant-loop-setting
 invariant-loop-setting g l =
     let stays = λ (setting : Setting g.row.C.Denot). not (is_noted setting.timer l.later) in
     record {
-      settings : l.onto.items ++ filter stays (reverse l.settings) ≡ l.fn.onto.items ++ filter stays l.fn.settings;
+      settings : l.onto.items ++ filter stays l.setting-iterator ≡ l.fn.onto.items ++ filter stays l.fn.settings;
       places : length l.onto.items + l.onto.reserved ≡ length l.fn.onto.items + l.fn.onto.reserved;
-      reserved : length l.settings ≤ l.onto.reserved;
+      reserved : length l.setting-iterator ≤ l.onto.reserved;
     }
 
 abbrev pub decreases-loop-setting : goal.decreases-loop-setting
-decreases-loop-setting g l = length l.settings
+decreases-loop-setting g l = length l.setting-iterator
