@@ -1,4 +1,4 @@
-use Rattle.std.proofs.Common.{◌≡◌, ◌≤◌, ◌+◌, ◌^◌, length, ap, ◌∙◌, arith}
+use Rattle.std.proofs.Common.{◌≡◌, ◌≤◌, ◌+◌, ◌^◌, length, ap, arith}
 use Rattle.st_agenda.specs.Agenda.{Agenda}
 use Rattle.st_agenda.specs.Timing.{numbers_taken}
 use Rattle.st_agenda.proofs.agenda.Agenda.settle.Goals as goal

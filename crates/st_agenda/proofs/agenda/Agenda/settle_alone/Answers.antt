@@ -1,4 +1,4 @@
-use Rattle.std.proofs.Common.{◌≡◌, ◌≤◌, ◌+◌, ap, ◌∙◌, arith}
+use Rattle.std.proofs.Common.{ap, ◌∙◌, arith}
 use Rattle.st_agenda.specs.declared.schedule.Schedule.{Schedule}
 use Rattle.st_agenda.specs.Agenda.{Agenda}
 use Rattle.st_agenda.proofs.SweepLemmas.{next_received, retried_next}
