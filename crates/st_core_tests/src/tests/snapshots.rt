@@ -107,9 +107,13 @@ fn a_snapshot_is_the_whole_machine(rt: HostRuntime) {
     assert!(rt; whole != end, "the end");
     assert!(rt; end.schedule.pending.as_slice().is_empty());
     assert!(rt; end.ended == Some((9, 7)), "the reason and the word");
+    let closed = Request {
+        tag: tag(2),
+        held: RequestState::Stopped(9),
+    };
     assert!(rt;
-        end.requests.as_slice()[1].held == RequestState::Stopped(9),
-        "a closed request"
+        end.requests.as_slice().last() == Some(&closed),
+        "the open one is closed"
     );
     rt.end();
 }
