@@ -5,6 +5,7 @@ use Rattle.std.specs.List.{slice_get}
 use Rattle.std.specs.Option.{option_to_list}
 use Rattle.std.proofs.lemmas.List.{append_assoc, drop_all}
 use Rattle.st_timeouts.specs.Timeouts.{Listed, live}
+use Rattle.st_timeouts.proofs.FallingLemmas.{drop_at}
 use Rattle.st_agenda.specs.declared.item.Item.{Item}
 use Rattle.st_agenda.specs.declared.item.Item.TheVariants.{Received, Posted, Expiry}
 use Rattle.st_agenda.specs.declared.slot.Slot.{Slot}
@@ -12,11 +13,6 @@ use Rattle.st_agenda.specs.declared.slot.Slot.TheVariants as slot
 use Rattle.st_agenda.specs.Agenda.{item_of, items_in, with_live}
 use Rattle.st_agenda.specs.Slots.{number_of}
 use Rattle.st_agenda.specs.Waiting.{Seen, Unseen, slot_numbers, places_of}
-
-drop_at : {X : Type 0} (xs : List X) (i : ℕ) (x : X) → slice_get xs i ≡ Some x → drop i xs ≡ x ∷ drop (suc i) xs
-drop_at [] i x h = cc
-drop_at (y ∷ ys) zero x h = let same : y ≡ x = cc in rw same refl
-drop_at (y ∷ ys) (suc i) x h = drop_at ys i x h
 
 -- what is there stands within the list
 pub at_within : {X : Type 0} (xs : List X) (i : ℕ) (x : X) → slice_get xs i ≡ Some x → i < length xs

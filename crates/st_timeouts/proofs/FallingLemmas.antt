@@ -23,7 +23,7 @@ Falling [] = Unit {0}
 Falling (one ∷ others) = BeforeNone one others × Falling others
 
 -- ---- a list cut in two
-pub drop_at : (xs : List Key) (i : ℕ) (y : Key) → slice_get xs i ≡ Some y → drop i xs ≡ y ∷ drop (suc i) xs
+pub drop_at : {X : Type 0} (xs : List X) (i : ℕ) (y : X) → slice_get xs i ≡ Some y → drop i xs ≡ y ∷ drop (suc i) xs
 drop_at [] i y h = cc
 drop_at (x ∷ xs) zero y h = let same : x ≡ y = cc in rw same refl
 drop_at (x ∷ xs) (suc i) y h = drop_at xs i y h
