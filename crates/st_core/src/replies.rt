@@ -1,5 +1,7 @@
 //! Replies to requests, and what a caller collects.
 ghost use Rattle.std.specs.Prelude.{◌≡◌, option_copied};
+ghost use Rattle.std.specs.Option.{option_map};
+ghost use Rattle.st_requests.specs.Requests.{held_for, held_of};
 ghost use Rattle.st_core.specs.declared.answer.Answer.TheVariants as answer;
 ghost use Rattle.st_core.specs.declared.command.Command.TheVariants as command;
 ghost use Rattle.st_core.specs.Callbacks.{callbacks_of};
@@ -8,7 +10,7 @@ ghost use Rattle.st_core.specs.Run.{Does};
 
 use crate::Core;
 use st_events::{Module, Tag};
-use st_requests::Collected;
+use st_requests::{Collected, Held};
 
 impl<M: Module> Core<M> {
     /// Answers the request of a tag, and says whether it was open. The first reply to an open request is
@@ -32,6 +34,17 @@ impl<M: Module> Core<M> {
         ensures { option_copied result ≡ peek_of self.now.machine tag }
     {
         self.requests.peek(tag)
+    }
+
+    /// Says what is held for a tag, and leaves it there: that its call waits for a reply, or that `collect` would
+    /// hand out a reply or the reason for which the machine has ended. Where nothing is held, it answers `None`. It
+    /// is never refused and takes no memory, also after the machine has ended.
+    ///
+    /// Manual: `receive_response/1`, which alone can tell there.
+    pub fn held(&self, tag: Tag) -> Option<Held>
+        ensures { result ≡ option_map held_of (held_for self.now.machine.requests tag) }
+    {
+        self.requests.held(tag)
     }
 
     /// Hands out what is kept for a tag, once: the reply to its call, or the reason for which the machine has

@@ -9,6 +9,7 @@ number_of refusal.NoMemory = 1
 number_of (refusal.Stopped reason) = 2
 number_of refusal.Exhausted = 3
 number_of refusal.Moment = 4
+number_of refusal.NotPossible = 5
 number_of (refusal.AlreadyStarted id) = 7
 number_of refusal.NoSuchName = 8
 number_of refusal.Full = 11

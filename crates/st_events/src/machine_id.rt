@@ -6,7 +6,7 @@
 /// Whoever starts a machine picks its id. No two may share one: a request's tag names its machine by it.
 ///
 /// Ours: docs/DECISIONS.md, Ids.
-#[derive(Clone, Copy, Debug, PartialEq, Eq)]
+#[derive(Clone, Copy, Debug, PartialEq, Eq, Hash)]
 pub struct MachineId {
     /// The place.
     pub slot: usize,

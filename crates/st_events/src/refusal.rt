@@ -24,6 +24,10 @@ pub enum Refusal {
     /// The moment is 2^63 milliseconds or more.
     #[error("moment out of range")]
     Moment,
+    /// The step of a pool is not possible: the machine, worker or run queue that it names is not there, or the
+    /// token is not where it would be taken from.
+    #[error("not possible")]
+    NotPossible,
     /// The name is taken by this machine.
     #[error("name already taken")]
     AlreadyStarted(MachineId),
@@ -47,6 +51,7 @@ impl Refusal {
             Refusal::Stopped(_) => 2,
             Refusal::Exhausted => 3,
             Refusal::Moment => 4,
+            Refusal::NotPossible => 5,
             Refusal::AlreadyStarted(_) => 7,
             Refusal::NoSuchName => 8,
             Refusal::Full => 11,

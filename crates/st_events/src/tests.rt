@@ -151,6 +151,7 @@ fn refusals_have_numbers_and_texts(rt: HostRuntime) {
         (Refusal::Stopped(9), 2, "stopped"),
         (Refusal::Exhausted, 3, "too few numbers left"),
         (Refusal::Moment, 4, "moment out of range"),
+        (Refusal::NotPossible, 5, "not possible"),
         (Refusal::AlreadyStarted(MACHINE), 7, "name already taken"),
         (Refusal::NoSuchName, 8, "no such name"),
         (Refusal::Full, 11, "table full"),

@@ -1,7 +1,8 @@
 //! The requests that are open or kept: in the order in which they were opened, searched by their tags.
 ghost use Rattle.std.specs.Prelude.{◌≡◌, ◌+◌, ◌≤◌, ◌++◌, [], ◌∷◌, None, length, map, option_copied, position, vec_capacity, IfOk, OnOk, OnErr};
+ghost use Rattle.std.specs.Option.{option_map};
 ghost use Rattle.st_events.specs.Rows.{RepliesFit};
-ghost use Rattle.st_requests.specs.Requests.{is_for, held_for, reply_of, shown, with_answer, with_answers, taken_by, is_open, collected_of, without_kept, without_request, closed_by};
+ghost use Rattle.st_requests.specs.Requests.{is_for, held_for, held_of, reply_of, shown, with_answer, with_answers, taken_by, is_open, collected_of, without_kept, without_request, closed_by};
 
 use crate::{Collected, Held, Request, RequestState};
 use st_events::{CopyContent, PlainList, Reason, Replies, Tag};
@@ -52,6 +53,17 @@ impl<C> Requests<C> {
         let place = place_of(&self.requests, tag)?;
         let request = &self.requests[place];
         request.reply()
+    }
+
+    /// Says what is held for a tag: that the request is open, or that a reply or a reason to stop is kept. Where
+    /// nothing is held, it answers `None`.
+    ///
+    /// Manual: `receive_response/1`, which alone can tell there.
+    pub fn held(&self, tag: Tag) -> Option<Held>
+        ensures { result ≡ option_map held_of (held_for self.now tag) }
+    {
+        let found = place_of(&self.requests, tag)?;
+        Some(self.requests[found].held.shown())
     }
 
     /// The requests, in the order in which they were opened, with the replies and the reasons that are kept.

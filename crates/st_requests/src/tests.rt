@@ -101,7 +101,10 @@ fn each_call_answers(rt: HostRuntime) {
     assert!(rt; matches!(requests.collect(tag(1)), Collected::Waiting));
     assert!(rt; matches!(requests.collect(tag(3)), Collected::Gone));
     assert_eq!(rt; requests.peek(tag(1)).copied(), None);
+    assert_eq!(rt; requests.held(tag(1)), Some(Held::Open));
+    assert_eq!(rt; requests.held(tag(3)), None);
     assert!(rt; requests.answer(tag(1), 50));
+    assert_eq!(rt; requests.held(tag(1)), Some(Held::Reply));
     assert_eq!(rt; requests.peek(tag(1)).copied(), Some(50));
     assert_eq!(rt; requests.peek(tag(2)).copied(), None);
     assert!(rt; matches!(requests.collect(tag(1)), Collected::Reply(50)));
@@ -110,6 +113,7 @@ fn each_call_answers(rt: HostRuntime) {
     requests.close(9);
     assert!(rt; !requests.answer(tag(2), 60));
     assert_eq!(rt; requests.peek(tag(2)).copied(), None);
+    assert_eq!(rt; requests.held(tag(2)), Some(Held::Stopped(9)));
     assert!(rt; matches!(requests.collect(tag(2)), Collected::Stopped(9)));
     assert!(rt; matches!(requests.collect(tag(2)), Collected::Gone));
     rt.end();
