@@ -9,3 +9,4 @@ pub mod AccountingLemmas
 pub mod ChangeLemmas
 pub mod ReaderLemmas
 pub mod UntilIdleLemmas
+pub mod WorkLemmas

@@ -1,0 +1,27 @@
+use Rattle.std.proofs.Common.{refl, sym, ◌∙◌}
+use Rattle.st_pool_core.proofs.MachineLemmas.{place_is, place_within, machine_at, changed_there, no_place, ids_stay}
+use Rattle.st_pool_core.proofs.machines.Machines.serve.Goals as goal
+
+pub returns-in_err-place-clause-missing : goal.returns-in_err-place-clause-missing
+returns-in_err-place-clause-missing g c =
+    rw c.from_residual.ensures (no_place c.args.id c.args.self.now (sym c.place_of.ensures.place ∙ c.in_err-place.was), refl)
+
+-- its id stays
+pub invariant_of-self : goal.invariant_of-self
+invariant_of-self g c =
+    let there = place_is c.args.id c.self.inside.all.items c.in_ok-place.place (rw (← c.self.view_is) at (sym c.place_of.ensures.place ∙ c.in_ok-place.was)) in
+    ids_stay c.self.inside.ids.keys c.self.inside.all.items c.in_ok-place.place c.index_mut-machine.result.now c.serve-answer.new.self c.self.invariant
+    c.index_mut-machine.ensures.value c.serve-answer.ensures.same_id (place_within c.args.id c.self.inside.all.items c.in_ok-place.place there)
+
+-- the machine of the id was served
+pub returns-clause-served : goal.returns-clause-served
+returns-clause-served g c =
+    let there = place_is c.args.id c.self.inside.all.items c.in_ok-place.place (rw (← c.self.view_is) at (sym c.place_of.ensures.place ∙ c.in_ok-place.was)) in
+    rw (← c.self.view_is) (record {
+      old = c.index_mut-machine.result.now;
+      after = c.serve-answer.new.self;
+      found = machine_at c.args.id c.self.inside.all.items c.in_ok-place.place c.index_mut-machine.result.now there c.index_mut-machine.ensures.value;
+      serves = c.serve-answer.ensures.served;
+      token = c.has_token-keeps.ensures;
+      others = changed_there c.args.id c.self.inside.all.items c.in_ok-place.place _ c.index_mut-machine.result.now c.serve-answer.new.self there c.index_mut-machine.ensures.value refl;
+    })

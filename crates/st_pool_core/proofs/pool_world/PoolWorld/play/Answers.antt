@@ -1,0 +1,39 @@
+use Rattle.std.proofs.Common.{◌≡◌, length, arith}
+use Rattle.std.proofs.lemmas.Grind.{common_steps}
+use Rattle.std.specs.Vec.Iter.{into_iter_items}
+use Rattle.st_core.specs.Callbacks.{callbacks_of}
+use Rattle.st_core.proofs.RunLemmas.{all_taken}
+use Rattle.st_pool_core.proofs.BalanceLemmas.{step-balanced}
+use Rattle.st_pool_core.proofs.CommandLemmas.{plays-went}
+use Rattle.st_pool_core.proofs.PlayLemmas.{play_more}
+use Rattle.st_pool_core.proofs.pool_world.PoolWorld.play.Goals as goal
+
+-- one more step was done, and its answer stands behind the others
+pub loop-step-preserved : goal.loop-step-preserved
+loop-step-preserved g c = record {
+  can_next = tt;
+  is_finite = tt;
+  split = grind (arith, common_steps);
+  reserved = grind (arith, common_steps);
+  count = grind (arith, common_steps);
+  played = rw c.push_reserved.ensures.items (play_more
+      (callbacks_of g.M.Module g.M.State.PartialEq.eq) c.args.self.now
+      c.loop-step.yielded c.loop-step.answers.items c.loop-step.self
+      c.in-Some.step c.step-answer.result c.step-answer.new.self
+      c.loop-step.invariant.played c.step-answer.ensures.does);
+}
+
+-- no step is left
+pub returns-clause-played : goal.returns-clause-played
+returns-clause-played g c =
+    let none : length (into_iter_items c.loop-step.step-iterator) ≡ 0 = omega (arith, c.loop-step.step-iterator.rest.ok, c.in-None.ensures.steps.0) in
+    let all : c.loop-step.yielded ≡ c.args.steps.items = all_taken _ _ _ c.loop-step.invariant.split none in
+    rw (← all) c.loop-step.invariant.played
+
+-- each machine went through its own commands
+pub returns-clause-own : goal.returns-clause-own
+returns-clause-own g c =
+    let none : length (into_iter_items c.loop-step.step-iterator) ≡ 0 = omega (arith, c.loop-step.step-iterator.rest.ok, c.in-None.ensures.steps.0) in
+    let all : c.loop-step.yielded ≡ c.args.steps.items = all_taken _ _ _ c.loop-step.invariant.split none in
+    plays-went (callbacks_of g.M.Module g.M.State.PartialEq.eq) (step-balanced (callbacks_of g.M.Module g.M.State.PartialEq.eq)) c.args.self.now c.loop-step.self
+    c.args.steps.items c.loop-step.answers.items (rw (← c.self.view_is) c.self.invariant) (rw (← all) c.loop-step.invariant.played)

@@ -1,0 +1,29 @@
+//! A pool of machines and their workers as one sequential object, one step at a time.
+//! It knows nothing of real locks, run queues that steal, and threads.
+#![tactic(auto)]
+
+mod laws;
+mod machines;
+mod opening;
+mod outstanding;
+mod pool;
+mod pool_world;
+mod run_queues;
+mod scheduled_machine;
+mod step;
+mod step_answer;
+mod token_queue;
+mod worker;
+
+pub use laws::{
+    a_new_pool_is_balanced, a_play_is_each_machines_own_run, a_play_keeps_pools_balanced,
+    a_pool_is_balanced, no_machine_has_two_workers, no_ready_machine_is_stranded,
+};
+pub use pool_world::PoolWorld;
+pub use st_core::{
+    Collected, Command, Core, Entry, MachineId, Module, PlainList, Reason, Refusal, Refused,
+    Report, Tag,
+};
+pub use st_events::Token;
+pub use step::Step;
+pub use step_answer::StepAnswer;

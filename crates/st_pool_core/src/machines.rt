@@ -1,0 +1,145 @@
+//! The machines of a pool, by id.
+ghost use Rattle.std.specs.Prelude.{◌≡◌, ◌<◌, length, map, None, IfOk, IfErr, IfSome, IfNone, option_copied};
+ghost use Rattle.st_core.specs.Callbacks.{callbacks_of};
+ghost use Rattle.st_pool_core.specs.Opening.{core_id};
+ghost use Rattle.st_pool_core.specs.PoolState.{place_of, machine_of, changed_for, is_with_callers, with_callers_in, moved};
+ghost use Rattle.st_pool_core.specs.Serving.{scheduled_at_first, TellsOne, ServesOne};
+
+use crate::scheduled_machine::{AnswerOf, ScheduledMachine};
+use indexmap::IndexSet;
+use st_core::{Command, Core};
+use st_events::{MachineId, Module, PlainList, Token};
+use std::alloc::{AllocError, Global};
+use std::marker::Model;
+
+/// The machines of a pool, in the order in which they came. One is found by its id in one hashed look-up.
+#[derive(Drop)]
+pub(crate) struct Machines<M: Module> {
+    ids: IndexSet<MachineId>,
+    all: Vec<ScheduledMachine<M>>,
+}
+
+impl<M: Module> Model for Machines<M> {
+    ghost use Rattle.std.specs.Prelude.{◌≡◌, List, map};
+    ghost use Rattle.st_pool_core.specs.PoolState.{ScheduledMachine, id_of};
+
+    ghost Value = { List (ScheduledMachine M M.State M.Data M.Content) };
+
+    ghost view = { λ machines. machines.all.items };
+
+    ghost invariant = { λ machines. machines.ids.keys ≡ map id_of machines.all.items };
+}
+
+impl<M: Module> Machines<M> {
+    /// These machines, whose ids these are, in their order. Where there is no memory, they come back.
+    pub(crate) fn new(
+        alloc: Global,
+        ids: IndexSet<MachineId>,
+        cores: Vec<Core<M>>,
+    ) -> Result<Machines<M>, Vec<Core<M>>>
+        requires { ids.keys ≡ map core_id cores.items }
+        ensures machines { IfOk result (λ machines. machines ≡ map scheduled_at_first cores.items) }
+
+        ensures returned { IfErr result (λ back. back ≡ cores) }
+    {
+        let Ok(mut all) = Vec::with_capacity(alloc, cores.len()) else {
+            return Err(cores);
+        };
+        for core in cores {
+            all.push_reserved(ScheduledMachine::new(core));
+        }
+        Ok(Machines { ids, all })
+    }
+
+    /// The place of the machine of an id.
+    fn place_of(&self, id: MachineId) -> Option<usize>
+        ensures place { result ≡ place_of id self.now }
+        ensures within { IfSome result (λ place. place < length self.now) }
+    {
+        self.ids.get_index_of(&id)
+    }
+
+    /// The machine of an id.
+    pub(crate) fn get(&self, id: MachineId) -> Option<&ScheduledMachine<M>>
+        ensures { option_copied result ≡ machine_of id self.now }
+    {
+        let place = self.place_of(id)?;
+        Some(&self.all[place])
+    }
+
+    /// Says whether a token is with callers.
+    pub(crate) fn is_with_callers(&self, token: Token) -> bool
+        ensures { result ≡ is_with_callers self.now token }
+    {
+        match self.get(token.machine) {
+            Some(machine) => machine.is_callers(token.wake),
+            None => false,
+        }
+    }
+
+    /// Notes of a machine's outstanding token whether it is with callers; where the machine is not there, nothing.
+    pub(crate) fn move_token(&mut self, id: MachineId, with_callers: bool)
+        ensures { self.new ≡ changed_for id (moved with_callers) self.old }
+    {
+        if let Some(place) = self.place_of(id) {
+            let machine = &mut self.all[place];
+            machine.move_token(with_callers);
+        }
+    }
+
+    /// Tells the machine of an id a command; where the machine is not there, the command comes back.
+    pub(crate) fn tell(
+        &mut self,
+        id: MachineId,
+        command: Command<M::Content>,
+    ) -> Result<AnswerOf<M>, Command<M::Content>>
+        ensures told { IfOk result (λ answer. TellsOne (callbacks_of M.Module M.State.eq) self.old id command answer self.new) }
+
+        ensures missing { IfErr result (λ back. (back ≡ command) × (machine_of id self.old ≡ None) × (self.new ≡ self.old)) }
+    {
+        match self.place_of(id) {
+            Some(place) => {
+                let machine = &mut self.all[place];
+                Ok(machine.tell(command))
+            }
+            None => Err(command),
+        }
+    }
+
+    /// Serves the machine of an id at a moment, in milliseconds, and says whether it keeps its token; where the machine
+    /// is not there, it answers `None`.
+    pub(crate) fn serve(&mut self, id: MachineId, now: u64) -> Option<(AnswerOf<M>, bool)>
+        ensures served { IfSome result (λ done. ServesOne (callbacks_of M.Module M.State.eq) self.old id now done.0 done.1 self.new) }
+
+        ensures missing { IfNone result ((machine_of id self.old ≡ None) × (self.new ≡ self.old)) }
+    {
+        let place = self.place_of(id)?;
+        let machine = &mut self.all[place];
+        let answer = machine.serve(now);
+        let keeps = machine.has_token();
+        Some((answer, keeps))
+    }
+
+    /// The tokens that are with callers, in the order of their machines. Where there is no memory, nothing is listed.
+    pub(crate) fn with_callers(&self, alloc: Global) -> Result<PlainList<Token>, AllocError>
+        ensures { IfOk result (λ tokens. tokens ≡ with_callers_in self.now) }
+    {
+        tokens_with_callers(&self.all, alloc)
+    }
+}
+
+/// The tokens of machines that are with callers.
+fn tokens_with_callers<M: Module>(
+    machines: &[ScheduledMachine<M>],
+    alloc: Global,
+) -> Result<PlainList<Token>, AllocError>
+    ensures { IfOk result (λ tokens. tokens ≡ with_callers_in machines.now) }
+{
+    let mut tokens = Vec::new(alloc);
+    for machine in machines {
+        if let Some(token) = machine.callers_token() {
+            tokens.push(token)?;
+        }
+    }
+    Ok(PlainList::from(tokens))
+}

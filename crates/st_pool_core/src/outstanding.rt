@@ -1,0 +1,10 @@
+//! A token that was issued.
+
+/// A machine's outstanding token: the licence to serve it, which was issued and not yet retired.
+#[derive(Clone, Copy)]
+pub(crate) struct Outstanding {
+    /// Its wake number: the machine's count of commands when it was issued.
+    pub(crate) wake: u64,
+    /// Whether callers have it; else it stands in a run queue or in a worker's hand.
+    pub(crate) with_callers: bool,
+}

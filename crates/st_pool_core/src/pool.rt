@@ -1,0 +1,144 @@
+//! A pool, and each of its steps.
+ghost use Rattle.std.specs.Prelude.{◌≡◌, None};
+ghost use Rattle.st_events.specs.declared.refusal.Refusal.TheVariants.{NoMemory, NotPossible};
+ghost use Rattle.st_core.specs.Callbacks.{callbacks_of};
+ghost use Rattle.st_pool_core.specs.declared.step.Step.TheVariants as step;
+ghost use Rattle.st_pool_core.specs.Balance.{IsBalanced};
+ghost use Rattle.st_pool_core.specs.Serving.{refused_with};
+ghost use Rattle.st_pool_core.specs.Step.{TellsIn, DoesStep};
+
+use crate::machines::Machines;
+use crate::run_queues::RunQueues;
+use crate::scheduled_machine::{AnswerOf, content_of};
+use crate::{Step, StepAnswer};
+use st_core::Command;
+use st_events::{MachineId, Module, Refusal, Token};
+use std::marker::Model;
+
+/// The machines of a pool, and where their tokens stand.
+#[derive(Drop)]
+pub(crate) struct Pool<M: Module> {
+    pub(crate) machines: Machines<M>,
+    pub(crate) queues: RunQueues,
+}
+
+impl<M: Module> Model for Pool<M> {
+    ghost use Rattle.st_pool_core.specs.PoolState.{PoolState};
+
+    ghost Value = { PoolState M M.State M.Data M.Content };
+
+    ghost view = { λ pool. record { machines = pool.machines; queues = pool.queues } };
+}
+
+/// What a step is answered that is not possible and holds no content.
+fn not_possible<S, C>() -> StepAnswer<S, C>
+    ensures { result ≡ refused_with NotPossible None }
+{
+    StepAnswer::refused(Refusal::NotPossible, None)
+}
+
+/// What a step is answered that found no memory and holds no content.
+fn no_memory<S, C>() -> StepAnswer<S, C>
+    ensures { result ≡ refused_with NoMemory None }
+{
+    StepAnswer::refused(Refusal::NoMemory, None)
+}
+
+impl<M: Module> Pool<M> {
+    /// Does a step.
+    pub(crate) fn step(&mut self, step: Step<M::Content>) -> AnswerOf<M>
+        requires { IsBalanced self.old }
+        ensures { DoesStep (callbacks_of M.Module M.State.eq) self.old step result self.new }
+    {
+        match step {
+            Step::Post(id, entry, content) => self.tell(id, Command::Post(entry, content)),
+            Step::Tick(id, now) => self.tell(id, Command::Tick(now)),
+            Step::Give(token, lane) => self.give(token, lane),
+            Step::Take(worker, lane) => self.take(worker, lane),
+            Step::Turn(worker, now) => self.turn(worker, now),
+            Step::PutBack(worker) => self.put_back(worker),
+            Step::Drop(worker) => self.drop_token(worker),
+            Step::Stop(id, reason) => self.tell(id, Command::Stop(reason)),
+            Step::Reply(id, tag, content) => self.tell(id, Command::Reply(tag, content)),
+            Step::Collect(id, tag) => self.tell(id, Command::Collect(tag)),
+        }
+    }
+
+    /// Tells a machine a command.
+    fn tell(&mut self, id: MachineId, command: Command<M::Content>) -> AnswerOf<M>
+        ensures { TellsIn (callbacks_of M.Module M.State.eq) self.old id command result self.new }
+    {
+        match self.machines.tell(id, command) {
+            Ok(answer) => answer,
+            Err(command) => StepAnswer::refused(Refusal::NotPossible, content_of(command)),
+        }
+    }
+
+    /// A token that is with callers goes to the end of a lane.
+    fn give(&mut self, token: Token, lane: usize) -> AnswerOf<M>
+        ensures { DoesStep (callbacks_of M.Module M.State.eq) self.old (step.Give token lane) result self.new }
+    {
+        if !self.machines.is_with_callers(token) || !self.queues.has_lane(lane) {
+            return not_possible();
+        }
+        if self.queues.push(lane, token).is_err() {
+            return no_memory();
+        }
+        self.machines.move_token(token.machine, false);
+        StepAnswer::Moved
+    }
+
+    /// A worker whose hand is empty takes the first token of a lane.
+    fn take(&mut self, worker: usize, lane: usize) -> AnswerOf<M>
+        ensures { DoesStep (callbacks_of M.Module M.State.eq) self.old (step.Take worker lane) result self.new }
+    {
+        if self.queues.take(worker, lane) {
+            StepAnswer::Moved
+        } else {
+            not_possible()
+        }
+    }
+
+    /// A worker serves the machine of the token in its hand, at a moment in milliseconds.
+    fn turn(&mut self, worker: usize, now: u64) -> AnswerOf<M>
+        requires { IsBalanced self.old }
+        ensures { DoesStep (callbacks_of M.Module M.State.eq) self.old (step.Turn worker now) result self.new }
+    {
+        let Some(token) = self.queues.hand(worker) else {
+            return not_possible();
+        };
+        let Some((answer, keeps)) = self.machines.serve(token.machine, now) else {
+            return not_possible();
+        };
+        if !keeps {
+            self.queues.set_hand(worker, None);
+        }
+        answer
+    }
+
+    /// The token in a worker's hand goes to the end of the worker's own lane.
+    fn put_back(&mut self, worker: usize) -> AnswerOf<M>
+        ensures { DoesStep (callbacks_of M.Module M.State.eq) self.old (step.PutBack worker) result self.new }
+    {
+        let Some(token) = self.queues.hand(worker) else {
+            return not_possible();
+        };
+        if self.queues.push(worker, token).is_err() {
+            return no_memory();
+        }
+        self.queues.set_hand(worker, None);
+        StepAnswer::Moved
+    }
+
+    /// The token in a worker's hand goes to callers.
+    fn drop_token(&mut self, worker: usize) -> AnswerOf<M>
+        ensures { DoesStep (callbacks_of M.Module M.State.eq) self.old (step.Drop worker) result self.new }
+    {
+        let Some(token) = self.queues.hand(worker) else {
+            return not_possible();
+        };
+        self.queues.set_hand(worker, None);
+        self.machines.move_token(token.machine, true);
+        StepAnswer::Moved
+    }
+}

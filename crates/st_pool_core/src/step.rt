@@ -1,0 +1,36 @@
+//! What a pool can be told.
+
+use st_core::Entry;
+use st_events::{MachineId, Reason, Tag, Token};
+
+/// One step of a pool. Machines are named by their ids, workers by numbers from 1 on, and run queues by lanes: lane 0
+/// is the shared run queue, and each other lane the local one of the worker of its number.
+///
+/// Ours: docs/DECISIONS.md, The pool's steps.
+#[derive(Debug, PartialEq, Eq, Drop)]
+pub enum Step<C> {
+    /// A caller posts an event to a machine, as `Core::post` does. A machine that has work then and had no outstanding
+    /// token is issued one, which the caller gets.
+    Post(MachineId, Entry, C),
+    /// A machine is told the moment, in milliseconds, as `Core::tick` does. A machine that has work then and had no
+    /// outstanding token is issued one, which the caller gets.
+    Tick(MachineId, u64),
+    /// A token that callers have goes to the end of a lane.
+    Give(Token, usize),
+    /// A worker whose hand is empty takes the first token of a lane.
+    Take(usize, usize),
+    /// A worker serves the machine of the token in its hand: one turn at a moment, in milliseconds, as `Core::turn`
+    /// does. Where the machine has work after it, the token stays in the hand; else it is retired. If the machine had
+    /// ended already, its token is retired without a turn.
+    Turn(usize, u64),
+    /// The token in a worker's hand goes to the end of the worker's own lane.
+    PutBack(usize),
+    /// The token in a worker's hand goes to callers.
+    Drop(usize),
+    /// A machine is stopped, as `Core::stop` does. Its outstanding token stays until its next turn.
+    Stop(MachineId, Reason),
+    /// A request is answered, as `Core::reply` does.
+    Reply(MachineId, Tag, C),
+    /// What is kept for a request is collected, as `Core::collect` does.
+    Collect(MachineId, Tag),
+}
