@@ -5,6 +5,7 @@ use crate::drive::{
 };
 use crate::latch::{Latch, Press};
 use crate::load::{Load, Work};
+use crate::pool::play;
 use crate::queue::pass;
 use crate::robbed_queue::RobbedQueue;
 use crate::shared_queue::SharedQueue;
@@ -60,10 +61,12 @@ pub enum Line {
     Steals,
     /// The same with the shared run queue.
     SharedQueue,
+    /// Casts to each of so many machines of a pool in turn, each in four steps: post, give, take and turn.
+    Pool,
 }
 
 /// Each line by its name.
-pub const LINES: [(&str, Line); 19] = [
+pub const LINES: [(&str, Line); 20] = [
     ("casts", Line::Casts),
     ("casts-beside", Line::CastsBeside),
     ("casts-with-ticks", Line::CastsWithTicks),
@@ -83,6 +86,7 @@ pub const LINES: [(&str, Line); 19] = [
     ("own-queue", Line::OwnQueue),
     ("steals", Line::Steals),
     ("shared-queue", Line::SharedQueue),
+    ("pool", Line::Pool),
 ];
 
 impl Line {
@@ -102,6 +106,7 @@ impl Line {
             Line::OwnQueue => pass(&mut Lane::new(alloc)?, count, more),
             Line::Steals => pass(&mut RobbedQueue::new(alloc)?, count, more),
             Line::SharedQueue => pass(&mut SharedQueue::new(rt, alloc)?, count, more),
+            Line::Pool => play(alloc, count, more),
             _ => self.done_by_load(alloc, count, more),
         }
     }

@@ -7,6 +7,7 @@ mod drive;
 mod latch;
 mod line;
 mod load;
+mod pool;
 mod queue;
 mod robbed_queue;
 mod shared_queue;
