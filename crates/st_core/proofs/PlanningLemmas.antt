@@ -1,5 +1,7 @@
 -- What outcomes ask for.
-use Rattle.std.proofs.Common.{◌≡◌, ◌≤◌, List, [], ◌∷◌, ◌++◌, length, length-append, refl, ap, ◌∙◌, false, arith}
+use Rattle.std.proofs.Common.{◌≡◌, ◌≤◌, ℕ, true, List, [], ◌∷◌, ◌++◌, length, length-append, refl, ap, ◌∙◌, false, arith}
+use Rattle.std.proofs.lemmas.Bool.{leb-true}
+use Rattle.std.proofs.Math.Dec.{leb}
 use Rattle.std.specs.Prelude.{Result, Ok, Err, OnOk, Option, Some, None}
 use Rattle.std.specs.Option.{option_map, option_to_list, IsNone}
 use Rattle.std.specs.Result.{is_err}
@@ -42,6 +44,10 @@ module _ {C : Type 0} where
 pub there : {T E P : Type 0} (result : Result T E) → is_err result ≡ false → OnOk result P → P
 there (Ok value) fine holds = holds
 there (Err error) fine holds = cc
+
+-- a list whose length was tested is that short
+pub tested_short : {X : Type 0} (list : List X) (size most : ℕ) → size ≡ length list → leb size most ≡ true → length list ≤ most
+tested_short list size most is_length tested = rw (← is_length) (leb-true size most tested)
 
 -- of one element at most the last is all
 pub alone_popped : {X : Type 0} (old new : List X) (result : Option X) → old ≡ new ++ option_to_list result → (IsNone result → old ≡ []) → length old ≤ 1

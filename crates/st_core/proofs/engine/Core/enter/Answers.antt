@@ -136,3 +136,19 @@ pub plan_entered-requires : goal.plan_entered-requires
 plan_entered-requires g c =
     let fits = g.met.M.Module.lawful in
     (fits.planned_fits, (fits.enter_outcome_fits, (fits.enter_outcome_fits, (fits.enter_actions_fit, (fits.replies_fit, (fits.inserts_fit, (fits.settings_fit, fits.planned_fits)))))))
+
+-- so are replies and inserts; the check alone proves this too, some seconds later
+pub array_drop-first-requires : goal.array_drop-first-requires
+array_drop-first-requires g c = omega (arith, g.met.M.Module.lawful.replies_fit)
+
+pub array_drop-first-requires-in_err-entered : goal.array_drop-first-requires-in_err-entered
+array_drop-first-requires-in_err-entered g c = omega (arith, g.met.M.Module.lawful.inserts_fit)
+
+pub array_drop-planned-requires : goal.array_drop-planned-requires
+array_drop-planned-requires g c = omega (arith, g.met.M.Module.lawful.replies_fit)
+
+pub array_drop-planned-requires-in_err-calls : goal.array_drop-planned-requires-in_err-calls
+array_drop-planned-requires-in_err-calls g c = omega (arith, g.met.M.Module.lawful.inserts_fit)
+
+pub array_drop-planned-requires-in-Some-reason : goal.array_drop-planned-requires-in-Some-reason
+array_drop-planned-requires-in-Some-reason g c = omega (arith, g.met.M.Module.lawful.inserts_fit)

@@ -1,0 +1,15 @@
+//! What pools answer to steps, with memory and while an allocation is refused.
+
+mod balance;
+mod ended;
+mod host;
+mod memory;
+mod opened;
+mod plain;
+mod played;
+mod pooled;
+mod refusals;
+mod serving;
+mod shown;
+mod told;
+mod whole;

@@ -1,0 +1,99 @@
+//! How a pool of a test is opened.
+use super::host::Host;
+use super::plain::Plain;
+use st_core::{Core, MachineId, Refusal, Refused, Start};
+use st_pool_core::PoolWorld;
+use std::alloc::Global;
+use std::process::Abort;
+
+/// The id of the machine in this place, from 0 on. Each serial is one more than the place.
+pub fn machine_id(slot: usize) -> MachineId {
+    MachineId {
+        slot,
+        serial: (slot as u64).saturating_add(1),
+    }
+}
+
+/// An empty vector with places reserved. Where memory was refused, it is asked for again.
+pub fn with_reserved<T>(rt: &Host<impl Abort>, alloc: Global, count: usize) -> Vec<T> {
+    match Vec::with_capacity(alloc, count) {
+        Ok(elements) => elements,
+        Err(_) => {
+            rt.retry();
+            Vec::with_capacity(alloc, count).expect(rt, "one allocation alone is refused")
+        }
+    }
+}
+
+/// Makes the call of a start. Where it finds no memory, it is made again.
+fn start(
+    rt: &Host<impl Abort>,
+    alloc: Global,
+    id: MachineId,
+) -> Result<Start<Plain>, Refused<Plain>> {
+    let started = Core::start(alloc, Plain, id, &(), 0);
+    if matches!(&started, Err(refused) if refused.refusal == Refusal::NoMemory) {
+        rt.retry();
+        return Core::start(alloc, Plain, id, &(), 0);
+    }
+    started
+}
+
+/// A machine of an id.
+fn machine(rt: &Host<impl Abort>, alloc: Global, id: MachineId) -> Core<Plain> {
+    match start(rt, alloc, id) {
+        Ok(Start::Running(core, _)) => core,
+        Ok(_) => panic!(rt; "there is no machine"),
+        Err(refused) => panic!(rt; "the start was refused: {}", refused.refusal),
+    }
+}
+
+/// Machines of these ids.
+pub fn cores(rt: &Host<impl Abort>, alloc: Global, ids: &[MachineId]) -> Vec<Core<Plain>> {
+    let mut cores = with_reserved(rt, alloc, ids.len());
+    for id in ids {
+        assert!(rt; cores.push(machine(rt, alloc, *id)).is_ok());
+    }
+    cores
+}
+
+/// Looks that these machines have these ids.
+pub fn are_of(rt: &Host<impl Abort>, cores: &[Core<Plain>], ids: &[MachineId]) {
+    assert_eq!(rt; cores.len(), ids.len());
+    for (core, id) in cores.iter().zip(ids.iter()) {
+        assert_eq!(rt; core.id(), *id);
+    }
+}
+
+/// A pool of so many workers and these machines, whose ids these are. Where memory was refused, the machines come
+/// back, and the call is made again.
+pub fn opened_with(
+    rt: &Host<impl Abort>,
+    alloc: Global,
+    workers: usize,
+    cores: Vec<Core<Plain>>,
+    ids: &[MachineId],
+) -> PoolWorld<Plain> {
+    let refused = match PoolWorld::new(alloc, workers, cores) {
+        Ok(pool) => return pool,
+        Err(refused) => refused,
+    };
+    assert_eq!(rt; refused.refusal, Refusal::NoMemory);
+    are_of(rt, refused.value.as_slice(), ids);
+    rt.retry();
+    match PoolWorld::new(alloc, workers, refused.value) {
+        Ok(pool) => pool,
+        Err(_) => panic!(rt; "one allocation alone is refused"),
+    }
+}
+
+/// A pool of so many workers and machines of these ids, in which nothing was done.
+pub fn opened(
+    rt: &Host<impl Abort>,
+    alloc: Global,
+    workers: usize,
+    ids: &[MachineId],
+) -> PoolWorld<Plain> {
+    let cores = cores(rt, alloc, ids);
+    opened_with(rt, alloc, workers, cores, ids)
+}

@@ -1,0 +1,93 @@
+//! Steps that are done as one list.
+use super::host::Host;
+use super::opened::with_reserved;
+use super::pooled::Pooled;
+use super::shown::{agrees, refusing};
+use super::told::{Wanted, content_in, copy_of, found_no_memory, tell};
+use super::whole::read_all;
+use st_core::Refusal;
+use st_pool_core::{Step, StepAnswer};
+use std::alloc::Global;
+use std::process::Abort;
+
+/// The steps themselves. Where memory was refused, it is asked for again.
+fn steps_of(rt: &Host<impl Abort>, alloc: Global, wanted: &[Wanted]) -> Vec<Step<u32>> {
+    let mut steps = with_reserved(rt, alloc, wanted.len());
+    for one in wanted {
+        assert!(rt; steps.push(copy_of(&one.step)).is_ok());
+    }
+    steps
+}
+
+/// Looks that these are the steps.
+fn are_steps(rt: &Host<impl Abort>, steps: &[Step<u32>], wanted: &[Wanted]) {
+    assert_eq!(rt; steps.len(), wanted.len());
+    for (step, one) in steps.iter().zip(wanted.iter()) {
+        assert!(rt; *step == one.step, "{step:?}");
+    }
+}
+
+/// Does steps as one list. Where there is no memory for the answers, nothing that can be read has changed, the steps
+/// come back, and the same list is played again.
+fn play<T: Pooled>(
+    rt: &Host<impl Abort>,
+    alloc: Global,
+    pool: &mut T,
+    wanted: &[Wanted],
+) -> Vec<StepAnswer<u32, u32>> {
+    let before = read_all(rt, pool);
+    let refused = match pool.do_all(steps_of(rt, alloc, wanted)) {
+        Ok(answers) => return answers,
+        Err(refused) => refused,
+    };
+    assert_eq!(rt; refused.refusal, Refusal::NoMemory);
+    assert!(rt; read_all(rt, pool) == before, "a refusal changes nothing");
+    are_steps(rt, refused.value.as_slice(), wanted);
+    rt.retry();
+    match pool.do_all(refused.value) {
+        Ok(answers) => answers,
+        Err(_) => panic!(rt; "one allocation alone is refused"),
+    }
+}
+
+/// Does the steps of a list but one that found no memory, each by itself, and looks that they answer the same.
+fn does_without<T: Pooled>(
+    rt: &Host<impl Abort>,
+    without: &mut T,
+    wanted: &[Wanted],
+    answers: &[StepAnswer<u32, u32>],
+) {
+    for (one, answer) in wanted.iter().zip(answers.iter()) {
+        if found_no_memory(answer) {
+            assert!(rt; *answer == refusing(Refusal::NoMemory, content_in(&one.step)));
+        } else {
+            assert!(rt; tell(rt, without, &one.step) == *answer, "{answer:?}");
+        }
+    }
+}
+
+/// Does steps as one list, and looks at their answers. Where one of them found no memory, all is as by the others
+/// alone, each by itself in another pool, and the list is played in a third; so all three begin alike.
+pub fn plays<T: Pooled>(
+    rt: &Host<impl Abort>,
+    alloc: Global,
+    pools: (&mut T, &mut T, &mut T),
+    wanted: &[Wanted],
+) {
+    let (pool, without, again) = pools;
+    let mut answers = play(rt, alloc, pool, wanted);
+    assert_eq!(rt; answers.len(), wanted.len());
+    if answers.as_slice().iter().any(found_no_memory) {
+        does_without(rt, without, wanted, answers.as_slice());
+        assert!(rt;
+            read_all(rt, pool) == read_all(rt, without),
+            "the others alone"
+        );
+        rt.retry();
+        answers = play(rt, alloc, again, wanted);
+        assert_eq!(rt; answers.len(), wanted.len());
+    }
+    for (answer, one) in answers.as_slice().iter().zip(wanted.iter()) {
+        agrees(rt, answer, &one.answer);
+    }
+}

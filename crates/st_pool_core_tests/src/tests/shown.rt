@@ -1,0 +1,90 @@
+//! What a step is to answer.
+use super::host::Host;
+use st_core::{Call, Done, Kind, Refusal, Refused, Report};
+use st_events::Token;
+use st_pool_core::StepAnswer;
+use std::process::Abort;
+
+/// What a step is to answer.
+#[derive(Debug, Drop)]
+pub enum Shown {
+    /// This answer.
+    Answer(StepAnswer<u32, u32>),
+    /// A turn handles the event of this number and kind in the state 0, and finishes it.
+    Handled(u64, Kind),
+    /// A turn handles the event of this number and kind in the state 0, and the machine ends for the reason 9, with
+    /// the word 7.
+    Ended(u64, Kind),
+}
+
+/// A post is accepted: its event gets this number, and this token is issued.
+pub fn posted(number: u64, wake: Option<Token>) -> Shown {
+    Shown::Answer(StepAnswer::Posted { number, wake })
+}
+
+/// The token is moved.
+pub fn moved() -> Shown {
+    Shown::Answer(StepAnswer::Moved)
+}
+
+/// An answer that refuses a step, with the content that it held.
+pub fn refusing(refusal: Refusal, content: Option<u32>) -> StepAnswer<u32, u32> {
+    StepAnswer::Refused(Refused::new(refusal, content))
+}
+
+/// A step is refused that holds no content.
+pub fn refused(refusal: Refusal) -> Shown {
+    Shown::Answer(refusing(refusal, None))
+}
+
+/// A step is not possible, and holds no content.
+pub fn not_possible() -> Shown {
+    refused(Refusal::NotPossible)
+}
+
+/// Looks that a report says what is wanted.
+fn reports(
+    rt: &Host<impl Abort>,
+    report: &Report<u32>,
+    number: u64,
+    done: Done,
+    calls: &[Call<u32>],
+) {
+    assert_eq!(rt; report.event, Some(number));
+    assert_eq!(rt; report.done, done);
+    assert!(rt; report.calls.as_slice() == calls, "the calls of {report:?}");
+}
+
+/// Looks that an answer is the one that is wanted.
+pub fn agrees(rt: &Host<impl Abort>, answer: &StepAnswer<u32, u32>, wanted: &Shown) {
+    match (answer, wanted) {
+        (_, Shown::Answer(other)) => {
+            assert!(rt; *answer == *other, "{answer:?} in place of {other:?}");
+        }
+        (StepAnswer::Turned(report), Shown::Handled(number, kind)) => {
+            let handle = handle_of(*number, *kind);
+            reports(rt, report, *number, Done::Finished, [handle].as_slice());
+        }
+        (StepAnswer::Turned(report), Shown::Ended(number, kind)) => {
+            let calls = [handle_of(*number, *kind), TERMINATE];
+            reports(rt, report, *number, Done::Ended(9, 7), calls.as_slice());
+        }
+        _ => panic!(rt; "{answer:?} in place of {wanted:?}"),
+    }
+}
+
+/// The end of a machine for the reason 9, with the word 7.
+const TERMINATE: Call<u32> = Call::Terminate {
+    reason: 9,
+    state: 0,
+    word: 7,
+};
+
+/// The event of this number and kind is handled in the state 0.
+fn handle_of(number: u64, kind: Kind) -> Call<u32> {
+    Call::Handle {
+        number,
+        kind,
+        state: 0,
+    }
+}

@@ -1,0 +1,85 @@
+//! All that can be read of a pool.
+use super::host::Host;
+use super::opened::machine_id;
+use super::pooled::{Pooled, Seen};
+use st_core::{PlainList, Refusal};
+use st_events::Token;
+use std::process::Abort;
+
+/// All that can be read of a pool of at most five machines and three workers. Of each machine there are its token,
+/// and whether callers have it; and there is one lane and one hand more than there are.
+#[derive(Debug, PartialEq, Eq, Drop)]
+pub struct Whole {
+    machines: [Option<Seen>; 5],
+    tokens: [Option<(Token, bool)>; 5],
+    callers: PlainList<Token>,
+    lanes: [Option<PlainList<Token>>; 5],
+    hands: [Option<Token>; 5],
+}
+
+/// The tokens that callers have. Where memory was refused, they are asked for again.
+pub fn callers<T: Pooled>(rt: &Host<impl Abort>, pool: &T) -> PlainList<Token> {
+    match pool.try_callers() {
+        Ok(tokens) => tokens,
+        Err(refusal) => {
+            assert_eq!(rt; refusal, Refusal::NoMemory);
+            rt.retry();
+            pool.try_callers()
+                .expect(rt, "one allocation alone is refused")
+        }
+    }
+}
+
+/// The tokens of a lane. Where memory was refused, they are asked for again.
+pub fn lane<T: Pooled>(rt: &Host<impl Abort>, pool: &T, lane: usize) -> Option<PlainList<Token>> {
+    match pool.try_lane(lane) {
+        Ok(tokens) => tokens,
+        Err(refusal) => {
+            assert_eq!(rt; refusal, Refusal::NoMemory);
+            rt.retry();
+            pool.try_lane(lane)
+                .expect(rt, "one allocation alone is refused")
+        }
+    }
+}
+
+/// What can be read of a machine.
+fn machine<T: Pooled>(pool: &T, slot: usize) -> Option<Seen> {
+    pool.see(machine_id(slot))
+}
+
+/// A machine's outstanding token, and whether callers have it.
+fn token<T: Pooled>(pool: &T, slot: usize) -> Option<(Token, bool)> {
+    let token = pool.token_of(machine_id(slot))?;
+    Some((token, pool.have_callers(token)))
+}
+
+/// All that can be read of a pool.
+pub fn read_all<T: Pooled>(rt: &Host<impl Abort>, pool: &T) -> Whole {
+    let hand = |worker: usize| pool.in_hand(worker);
+    Whole {
+        machines: [
+            machine(pool, 0),
+            machine(pool, 1),
+            machine(pool, 2),
+            machine(pool, 3),
+            machine(pool, 4),
+        ],
+        tokens: [
+            token(pool, 0),
+            token(pool, 1),
+            token(pool, 2),
+            token(pool, 3),
+            token(pool, 4),
+        ],
+        callers: callers(rt, pool),
+        lanes: [
+            lane(rt, pool, 0),
+            lane(rt, pool, 1),
+            lane(rt, pool, 2),
+            lane(rt, pool, 3),
+            lane(rt, pool, 4),
+        ],
+        hands: [hand(0), hand(1), hand(2), hand(3), hand(4)],
+    }
+}
