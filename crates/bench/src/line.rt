@@ -133,26 +133,44 @@ impl Line {
         let Some(mut load) = started(alloc, Load, ID, &0)? else {
             return Ok(0);
         };
-        let core = &mut load;
         match self {
-            Line::CastsBeside => {
-                post_and_turn(core, Work::SetMany(more), 0)?;
-                post_and_turn_each(core, Work::Keep, count)
+            Line::CastsBeside | Line::Expiries | Line::SetAndCancel => {
+                post_and_turn(&mut load, Work::SetMany(more), 0)?;
+                self.done_beside(&mut load, count, more)
             }
+            Line::Postponed | Line::Retried | Line::DueInOrder => {
+                self.done_after(&mut load, count, more)
+            }
+            _ => self.done_alone(&mut load, count),
+        }
+    }
+
+    /// Does a line of a machine at which so many time-outs run.
+    fn done_beside(self, core: &mut Core<Load>, count: u32, more: u32) -> Result<u64, Refusal> {
+        match self {
+            Line::Expiries => expire_each(core, Work::Set(more, 1), count),
+            Line::SetAndCancel => {
+                cycle(core, &[Work::Set(more, 1_000), Work::Cancel(more)], count)
+            }
+            _ => post_and_turn_each(core, Work::Keep, count),
+        }
+    }
+
+    /// Does a line in which what comes first is handled later.
+    fn done_after(self, core: &mut Core<Load>, count: u32, more: u32) -> Result<u64, Refusal> {
+        match self {
+            Line::Postponed => postponed(core, count, more),
+            Line::Retried => retried(core, count),
+            _ => due_in_order(core, count),
+        }
+    }
+
+    /// Does a line of a machine at which nothing else waits or runs.
+    fn done_alone(self, core: &mut Core<Load>, count: u32) -> Result<u64, Refusal> {
+        match self {
             Line::CastsWithTicks => post_tick_and_turn(core, Work::Keep, count),
             Line::PostedFirst => post_all_and_turn(core, Work::Keep, count),
             Line::Calls => call_each(core, Work::Answer, count),
-            Line::Postponed => postponed(core, count, more),
-            Line::Retried => retried(core, count),
-            Line::DueInOrder => due_in_order(core, count),
-            Line::Expiries => {
-                post_and_turn(core, Work::SetMany(more), 0)?;
-                expire_each(core, Work::Set(more, 1), count)
-            }
-            Line::SetAndCancel => {
-                post_and_turn(core, Work::SetMany(more), 0)?;
-                cycle(core, &[Work::Set(more, 1_000), Work::Cancel(more)], count)
-            }
             Line::Settings => post_and_turn(core, Work::SetMany(count), 0),
             Line::Inserts => cycle(core, &[Work::InsertMany(count)], 1),
             _ => post_and_turn_each(core, Work::Keep, count),

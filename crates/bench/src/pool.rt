@@ -33,7 +33,8 @@ fn machines(alloc: Global, many: u32) -> Result<Vec<Core<Load>>, Refusal> {
 fn cast_and_serve(world: &mut PoolWorld<Load>, id: MachineId) -> Result<u64, Refusal> {
     let answer = world.step(Step::Post(id, Entry::Cast, Work::Keep));
     let StepAnswer::Posted {
-        wake: Some(token), ..
+        wake: Some(token),
+        ..
     } = answer
     else {
         return Ok(0);
