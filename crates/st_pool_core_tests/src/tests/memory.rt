@@ -6,14 +6,14 @@ use super::played::plays;
 use super::shown::{Shown, moved, posted};
 use super::told::{cast, does_all, hands_free};
 use super::whole::{callers, lane};
-use st_core::{Core, Entry, Kind, Refusal};
+use st_core::{Core, Entry, Kind, Module, Refusal};
 use st_events::Token;
 use st_pool_core::{PoolWorld, Step, StepAnswer};
 use std::alloc::Global;
 use std::process::Abort;
 
 /// Posts a cast to a machine that is in no pool yet. Where it finds no memory, it is posted again.
-fn post(rt: &Host<impl Abort>, core: &mut Core<Plain>, content: u32) {
+fn post<M: Module<Content = u32>>(rt: &Host<impl Abort>, core: &mut Core<M>, content: u32) {
     if let Err(refused) = core.post(Entry::Cast, content) {
         assert_eq!(rt; refused.refusal, Refusal::NoMemory);
         rt.retry();
