@@ -6,7 +6,7 @@ pub mod LeftStates
 pub mod IdLemmas
 pub mod MachineLookups
 pub mod MachineLemmas
-pub mod HandLemmas
+pub mod PlacedTokens
 pub mod ServingLemmas
 pub mod ServedMachines
 pub mod ToldLemmas
@@ -14,7 +14,6 @@ pub mod RefusedLemmas
 pub mod WentLemmas
 pub mod CommandLemmas
 pub mod PoolLemmas
-pub mod PlacedTokens
 pub mod BalanceLemmas
 pub mod PlayLemmas
 pub mod OpeningLemmas

@@ -78,10 +78,6 @@ module _ {M S D C : Type 0} where
       → is_callers token.wake m.token ≡ is_with_callers machines token
   callers_found token machines m found = rw (found, found_same token.machine machines m found) refl
 
-  pub callers_missing : (token : Token) (machines : List (ScheduledMachine M S D C)) → machine_of token.machine machines ≡ None
-      → false ≡ is_with_callers machines token
-  callers_missing token machines missing = rw missing refl
-
   -- where there is no such machine, none becomes another
   pub none_changed : (id : MachineId) (machines : List (ScheduledMachine M S D C)) (f : ScheduledMachine M S D C → ScheduledMachine M S D C)
       → machine_of id machines ≡ None → changed_for id f machines ≡ machines

@@ -8,7 +8,7 @@ use Rattle.st_pool_core.specs.declared.outstanding.Outstanding.{Outstanding}
 use Rattle.st_pool_core.specs.PoolState.{same_id, same_token, has_wake, is_callers, ScheduledMachine, PoolState, id_of, machine_of, changed_for, is_token_of, is_with_callers_of, holds_of, is_outstanding, is_with_callers, moved}
 use Rattle.st_pool_core.specs.Queues.{Queues, hand_in}
 use Rattle.st_pool_core.specs.Balance.{one_if, times_in_queues, times_with_callers, times_in, HasTokenForWork, IsBalanced}
-use Rattle.st_pool_core.proofs.TokensCompared.{numbers_flip, same_token_self, and_false}
+use Rattle.st_pool_core.proofs.TokensCompared.{some_is, numbers_flip, same_token_self, and_false}
 use Rattle.st_pool_core.proofs.QueueCounts.{emptied_times}
 use Rattle.st_pool_core.proofs.MachineLookups.{found_id, found_counted, total_changed, changed_all, changed_one_each, outstanding_times}
 
@@ -149,3 +149,11 @@ module _ {M S D C : Type 0} where
   held_token pool worker token balanced held =
       let count = emptied_times token token pool.queues worker held in
       standing_token pool token balanced (omega (arith, count, ap one_if (same_token_self token)))
+
+  -- so that machine has a token
+  pub hand_has_token : (pool : PoolState M S D C) (worker : ℕ) (token : Token) (m : ScheduledMachine M S D C) → IsBalanced pool
+      → hand_in pool.queues worker ≡ Some token → machine_of token.machine pool.machines ≡ Some m → is_some m.token ≡ true
+  hand_has_token pool worker token m balanced held at =
+      let found = held_token pool worker token balanced held in
+      let same : m ≡ found.0 = some_is m found.0 (sym at ∙ found.1) in
+      rw (same, found.2.has) refl

@@ -1,5 +1,5 @@
 -- What a pool is after one of its machines was told or served, or was not there.
-use Rattle.std.proofs.Common.{◌≡◌, ℕ, Bool, true, inl, inr, ⊎_elim, Some, None, List, refl, ap, ◌∙◌}
+use Rattle.std.proofs.Common.{◌≡◌, ℕ, Bool, inl, inr, ⊎_elim, Some, None, List, refl, ap, ◌∙◌}
 use Rattle.std.specs.Prelude.{is_some, if◌then◌else◌}
 use Rattle.st_events.specs.declared.machine_id.MachineId.{MachineId}
 use Rattle.st_events.specs.declared.token.Token.{Token}
@@ -14,7 +14,7 @@ use Rattle.st_pool_core.specs.Serving.{content_of, refused_with, TellsOne, Serve
 use Rattle.st_pool_core.specs.Step.{TellsIn, DoesStep}
 use Rattle.st_pool_core.specs.Balance.{IsBalanced}
 use Rattle.st_pool_core.proofs.IdLemmas.{changed_same}
-use Rattle.st_pool_core.proofs.HandLemmas.{hand_outstanding, has_token}
+use Rattle.st_pool_core.proofs.PlacedTokens.{hand_has_token}
 
 module _ {M S D C : Type 0} (callbacks : M → Callbacks S D C) where
   -- a pool with these machines
@@ -46,12 +46,6 @@ module _ {M S D C : Type 0} (callbacks : M → Callbacks S D C) where
     queues = if is_some one.token then pool.queues else handed pool.queues worker None;
   }
 
-  -- a token in a hand is the outstanding one of its machine
-  pub hand_keeps : (pool : PoolState M S D C) (worker : ℕ) (token : Token) (machine : ScheduledMachine M S D C) → IsBalanced pool
-      → hand_in pool.queues worker ≡ Some token → machine_of token.machine pool.machines ≡ Some machine → is_some machine.token ≡ true
-  hand_keeps pool worker token machine balanced held found =
-      has_token token pool.machines machine (hand_outstanding pool token worker balanced held) found
-
   -- the machine of the token in a worker's hand was served
   pub serves-in : (pool : PoolState M S D C) (worker : ℕ) (token : Token) (now : ℕ) (answer : StepAnswer S C) (keeps : Bool) (machines : List (ScheduledMachine M S D C))
       → IsBalanced pool → hand_in pool.queues worker ≡ Some token → ServesOne callbacks pool.machines token.machine now answer keeps machines
@@ -62,11 +56,6 @@ module _ {M S D C : Type 0} (callbacks : M → Callbacks S D C) where
         wanted.0,
         wanted.1,
         ap (after_turn pool worker token.machine) wanted.2
-            ∙ rw (hand_keeps pool worker token served.old balanced held served.found) (ap (with_machines pool) (changed_same token.machine pool.machines served.old served.found)),
+            ∙ rw (hand_has_token pool worker token served.old balanced held served.found) (ap (with_machines pool) (changed_same token.machine pool.machines served.old served.found)),
       ))
       served.serves)
-
-  -- the machine of that token is not there
-  pub serves-missing : (pool : PoolState M S D C) (worker : ℕ) (token : Token) (now : ℕ) → hand_in pool.queues worker ≡ Some token
-      → machine_of token.machine pool.machines ≡ None → DoesStep callbacks pool (step.Turn worker now) (refused_with NotPossible None) pool
-  serves-missing pool worker token now held missing = rw (held, missing) (inl (refl, refl))

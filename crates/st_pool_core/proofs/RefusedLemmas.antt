@@ -16,7 +16,7 @@ use Rattle.st_pool_core.specs.PoolState.{ScheduledMachine, PoolState, machine_of
 use Rattle.st_pool_core.specs.Queues.{Queues, has_lane, hand_in, first_in, is_free, taken, take_of, handed}
 use Rattle.st_pool_core.specs.Serving.{refused_with, told_on, served_on}
 use Rattle.st_pool_core.specs.Step.{is_refused, take_step_of, put_back_of, drop_of, with_served, tell_found, serve_found, turn_of_hand, step_in}
-use Rattle.st_pool_core.proofs.HandLemmas.{hand_outstanding, has_token}
+use Rattle.st_pool_core.proofs.PlacedTokens.{hand_has_token}
 use Rattle.st_pool_core.proofs.IdLemmas.{changed_same}
 use Rattle.st_pool_core.proofs.ToldLemmas.{refused_told, refused_served}
 
@@ -96,7 +96,7 @@ module _ {M S D C : Type 0} where
     turn_refused pool worker now None balanced is h = refl
     turn_refused pool worker now (Some token) balanced is h =
         serve_refused pool worker token.machine now (machine_of token.machine pool.machines) refl
-        (λ machine found. has_token token pool.machines machine (hand_outstanding pool token worker balanced is) found) h
+        (λ machine found. hand_has_token pool worker token machine balanced is found) h
 
     -- a step whose answer by definition is a refusal changes nothing
     pub step_refused : (old : PoolState M S D C) (step : Step C) → IsBalanced old → is_refused (step_in callbacks old step).0 ≡ true

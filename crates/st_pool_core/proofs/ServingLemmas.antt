@@ -82,11 +82,6 @@ module _ {M S D C : Type 0} where
         (λ done. inl (rw (done.0, done.1) (refl, refl)))
         (λ wanted. inr (without old command answer core wanted.0 wanted.1 wanted.2)) does)
 
-    -- a command that is refused for want of a count
-    pub full-meets : (old : ScheduledMachine M S D C) (command : Command C) → is_full old ≡ true → needs_count (step_on callbacks old.core command).0 ≡ true
-        → Tells callbacks old command (refused_with Exhausted (content_of command)) old
-    full-meets old command full needs = rw (full, needs) (inl (refl, refl))
-
   -- the id of a machine stays, whatever it answers
   told_as_id : (old : ScheduledMachine M S D C) (answer : Answer S C) (core : Machine M S D C) → core.machine.id ≡ id_of old → id_of (told_as old answer core).1 ≡ id_of old
   told_as_id old (answer.Post (Ok number)) core id = id
