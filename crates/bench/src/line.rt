@@ -1,4 +1,5 @@
 //! What can be measured.
+use crate::cell::{call_in_cell, cast_in_cell, in_cell};
 use crate::drive::{
     call_each, cycle, end, expire_each, finish_backwards, finish_in_order, post_all_and_turn,
     post_and_turn, post_and_turn_each, post_tick_and_turn, started, turn_each,
@@ -8,11 +9,13 @@ use crate::load::{Load, Work};
 use crate::pool::play;
 use crate::queue::pass;
 use crate::robbed_queue::RobbedQueue;
+use crate::shared::{Shared, cast_in_threads, share};
 use crate::shared_queue::SharedQueue;
 use st_core::{Core, MachineId, Refusal};
 use st_runq::Lane;
 use std::alloc::Global;
-use std::sync::Wait;
+use std::sync::{Arc, Wait};
+use std::thread::Threads;
 
 /// The identity of a measured machine.
 const ID: MachineId = MachineId { slot: 0, serial: 1 };
@@ -63,10 +66,22 @@ pub enum Line {
     SharedQueue,
     /// Casts to each of so many machines of a pool in turn, each in four steps: post, give, take and turn.
     Pool,
+    /// Casts that keep the state, to a machine in a cell whose journal is cut where it has so many entries.
+    CellCasts,
+    /// The same with calls, whose replies are collected.
+    CellCalls,
+    /// Casts that keep the state, through a port of a shared machine, whose journal is cut where it has so many entries.
+    PortCasts,
+    /// The same with calls, whose replies are collected.
+    PortCalls,
+    /// Casts by so many threads to one machine, each of which serves it by the tokens that it gets.
+    ThreadsOfOne,
+    /// Casts by so many threads, each to a machine of its own.
+    ThreadsApart,
 }
 
 /// Each line by its name.
-pub const LINES: [(&str, Line); 20] = [
+pub const LINES: [(&str, Line); 26] = [
     ("casts", Line::Casts),
     ("casts-beside", Line::CastsBeside),
     ("casts-with-ticks", Line::CastsWithTicks),
@@ -87,14 +102,20 @@ pub const LINES: [(&str, Line); 20] = [
     ("steals", Line::Steals),
     ("shared-queue", Line::SharedQueue),
     ("pool", Line::Pool),
+    ("cell-casts", Line::CellCasts),
+    ("cell-calls", Line::CellCalls),
+    ("port-casts", Line::PortCasts),
+    ("port-calls", Line::PortCalls),
+    ("threads-of-one", Line::ThreadsOfOne),
+    ("threads-apart", Line::ThreadsApart),
 ];
 
 impl Line {
     /// Does the line so many times, and answers how many events were handled, replies collected, machines ended or
     /// tokens taken.
-    pub fn done(
+    pub fn done<R: Wait + Threads + Copy + Send + Drop + 'static>(
         self,
-        rt: &impl Wait,
+        rt: R,
         alloc: Global,
         count: u32,
         more: u32,
@@ -105,8 +126,11 @@ impl Line {
             Line::StartAndStop => started_and_stopped(alloc, count),
             Line::OwnQueue => pass(&mut Lane::new(alloc)?, count, more),
             Line::Steals => pass(&mut RobbedQueue::new(alloc)?, count, more),
-            Line::SharedQueue => pass(&mut SharedQueue::new(rt, alloc)?, count, more),
+            Line::SharedQueue => pass(&mut SharedQueue::new(&rt, alloc)?, count, more),
             Line::Pool => play(alloc, count, more),
+            Line::CellCasts | Line::CellCalls => self.done_in_cell(alloc, count, more),
+            Line::PortCasts | Line::PortCalls => self.done_by_port(rt, alloc, count, more),
+            Line::ThreadsOfOne | Line::ThreadsApart => self.done_by_threads(rt, alloc, count, more),
             _ => self.done_by_load(alloc, count, more),
         }
     }
@@ -126,6 +150,66 @@ impl Line {
             Press::Lock,
         ];
         cycle(&mut door, &presses, count)
+    }
+
+    /// Does a line of a machine in a cell.
+    fn done_in_cell(self, alloc: Global, count: u32, more: u32) -> Result<u64, Refusal> {
+        let Some(load) = started(alloc, Load, ID, &0)? else {
+            return Ok(0);
+        };
+        let mut cell = in_cell(alloc, load)?;
+        match self {
+            Line::CellCasts => cast_in_cell(&mut cell, count, more),
+            _ => call_in_cell(&mut cell, count, more),
+        }
+    }
+
+    /// Does a line of a machine that threads may share, in one thread.
+    fn done_by_port<R: Wait + Drop>(
+        self,
+        rt: R,
+        alloc: Global,
+        count: u32,
+        more: u32,
+    ) -> Result<u64, Refusal> {
+        let Some(load) = started(alloc, Load, ID, &0)? else {
+            return Ok(0);
+        };
+        let mut machine = Shared::new(rt, share(alloc, load)?)?;
+        match self {
+            Line::PortCasts => cast_in_cell(&mut machine, count, more),
+            _ => call_in_cell(&mut machine, count, more),
+        }
+    }
+
+    /// Does a line of so many threads.
+    fn done_by_threads<R: Wait + Threads + Copy + Send + Drop + 'static>(
+        self,
+        rt: R,
+        alloc: Global,
+        count: u32,
+        threads: u32,
+    ) -> Result<u64, Refusal> {
+        let mut machines = Vec::new(alloc);
+        for number in 0..threads {
+            let machine = match machines.last() {
+                Some(machine) if self == Line::ThreadsOfOne => Arc::try_clone(machine)?,
+                _ => {
+                    let id = MachineId {
+                        slot: number as usize,
+                        serial: 1,
+                    };
+                    let Some(load) = started(alloc, Load, id, &0)? else {
+                        return Ok(0);
+                    };
+                    share(alloc, load)?
+                }
+            };
+            if machines.push(machine).is_err() {
+                return Err(Refusal::NoMemory);
+            }
+        }
+        cast_in_threads(rt, alloc, machines, count)
     }
 
     /// Does a line of one machine.

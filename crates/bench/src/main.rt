@@ -3,6 +3,7 @@
 //! `bench all COUNT [MORE]` does each line.
 #![tactic(auto)]
 
+mod cell;
 mod drive;
 mod latch;
 mod line;
@@ -10,6 +11,7 @@ mod load;
 mod pool;
 mod queue;
 mod robbed_queue;
+mod shared;
 mod shared_queue;
 
 use line::{LINES, Line};
@@ -17,6 +19,7 @@ use st_core::Refusal;
 use std::alloc::Global;
 use std::process::ExitCode;
 use std::sync::Wait;
+use std::thread::Threads;
 use std::{env, io};
 
 /// The status of words that are not understood.
@@ -33,8 +36,8 @@ fn line_of(name: &str) -> Option<Line> {
 }
 
 /// Does one line, and writes down what it counts.
-fn measure(
-    rt: &impl Wait,
+fn measure<R: Wait + Threads + Copy + Send + Drop + 'static>(
+    rt: R,
     alloc: Global,
     name: &str,
     line: Line,
@@ -48,8 +51,8 @@ fn measure(
 }
 
 /// Does the line of a name, or each of them, and answers what was written down; nothing where no line has that name.
-fn report(
-    rt: &impl Wait,
+fn report<R: Wait + Threads + Copy + Send + Drop + 'static>(
+    rt: R,
     alloc: Global,
     name: &str,
     count: u32,
@@ -93,7 +96,7 @@ fn main(rt: HostRuntime) -> ExitCode {
         let _ = eprintln!(rt; "bench: bench NAME COUNT [MORE]");
         return ExitCode::from(NOT_UNDERSTOOD);
     };
-    match report(&rt, rt.alloc(), name, count, more) {
+    match report(rt, rt.alloc(), name, count, more) {
         Ok(log) if log.is_empty() => ExitCode::from(NOT_UNDERSTOOD),
         Ok(log) => match print!(rt; "{log}") {
             Ok(()) => ExitCode::SUCCESS,

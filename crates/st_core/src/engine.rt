@@ -72,6 +72,24 @@ impl<M: Module> Core<M> {
         self.id
     }
 
+    /// The callback module.
+    ///
+    /// Ours: docs/DECISIONS.md, Callbacks are functions.
+    pub fn module(&self) -> &M
+        ensures { result.now ≡ self.now.module_ }
+    {
+        &self.module
+    }
+
+    /// The number that the next event gets. Where it is 2^63, no number is left.
+    ///
+    /// Ours: docs/DECISIONS.md, Numbers of events.
+    pub fn next_number(&self) -> u64
+        ensures { result ≡ self.now.machine.schedule.next_number }
+    {
+        self.agenda.next_number()
+    }
+
     /// The tag of the call whose event has this number, as `post` answered it.
     ///
     /// Manual: `from()`, `send_request/2`.

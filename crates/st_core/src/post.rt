@@ -1,5 +1,5 @@
 //! An event comes from outside.
-ghost use Rattle.std.specs.Prelude.{◌≡◌, List, None, OnOk, OnErr};
+ghost use Rattle.std.specs.Prelude.{◌≡◌, List, None, OnOk, OnErr, IfErr};
 ghost use Rattle.st_requests.specs.declared.request.Request.{Request};
 ghost use Rattle.st_requests.specs.Requests.{held_for};
 ghost use Rattle.st_core.specs.declared.answer.Answer.TheVariants as answer;
@@ -60,6 +60,7 @@ impl<M: Module> Core<M> {
         ensures does { Does (callbacks_of M.Module M.State.eq) self.old (command.Post entry content) (answer.Post result) self.new }
 
         ensures unchanged { OnErr result (self.new ≡ self.old) }
+        ensures returned { IfErr result (λ refused. refused.value ≡ content) }
     {
         if let Some((reason, _)) = self.ended {
             return Err(Refused::new(Refusal::Stopped(reason), content));

@@ -28,15 +28,27 @@ pub enum Refusal {
     /// token is not where it would be taken from.
     #[error("not possible")]
     NotPossible,
+    /// The token is not the machine's outstanding one.
+    #[error("token not outstanding")]
+    NotQueued,
     /// The name is taken by this machine.
     #[error("name already taken")]
     AlreadyStarted(MachineId),
     /// The name is not registered.
     #[error("no such name")]
     NoSuchName,
+    /// The id names no machine now.
+    #[error("no such machine")]
+    NoSuchMachine,
+    /// The machine has not ended, so it is not removed.
+    #[error("not stopped")]
+    NotStopped,
     /// There are as many machines as there may be.
     #[error("table full")]
     Full,
+    /// The name is empty, or too long.
+    #[error("bad name")]
+    BadName,
 }
 
 impl Refusal {
@@ -52,9 +64,13 @@ impl Refusal {
             Refusal::Exhausted => 3,
             Refusal::Moment => 4,
             Refusal::NotPossible => 5,
+            Refusal::NotQueued => 6,
             Refusal::AlreadyStarted(_) => 7,
             Refusal::NoSuchName => 8,
+            Refusal::NoSuchMachine => 9,
+            Refusal::NotStopped => 10,
             Refusal::Full => 11,
+            Refusal::BadName => 12,
         }
     }
 }

@@ -152,9 +152,13 @@ fn refusals_have_numbers_and_texts(rt: HostRuntime) {
         (Refusal::Exhausted, 3, "too few numbers left"),
         (Refusal::Moment, 4, "moment out of range"),
         (Refusal::NotPossible, 5, "not possible"),
+        (Refusal::NotQueued, 6, "token not outstanding"),
         (Refusal::AlreadyStarted(MACHINE), 7, "name already taken"),
         (Refusal::NoSuchName, 8, "no such name"),
+        (Refusal::NoSuchMachine, 9, "no such machine"),
+        (Refusal::NotStopped, 10, "not stopped"),
         (Refusal::Full, 11, "table full"),
+        (Refusal::BadName, 12, "bad name"),
     ] {
         assert_eq!(rt; refusal.number(), number);
         assert_eq!(rt; text_of(&rt, rt.alloc(), refusal).as_str(), text);

@@ -11,22 +11,23 @@ use Rattle.st_core.specs.declared.command.Command.TheVariants as command
 use Rattle.st_core.specs.Callbacks.{Callbacks}
 use Rattle.st_core.specs.MachineState.{Machine}
 use Rattle.st_core.specs.Run.{Meets}
-use Rattle.st_pool_core.specs.declared.outstanding.Outstanding.{Outstanding}
+use Rattle.st_scheduled.specs.declared.outstanding.Outstanding.{Outstanding}
 use Rattle.st_pool_core.specs.declared.step.Step.{Step}
 use Rattle.st_pool_core.specs.declared.step.Step.TheVariants.{Post, Tick, Give, Take, Turn, PutBack, Drop, Stop, Reply, Collect}
-use Rattle.st_pool_core.specs.declared.step_answer.StepAnswer.{StepAnswer}
-use Rattle.st_pool_core.specs.PoolState.{same_id, has_wake, is_callers, ScheduledMachine, PoolState, id_of, machine_of, changed_for, OneEach, token_of, is_token_of, is_with_callers_of, is_outstanding, is_with_callers, moved}
+use Rattle.st_scheduled.specs.declared.step_answer.StepAnswer.{StepAnswer}
+use Rattle.st_scheduled.specs.ScheduledMachine.{same_id, has_wake, is_callers, ScheduledMachine, id_of, token_of, is_token_of, is_with_callers_of, moved, has_work, one_if, HasTokenForWork}
+use Rattle.st_pool_core.specs.PoolState.{PoolState, machine_of, changed_for, OneEach, is_outstanding, is_with_callers}
 use Rattle.st_pool_core.specs.Queues.{has_lane, first_in, hand_in, is_free, pushed, popped, handed, taken, take_of}
-use Rattle.st_pool_core.specs.Serving.{is_turn, has_work, issued, scheduled_at_first, told_on, served_on}
+use Rattle.st_scheduled.specs.Serving.{is_turn, issued, scheduled_at_first, told_on, served_on}
 use Rattle.st_pool_core.specs.Step.{give_of, take_step_of, put_back_of, drop_of, with_served, tell_found, tell_of, turn_of_hand, step_in, takes_memory, without_memory, DoesStep}
 use Rattle.st_pool_core.specs.Opening.{idle_workers, opened}
 use Rattle.st_pool_core.specs.Play.{Plays}
-use Rattle.st_pool_core.specs.Balance.{total, one_if, times_with, times_in_queues, times_with_callers, times_in, HasTokenForWork, IsBalanced}
+use Rattle.st_pool_core.specs.Balance.{total, times_with, times_in_queues, times_with_callers, times_in, IsBalanced}
 use Rattle.st_pool_core.proofs.PlacedTokens.{Matches, changed_balanced, requeued, HasToken, token_counts, callers_count, not_callers_count, moved_has, moved_for_work, given_token, held_token}
-use Rattle.st_pool_core.proofs.TokensCompared.{some_is, same_id_self, and_false}
+use Rattle.st_scheduled.proofs.TokensCompared.{some_is, same_id_self, and_false}
 use Rattle.st_pool_core.proofs.QueueCounts.{pushed_times, popped_times, filled_times, emptied_times, popped_free, pushed_hand, hand_lane, two_hands}
 use Rattle.st_pool_core.proofs.MachineLookups.{found_id, found_all, times_outstanding, outstanding_times}
-use Rattle.st_pool_core.proofs.ServedMachines.{told_follows, Serves, served_serves, issued_for_work}
+use Rattle.st_scheduled.proofs.ServedMachines.{told_follows, Serves, served_serves, first_for_work}
 
 -- ---- what a pool has at first
 -- idle workers have no token
@@ -56,10 +57,6 @@ module _ {M S D C : Type 0} where
   all_with_callers token [] = refl
   all_with_callers token (core ∷ cores) =
       omega (arith, first_with_callers token.wake (same_id token.machine core.machine.id) (has_work core), all_with_callers token cores)
-
-  -- each machine that has work has a token
-  first_for_work : (core : Machine M S D C) → HasTokenForWork (scheduled_at_first core)
-  first_for_work core = λ runs. issued_for_work 0 (has_work core) None (λ none. cc)
 
   -- a pool is balanced as it begins
   pub opened-balanced : (workers : ℕ) (cores : List (Machine M S D C)) → OneEach (map scheduled_at_first cores) → IsBalanced (opened workers cores)

@@ -8,11 +8,13 @@ use Rattle.st_core.specs.Callbacks.{Callbacks}
 use Rattle.st_core.specs.Run.{Runs}
 use Rattle.st_core.proofs.RunLemmas.{run_on}
 use Rattle.st_pool_core.specs.declared.step.Step.{Step}
-use Rattle.st_pool_core.specs.declared.step_answer.StepAnswer.{StepAnswer}
+use Rattle.st_scheduled.specs.declared.step_answer.StepAnswer.{StepAnswer}
 use Rattle.st_pool_core.specs.Balance.{IsBalanced}
 use Rattle.st_pool_core.specs.Play.{Told, taken_for, told_in, entry_of, left_by, history_of, Plays, WentThrough, EachWentThroughItsOwn}
-use Rattle.st_pool_core.specs.PoolState.{ScheduledMachine, PoolState, machine_of}
-use Rattle.st_pool_core.specs.Step.{is_refused, step_in, DoesStep}
+use Rattle.st_scheduled.specs.ScheduledMachine.{ScheduledMachine}
+use Rattle.st_pool_core.specs.PoolState.{PoolState, machine_of}
+use Rattle.st_scheduled.specs.Answered.{is_refused}
+use Rattle.st_pool_core.specs.Step.{step_in, DoesStep}
 use Rattle.st_pool_core.proofs.RefusedLemmas.{step_refused}
 use Rattle.st_pool_core.proofs.WentLemmas.{commands_in, answers_in, WentBy, went_nowhere, defined_went}
 

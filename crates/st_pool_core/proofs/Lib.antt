@@ -1,15 +1,10 @@
 -- Lemmas on tokens, run queues and hands, on machines and on what they are told, and on pools.
-pub mod TokensCompared
 pub mod QueueLemmas
 pub mod QueueCounts
-pub mod LeftStates
 pub mod IdLemmas
 pub mod MachineLookups
 pub mod MachineLemmas
 pub mod PlacedTokens
-pub mod ServingLemmas
-pub mod ServedMachines
-pub mod ToldLemmas
 pub mod RefusedLemmas
 pub mod WentLemmas
 pub mod CommandLemmas

@@ -6,8 +6,9 @@ use Rattle.std.proofs.lemmas.Bool.{cases_Bool, ltb-false}
 use Rattle.std.proofs.lemmas.List.Quantifiers.{position-Some}
 use Rattle.st_events.specs.declared.token.Token.{Token}
 use Rattle.st_events.specs.declared.machine_id.MachineId.{MachineId}
-use Rattle.st_pool_core.specs.PoolState.{ScheduledMachine, same_id, id_of, machine_of, place_of, changed_for, is_callers, is_with_callers}
-use Rattle.st_pool_core.proofs.TokensCompared.{same_id_self}
+use Rattle.st_scheduled.specs.ScheduledMachine.{ScheduledMachine, same_id, id_of, is_callers}
+use Rattle.st_pool_core.specs.PoolState.{machine_of, place_of, changed_for, is_with_callers}
+use Rattle.st_scheduled.proofs.TokensCompared.{same_id_self}
 use Rattle.st_pool_core.proofs.MachineLookups.{found_id}
 
 module _ {M S D C : Type 0} where

@@ -10,10 +10,11 @@ use Rattle.st_events.specs.declared.machine_id.MachineId.{MachineId}
 use Rattle.st_events.specs.declared.token.Token.{Token}
 use Rattle.st_core.specs.MachineState.{Machine}
 use Rattle.st_pool_core.specs.Opening.{core_id, idle_workers}
-use Rattle.st_pool_core.specs.PoolState.{ScheduledMachine, OneEach, same_id, id_of, machine_of, callers_token, with_callers_in}
+use Rattle.st_scheduled.specs.ScheduledMachine.{ScheduledMachine, same_id, id_of, callers_token}
+use Rattle.st_pool_core.specs.PoolState.{OneEach, machine_of, with_callers_in}
 use Rattle.st_pool_core.specs.Queues.{WorkerState}
-use Rattle.st_pool_core.specs.Serving.{scheduled_at_first}
-use Rattle.st_pool_core.proofs.TokensCompared.{same_id_self, ids_same}
+use Rattle.st_scheduled.specs.Serving.{scheduled_at_first}
+use Rattle.st_scheduled.proofs.TokensCompared.{same_id_self, ids_same}
 
 -- one more idle worker
 idle_next : (count : ℕ) → idle_workers count ++ record { queue = []; hand = None } ∷ [] ≡ idle_workers (suc count)

@@ -4,11 +4,12 @@ use Rattle.std.specs.Option.{option_map}
 use Rattle.std.proofs.lemmas.Bool.{and_parts, eqb-true}
 use Rattle.st_events.specs.declared.machine_id.MachineId.{MachineId}
 use Rattle.st_events.specs.declared.token.Token.{Token}
-use Rattle.st_pool_core.specs.declared.outstanding.Outstanding.{Outstanding}
-use Rattle.st_pool_core.specs.PoolState.{same_id, same_token, has_wake, is_callers, ScheduledMachine, PoolState, id_of, machine_of, changed_for, is_token_of, is_with_callers_of, holds_of, is_outstanding, is_with_callers, moved}
+use Rattle.st_scheduled.specs.declared.outstanding.Outstanding.{Outstanding}
+use Rattle.st_scheduled.specs.ScheduledMachine.{same_id, has_wake, is_callers, ScheduledMachine, id_of, is_token_of, is_with_callers_of, moved, same_token, one_if, HasTokenForWork}
+use Rattle.st_pool_core.specs.PoolState.{PoolState, machine_of, changed_for, holds_of, is_outstanding, is_with_callers}
 use Rattle.st_pool_core.specs.Queues.{Queues, hand_in}
-use Rattle.st_pool_core.specs.Balance.{one_if, times_in_queues, times_with_callers, times_in, HasTokenForWork, IsBalanced}
-use Rattle.st_pool_core.proofs.TokensCompared.{some_is, numbers_flip, same_token_self, and_false}
+use Rattle.st_pool_core.specs.Balance.{times_in_queues, times_with_callers, times_in, IsBalanced}
+use Rattle.st_scheduled.proofs.TokensCompared.{some_is, numbers_flip, same_token_self, and_false}
 use Rattle.st_pool_core.proofs.QueueCounts.{emptied_times}
 use Rattle.st_pool_core.proofs.MachineLookups.{found_id, found_counted, total_changed, changed_all, changed_one_each, outstanding_times}
 

@@ -7,10 +7,12 @@ use Rattle.st_events.specs.declared.refusal.Refusal.TheVariants.{NotPossible}
 use Rattle.st_core.specs.declared.command.Command.{Command}
 use Rattle.st_core.specs.Callbacks.{Callbacks}
 use Rattle.st_pool_core.specs.declared.step.Step.TheVariants as step
-use Rattle.st_pool_core.specs.declared.step_answer.StepAnswer.{StepAnswer}
-use Rattle.st_pool_core.specs.PoolState.{ScheduledMachine, PoolState, machine_of, changed_for}
+use Rattle.st_scheduled.specs.declared.step_answer.StepAnswer.{StepAnswer}
+use Rattle.st_scheduled.specs.ScheduledMachine.{ScheduledMachine}
+use Rattle.st_pool_core.specs.PoolState.{PoolState, machine_of, changed_for}
 use Rattle.st_pool_core.specs.Queues.{hand_in, handed}
-use Rattle.st_pool_core.specs.Serving.{content_of, refused_with, TellsOne, ServesOne}
+use Rattle.st_scheduled.specs.Serving.{content_of, refused_with}
+use Rattle.st_pool_core.specs.Machines.{TellsOne, ServesOne}
 use Rattle.st_pool_core.specs.Step.{TellsIn, DoesStep}
 use Rattle.st_pool_core.specs.Balance.{IsBalanced}
 use Rattle.st_pool_core.proofs.IdLemmas.{changed_same}

@@ -3,10 +3,10 @@ use Rattle.std.proofs.Common.{◌≡◌, ◌≢◌, ℕ, zero, suc, ◌+◌, ◌
 use Rattle.std.proofs.lemmas.Option.{slice_get_cases, slice_get_within}
 use Rattle.std.proofs.lemmas.Bool.{cases_Bool, lt-ltb}
 use Rattle.st_events.specs.declared.token.Token.{Token}
-use Rattle.st_pool_core.specs.PoolState.{same_token}
+use Rattle.st_scheduled.specs.ScheduledMachine.{same_token, one_if}
 use Rattle.st_pool_core.specs.Queues.{WorkerState, Queues, changed_at, without_first, first_of, with_last, with_rest, with_hand, first_at, hand_at, is_free_at, worker_in, has_lane, first_in, hand_in, is_free, with_worker, pushed, popped, handed}
-use Rattle.st_pool_core.specs.Balance.{total, one_if, times, times_in_hand, times_with, times_in_queues}
-use Rattle.st_pool_core.proofs.TokensCompared.{some_is, same_token_self}
+use Rattle.st_pool_core.specs.Balance.{total, times, times_in_hand, times_with, times_in_queues}
+use Rattle.st_scheduled.proofs.TokensCompared.{some_is, same_token_self}
 
 module _ {X : Type 0} where
   -- ---- one of a list becomes another

@@ -9,16 +9,18 @@ use Rattle.st_core.specs.declared.command.Command.TheVariants as command
 use Rattle.st_core.specs.Callbacks.{Callbacks}
 use Rattle.st_pool_core.specs.declared.step.Step.{Step}
 use Rattle.st_pool_core.specs.declared.step.Step.TheVariants.{Post, Tick, Give, Take, Turn, PutBack, Drop, Stop, Reply, Collect}
-use Rattle.st_pool_core.specs.declared.step_answer.StepAnswer.{StepAnswer}
-use Rattle.st_pool_core.specs.declared.step_answer.StepAnswer.TheVariants.{Moved}
+use Rattle.st_scheduled.specs.declared.step_answer.StepAnswer.{StepAnswer}
+use Rattle.st_scheduled.specs.declared.step_answer.StepAnswer.TheVariants.{Moved}
 use Rattle.st_pool_core.specs.Balance.{IsBalanced}
-use Rattle.st_pool_core.specs.PoolState.{ScheduledMachine, PoolState, machine_of, changed_for, is_with_callers}
+use Rattle.st_scheduled.specs.ScheduledMachine.{ScheduledMachine}
+use Rattle.st_pool_core.specs.PoolState.{PoolState, machine_of, changed_for, is_with_callers}
 use Rattle.st_pool_core.specs.Queues.{Queues, has_lane, hand_in, first_in, is_free, taken, take_of, handed}
-use Rattle.st_pool_core.specs.Serving.{refused_with, told_on, served_on}
-use Rattle.st_pool_core.specs.Step.{is_refused, take_step_of, put_back_of, drop_of, with_served, tell_found, serve_found, turn_of_hand, step_in}
+use Rattle.st_scheduled.specs.Serving.{refused_with, told_on, served_on}
+use Rattle.st_scheduled.specs.Answered.{is_refused}
+use Rattle.st_pool_core.specs.Step.{take_step_of, put_back_of, drop_of, with_served, tell_found, serve_found, turn_of_hand, step_in}
 use Rattle.st_pool_core.proofs.PlacedTokens.{hand_has_token}
 use Rattle.st_pool_core.proofs.IdLemmas.{changed_same}
-use Rattle.st_pool_core.proofs.ToldLemmas.{refused_told, refused_served}
+use Rattle.st_scheduled.proofs.ToldLemmas.{refused_told, refused_served}
 
 -- ---- a refused command changes nothing
 -- nothing was there to be taken

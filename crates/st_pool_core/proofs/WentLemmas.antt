@@ -10,16 +10,18 @@ use Rattle.st_core.specs.Callbacks.{Callbacks}
 use Rattle.st_core.specs.Run.{step_on}
 use Rattle.st_pool_core.specs.declared.step.Step.{Step}
 use Rattle.st_pool_core.specs.declared.step.Step.TheVariants.{Post, Tick, Give, Take, Turn, PutBack, Drop, Stop, Reply, Collect}
-use Rattle.st_pool_core.specs.declared.step_answer.StepAnswer.{StepAnswer}
-use Rattle.st_pool_core.specs.Play.{Told, turn_for, taken_for, answered_by, entry_of, WentThrough}
-use Rattle.st_pool_core.specs.PoolState.{ScheduledMachine, PoolState, machine_of, changed_for, is_with_callers, moved, same_id, id_of}
+use Rattle.st_scheduled.specs.declared.step_answer.StepAnswer.{StepAnswer}
+use Rattle.st_pool_core.specs.Play.{Told, turn_for, taken_for, entry_of, WentThrough}
+use Rattle.st_scheduled.specs.Answered.{answered_by}
+use Rattle.st_scheduled.specs.ScheduledMachine.{ScheduledMachine, moved, same_id, id_of}
+use Rattle.st_pool_core.specs.PoolState.{PoolState, machine_of, changed_for, is_with_callers}
 use Rattle.st_pool_core.specs.Queues.{has_lane, hand_in}
-use Rattle.st_pool_core.specs.Serving.{is_turn, told_on, served_on}
+use Rattle.st_scheduled.specs.Serving.{is_turn, told_on, served_on}
 use Rattle.st_pool_core.specs.Step.{put_back_of, drop_of, tell_found, serve_found, turn_of_hand, step_in}
 use Rattle.st_pool_core.proofs.IdLemmas.{changed_found, changed_other}
-use Rattle.st_pool_core.proofs.TokensCompared.{ids_same}
+use Rattle.st_scheduled.proofs.TokensCompared.{ids_same}
 use Rattle.st_pool_core.proofs.MachineLookups.{found_id}
-use Rattle.st_pool_core.proofs.ToldLemmas.{IsTaken, taken_id, only_turns, told_on_taken, served_on_taken}
+use Rattle.st_scheduled.proofs.ToldLemmas.{IsTaken, taken_id, only_turns, told_on_taken, served_on_taken}
 
 -- ---- the commands and answers of entries
 -- the commands of entries

@@ -1,7 +1,7 @@
 -- What a pool is, what each step of it answers and leaves, and what is so after any list of steps.
 pub mod Queues
 pub mod PoolState
-pub mod Serving
+pub mod Machines
 pub mod Step
 pub mod Play
 pub mod Opening

@@ -6,7 +6,7 @@ use Rattle.st_events.specs.declared.machine_id.MachineId.{MachineId}
 use Rattle.st_core.specs.MachineState.{Machine}
 use Rattle.st_pool_core.specs.PoolState.{PoolState, OneEach}
 use Rattle.st_pool_core.specs.Queues.{WorkerState}
-use Rattle.st_pool_core.specs.Serving.{scheduled_at_first}
+use Rattle.st_scheduled.specs.Serving.{scheduled_at_first}
 
 -- so many workers, with empty run queues and empty hands
 abbrev pub idle_workers : ℕ → List WorkerState

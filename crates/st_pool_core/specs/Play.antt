@@ -1,34 +1,21 @@
 -- A list of steps, from the pool before it to the pool after it, and the commands of one machine in it.
-use Rattle.std.specs.Prelude.{◌≡◌, ℕ, if◌then◌else◌, Option, Some, None, Ok, List, [], ◌∷◌, ◌++◌, map}
+use Rattle.std.specs.Prelude.{◌≡◌, ℕ, if◌then◌else◌, Option, Some, None, List, [], ◌∷◌, ◌++◌, map}
 use Rattle.std.specs.Option.{option_map}
 use Rattle.st_events.specs.declared.machine_id.MachineId.{MachineId}
 use Rattle.st_events.specs.declared.token.Token.{Token}
 use Rattle.st_core.specs.declared.answer.Answer.{Answer}
-use Rattle.st_core.specs.declared.answer.Answer.TheVariants as answer
 use Rattle.st_core.specs.declared.command.Command.{Command}
 use Rattle.st_core.specs.declared.command.Command.TheVariants as command
-use Rattle.st_core.specs.declared.turned.Turned.TheVariants.{Reported}
 use Rattle.st_core.specs.Callbacks.{Callbacks}
 use Rattle.st_core.specs.Run.{Runs}
 use Rattle.st_pool_core.specs.declared.step.Step.{Step}
 use Rattle.st_pool_core.specs.declared.step.Step.TheVariants.{Post, Tick, Give, Take, Turn, PutBack, Drop, Stop, Reply, Collect}
-use Rattle.st_pool_core.specs.declared.step_answer.StepAnswer.{StepAnswer}
-use Rattle.st_pool_core.specs.declared.step_answer.StepAnswer.TheVariants.{Posted, Ticked, Moved, Turned, Rested, Stopped, Replied, Collected, Refused}
-use Rattle.st_pool_core.specs.PoolState.{ScheduledMachine, PoolState, machine_of, same_id}
+use Rattle.st_scheduled.specs.declared.step_answer.StepAnswer.{StepAnswer}
+use Rattle.st_scheduled.specs.ScheduledMachine.{ScheduledMachine, same_id}
+use Rattle.st_pool_core.specs.PoolState.{PoolState, machine_of}
 use Rattle.st_pool_core.specs.Queues.{hand_in}
-use Rattle.st_pool_core.specs.Step.{is_refused, step_in, DoesStep}
-
--- what the machine of a step answered, if it was told a command and took it
-abbrev pub answered_by : {S C : Type 0} → StepAnswer S C → Option (Answer S C)
-answered_by (Posted number wake) = Some (answer.Post (Ok number))
-answered_by (Ticked expired wake) = Some (answer.Tick (Ok expired))
-answered_by (Turned report) = Some (answer.Turn (Ok (Reported report)))
-answered_by (Stopped word) = Some (answer.Stop (Ok word))
-answered_by (Replied taken) = Some (answer.Reply taken)
-answered_by (Collected collected) = Some (answer.Collect collected)
-answered_by Moved = None
-answered_by Rested = None
-answered_by (Refused refused) = None
+use Rattle.st_scheduled.specs.Answered.{answered_by, is_refused}
+use Rattle.st_pool_core.specs.Step.{step_in, DoesStep}
 
 -- a command for a machine
 pub record Told (C : Type 0) : Type 0 where

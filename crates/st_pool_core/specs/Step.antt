@@ -9,11 +9,12 @@ use Rattle.st_core.specs.Callbacks.{Callbacks}
 use Rattle.st_core.specs.Run.{Meets}
 use Rattle.st_pool_core.specs.declared.step.Step.{Step}
 use Rattle.st_pool_core.specs.declared.step.Step.TheVariants.{Post, Tick, Give, Take, Turn, PutBack, Drop, Stop, Reply, Collect}
-use Rattle.st_pool_core.specs.declared.step_answer.StepAnswer.{StepAnswer}
-use Rattle.st_pool_core.specs.declared.step_answer.StepAnswer.TheVariants.{Posted, Ticked, Moved, Turned, Rested, Stopped, Replied, Collected, Refused}
-use Rattle.st_pool_core.specs.PoolState.{ScheduledMachine, PoolState, machine_of, changed_for, is_with_callers, moved}
+use Rattle.st_scheduled.specs.declared.step_answer.StepAnswer.{StepAnswer}
+use Rattle.st_scheduled.specs.declared.step_answer.StepAnswer.TheVariants.{Moved}
+use Rattle.st_scheduled.specs.ScheduledMachine.{ScheduledMachine, moved}
+use Rattle.st_pool_core.specs.PoolState.{PoolState, machine_of, changed_for, is_with_callers}
 use Rattle.st_pool_core.specs.Queues.{has_lane, hand_in, pushed, handed, take_of}
-use Rattle.st_pool_core.specs.Serving.{content_of, refused_with, takes_memory_as, is_turn as is_turn_command, told_on, served_on}
+use Rattle.st_scheduled.specs.Serving.{content_of, refused_with, takes_memory_as, is_turn as is_turn_command, told_on, served_on}
 
 -- the content that a step holds, if it holds one
 abbrev pub content_in : {C : Type 0} → Step C → Option C
@@ -42,18 +43,6 @@ is_turn _ = false
 -- whether a step with this answer takes memory
 abbrev pub takes_memory : {S C : Type 0} → Step C → StepAnswer S C → Bool
 takes_memory step answer = takes_memory_as (is_turn step) (is_put step) answer
-
--- whether a step was refused
-abbrev pub is_refused : {S C : Type 0} → StepAnswer S C → Bool
-is_refused (Refused refused) = true
-is_refused (Posted number wake) = false
-is_refused (Ticked expired wake) = false
-is_refused Moved = false
-is_refused (Turned report) = false
-is_refused Rested = false
-is_refused (Stopped word) = false
-is_refused (Replied taken) = false
-is_refused (Collected collected) = false
 
 -- what a step answers that found no memory: the content comes back; of one that takes none it is never said
 abbrev pub without_memory : {S C : Type 0} → Step C → StepAnswer S C

@@ -6,13 +6,14 @@ ghost use Rattle.st_events.specs.declared.token.Token.{Token};
 ghost use Rattle.st_core.specs.Callbacks.{Callbacks};
 ghost use Rattle.st_core.specs.MachineState.{Machine};
 ghost use Rattle.st_pool_core.specs.declared.step.Step.{Step};
-ghost use Rattle.st_pool_core.specs.declared.step_answer.StepAnswer.{StepAnswer};
+ghost use Rattle.st_scheduled.specs.declared.step_answer.StepAnswer.{StepAnswer};
 ghost use Rattle.st_pool_core.specs.Balance.{IsBalanced, times_in};
 ghost use Rattle.st_pool_core.specs.Opening.{opened};
 ghost use Rattle.st_pool_core.specs.Play.{Plays, EachWentThroughItsOwn};
-ghost use Rattle.st_pool_core.specs.PoolState.{ScheduledMachine, PoolState, OneEach, machine_of, token_of};
+ghost use Rattle.st_scheduled.specs.ScheduledMachine.{ScheduledMachine, token_of, has_work};
+ghost use Rattle.st_pool_core.specs.PoolState.{PoolState, OneEach, machine_of};
 ghost use Rattle.st_pool_core.specs.Queues.{hand_in};
-ghost use Rattle.st_pool_core.specs.Serving.{has_work, scheduled_at_first};
+ghost use Rattle.st_scheduled.specs.Serving.{scheduled_at_first};
 
 use crate::PoolWorld;
 use st_events::Module;

@@ -5,13 +5,10 @@
 mod laws;
 mod machines;
 mod opening;
-mod outstanding;
 mod pool;
 mod pool_world;
 mod run_queues;
-mod scheduled_machine;
 mod step;
-mod step_answer;
 mod token_queue;
 mod worker;
 
@@ -25,5 +22,5 @@ pub use st_core::{
     Report, Tag,
 };
 pub use st_events::Token;
+pub use st_scheduled::StepAnswer;
 pub use step::Step;
-pub use step_answer::StepAnswer;

@@ -2,13 +2,15 @@
 ghost use Rattle.std.specs.Prelude.{◌≡◌, ◌<◌, length, map, None, IfOk, IfErr, IfSome, IfNone, option_copied};
 ghost use Rattle.st_core.specs.Callbacks.{callbacks_of};
 ghost use Rattle.st_pool_core.specs.Opening.{core_id};
-ghost use Rattle.st_pool_core.specs.PoolState.{place_of, machine_of, changed_for, is_with_callers, with_callers_in, moved};
-ghost use Rattle.st_pool_core.specs.Serving.{scheduled_at_first, TellsOne, ServesOne};
+ghost use Rattle.st_pool_core.specs.PoolState.{place_of, machine_of, changed_for, is_with_callers, with_callers_in};
+ghost use Rattle.st_scheduled.specs.ScheduledMachine.{moved};
+ghost use Rattle.st_scheduled.specs.Serving.{scheduled_at_first};
+ghost use Rattle.st_pool_core.specs.Machines.{TellsOne, ServesOne};
 
-use crate::scheduled_machine::{AnswerOf, ScheduledMachine};
 use indexmap::IndexSet;
 use st_core::{Command, Core};
 use st_events::{MachineId, Module, PlainList, Token};
+use st_scheduled::{AnswerOf, ScheduledMachine, StepAnswer};
 use std::alloc::{AllocError, Global};
 use std::marker::Model;
 
@@ -21,7 +23,7 @@ pub(crate) struct Machines<M: Module> {
 
 impl<M: Module> Model for Machines<M> {
     ghost use Rattle.std.specs.Prelude.{◌≡◌, List, map};
-    ghost use Rattle.st_pool_core.specs.PoolState.{ScheduledMachine, id_of};
+    ghost use Rattle.st_scheduled.specs.ScheduledMachine.{ScheduledMachine, id_of};
 
     ghost Value = { List (ScheduledMachine M M.State M.Data M.Content) };
 
@@ -115,7 +117,7 @@ impl<M: Module> Machines<M> {
     {
         let place = self.place_of(id)?;
         let machine = &mut self.all[place];
-        let answer = machine.serve(now);
+        let answer = StepAnswer::served(machine.serve(now));
         let keeps = machine.has_token();
         Some((answer, keeps))
     }

@@ -2,7 +2,7 @@
 ghost use Rattle.std.specs.Prelude.{◌≡◌, true, map, MatchOption, IfOk, IfErr};
 ghost use Rattle.st_pool_core.specs.Opening.{core_id, may_have, opened, IsWhyNotOpened};
 ghost use Rattle.st_pool_core.specs.PoolState.{OneEach};
-ghost use Rattle.st_pool_core.specs.Serving.{scheduled_at_first};
+ghost use Rattle.st_scheduled.specs.Serving.{scheduled_at_first};
 
 use crate::machines::Machines;
 use crate::pool::Pool;

@@ -4,15 +4,15 @@ ghost use Rattle.st_events.specs.declared.refusal.Refusal.TheVariants.{NoMemory,
 ghost use Rattle.st_core.specs.Callbacks.{callbacks_of};
 ghost use Rattle.st_pool_core.specs.declared.step.Step.TheVariants as step;
 ghost use Rattle.st_pool_core.specs.Balance.{IsBalanced};
-ghost use Rattle.st_pool_core.specs.Serving.{refused_with};
+ghost use Rattle.st_scheduled.specs.Serving.{refused_with};
 ghost use Rattle.st_pool_core.specs.Step.{TellsIn, DoesStep};
 
+use crate::Step;
 use crate::machines::Machines;
 use crate::run_queues::RunQueues;
-use crate::scheduled_machine::{AnswerOf, content_of};
-use crate::{Step, StepAnswer};
 use st_core::Command;
 use st_events::{MachineId, Module, Refusal, Token};
+use st_scheduled::{AnswerOf, StepAnswer, content_of};
 use std::marker::Model;
 
 /// The machines of a pool, and where their tokens stand.

@@ -5,10 +5,12 @@ ghost use Rattle.st_events.specs.declared.refusal.Refusal.TheVariants.{NoMemory}
 ghost use Rattle.st_core.specs.Callbacks.{callbacks_of};
 ghost use Rattle.st_pool_core.specs.Opening.{may_have, opened, IsWhyNotOpened};
 ghost use Rattle.st_pool_core.specs.Play.{Plays, EachWentThroughItsOwn};
-ghost use Rattle.st_pool_core.specs.PoolState.{OneEach, machine_of, core_of, count_of, token_at, is_with_callers, with_callers_in};
+ghost use Rattle.st_pool_core.specs.PoolState.{OneEach, machine_of, token_at, is_with_callers, with_callers_in};
+ghost use Rattle.st_scheduled.specs.ScheduledMachine.{core_of, count_of};
 ghost use Rattle.st_pool_core.specs.Queues.{hand_in, queue_in};
-ghost use Rattle.st_pool_core.specs.Serving.{scheduled_at_first};
-ghost use Rattle.st_pool_core.specs.Step.{is_refused, DoesStep};
+ghost use Rattle.st_scheduled.specs.Serving.{scheduled_at_first};
+ghost use Rattle.st_scheduled.specs.Answered.{is_refused};
+ghost use Rattle.st_pool_core.specs.Step.{DoesStep};
 
 use crate::pool::Pool;
 use crate::{Step, StepAnswer};

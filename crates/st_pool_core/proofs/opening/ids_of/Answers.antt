@@ -2,7 +2,7 @@ use Rattle.std.proofs.Common.{◌≡◌, true, false, map, arith, sym, ap, ◌�
 use Rattle.std.proofs.lemmas.List.{take_all}
 use Rattle.std.specs.HashSet.{contains}
 use Rattle.st_pool_core.specs.Opening.{core_id}
-use Rattle.st_pool_core.specs.PoolState.{same_id}
+use Rattle.st_scheduled.specs.ScheduledMachine.{same_id}
 use Rattle.st_pool_core.proofs.OpeningLemmas.{twice, distinct_each, ids_next, not_false, not_true}
 use Rattle.st_pool_core.proofs.opening.ids_of.Goals as goal
 

@@ -1,7 +1,7 @@
 use Rattle.std.proofs.Common.{◌≡◌, map, take}
 use Rattle.std.specs.HashSet.{IsUnique}
 use Rattle.st_pool_core.specs.Opening.{core_id}
-use Rattle.st_pool_core.specs.PoolState.{same_id}
+use Rattle.st_scheduled.specs.ScheduledMachine.{same_id}
 use Rattle.st_pool_core.proofs.opening.ids_of.Given as goal
 
 -- the ids so far, no two of which are one

@@ -1,5 +1,5 @@
 use Rattle.std.proofs.Common.{refl, sym, ◌∙◌}
-use Rattle.st_pool_core.specs.PoolState.{moved}
+use Rattle.st_scheduled.specs.ScheduledMachine.{moved}
 use Rattle.st_pool_core.proofs.MachineLemmas.{place_is, place_within, changed_there, none_changed, no_place, ids_stay}
 use Rattle.st_pool_core.proofs.machines.Machines.move_token.Goals as goal
 

@@ -4,7 +4,7 @@ use Rattle.std.proofs.lemmas.List.{map-append}
 use Rattle.std.specs.Prelude.{◌∷◌}
 use Rattle.std.specs.Vec.Iter.{into_iter_items}
 use Rattle.st_core.proofs.RunLemmas.{all_taken}
-use Rattle.st_pool_core.specs.Serving.{scheduled_at_first}
+use Rattle.st_scheduled.specs.Serving.{scheduled_at_first}
 use Rattle.st_pool_core.proofs.OpeningLemmas.{first_ids}
 use Rattle.st_pool_core.proofs.machines.Machines.new.Goals as goal
 

@@ -1,6 +1,6 @@
 use Rattle.std.proofs.Common.{◌≡◌, ◌++◌, length, map, vec_len, vec_capacity}
 use Rattle.std.specs.Vec.Iter.{into_iter_items}
-use Rattle.st_pool_core.specs.Serving.{scheduled_at_first}
+use Rattle.st_scheduled.specs.Serving.{scheduled_at_first}
 use Rattle.st_pool_core.proofs.machines.Machines.new.Given as goal
 
 -- the machines so far are taken in, and there is room for all

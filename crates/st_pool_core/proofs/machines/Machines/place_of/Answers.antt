@@ -1,6 +1,6 @@
 use Rattle.std.proofs.Common.{sym, ap, ◌∙◌}
 use Rattle.st_pool_core.proofs.MachineLemmas.{place_is, place_within, if_some}
-use Rattle.st_pool_core.specs.PoolState.{same_id}
+use Rattle.st_scheduled.specs.ScheduledMachine.{same_id}
 use Rattle.std.specs.Prelude.{position}
 use Rattle.st_pool_core.proofs.machines.Machines.place_of.Goals as goal
 

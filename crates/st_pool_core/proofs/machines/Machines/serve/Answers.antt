@@ -10,8 +10,8 @@ returns-in_err-place-clause-missing g c =
 pub invariant_of-self : goal.invariant_of-self
 invariant_of-self g c =
     let there = place_is c.args.id c.self.inside.all.items c.in_ok-place.place (rw (← c.self.view_is) at (sym c.place_of.ensures.place ∙ c.in_ok-place.was)) in
-    ids_stay c.self.inside.ids.keys c.self.inside.all.items c.in_ok-place.place c.index_mut-machine.result.now c.serve-answer.new.self c.self.invariant
-    c.index_mut-machine.ensures.value c.serve-answer.ensures.same_id (place_within c.args.id c.self.inside.all.items c.in_ok-place.place there)
+    ids_stay c.self.inside.ids.keys c.self.inside.all.items c.in_ok-place.place c.index_mut-machine.result.now c.serve.new.self c.self.invariant
+    c.index_mut-machine.ensures.value c.serve.ensures.same_id (place_within c.args.id c.self.inside.all.items c.in_ok-place.place there)
 
 -- the machine of the id was served
 pub returns-clause-served : goal.returns-clause-served
@@ -19,9 +19,9 @@ returns-clause-served g c =
     let there = place_is c.args.id c.self.inside.all.items c.in_ok-place.place (rw (← c.self.view_is) at (sym c.place_of.ensures.place ∙ c.in_ok-place.was)) in
     rw (← c.self.view_is) (record {
       old = c.index_mut-machine.result.now;
-      after = c.serve-answer.new.self;
+      after = c.serve.new.self;
       found = machine_at c.args.id c.self.inside.all.items c.in_ok-place.place c.index_mut-machine.result.now there c.index_mut-machine.ensures.value;
-      serves = c.serve-answer.ensures.served;
+      serves = rw c.served-answer.ensures c.serve.ensures.served;
       token = c.has_token-keeps.ensures;
-      others = changed_there c.args.id c.self.inside.all.items c.in_ok-place.place _ c.index_mut-machine.result.now c.serve-answer.new.self there c.index_mut-machine.ensures.value refl;
+      others = changed_there c.args.id c.self.inside.all.items c.in_ok-place.place _ c.index_mut-machine.result.now c.serve.new.self there c.index_mut-machine.ensures.value refl;
     })

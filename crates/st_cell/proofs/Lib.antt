@@ -1,0 +1,5 @@
+-- Lemmas on journals, on what calls leave, and on cells.
+pub mod CallLemmas
+pub mod JournalLemmas
+pub mod CellLemmas
+pub mod PostLemmas

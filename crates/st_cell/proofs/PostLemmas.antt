@@ -1,0 +1,102 @@
+-- What each call does to the posts of ports: a post that is taken is one more of its port, and every other call posts nothing.
+use Rattle.std.proofs.Common.{◌≡◌, ℕ, inl, inr, Bool, true, false, if◌then◌else◌, Option, Some, None, [], ◌∷◌, ◌++◌, refl, sym, ap, ◌∙◌, eq-eqb}
+use Rattle.std.specs.Prelude.{Result, Ok, Err, IfOk}
+use Rattle.st_events.specs.declared.refused.Refused.{Refused}
+use Rattle.st_events.specs.declared.token.Token.{Token}
+use Rattle.st_core.specs.declared.answer.Answer.TheVariants as answer
+use Rattle.st_core.specs.declared.command.Command.{Command}
+use Rattle.st_core.specs.declared.command.Command.TheVariants as command
+use Rattle.st_core.specs.declared.entry.Entry.{Entry}
+use Rattle.st_core.specs.Callbacks.{Callbacks}
+use Rattle.st_scheduled.specs.declared.posted.Posted.{Posted}
+use Rattle.st_scheduled.specs.declared.step_answer.StepAnswer.{StepAnswer}
+use Rattle.st_scheduled.specs.declared.step_answer.StepAnswer.TheVariants as step
+use Rattle.st_scheduled.specs.Answered.{posted_as, is_counted}
+use Rattle.st_scheduled.specs.ScheduledMachine.{ScheduledMachine, is_token_of}
+use Rattle.st_scheduled.specs.Serving.{told_on, served_on}
+use Rattle.st_cell.specs.declared.journal_entry.JournalEntry.{JournalEntry}
+use Rattle.st_cell.specs.declared.next.Next.{Next}
+use Rattle.st_cell.specs.declared.post.Post.{Post}
+use Rattle.st_cell.specs.Calls.{kept_answer, entry_of, counted_at, Posts, IsTold, TurnsBy, Turns}
+use Rattle.st_cell.specs.Cell.{CellState, HasPosted, HasPostedNothing}
+use Rattle.st_cell.specs.Journal.{posts_of}
+use Rattle.st_cell.proofs.CellLemmas.{none_by}
+use Rattle.st_cell.proofs.JournalLemmas.{posts-append, none_more}
+
+module _ {M S D C : Type 0} where
+  -- what is as it was has posted nothing
+  unchanged : (old new : CellState M S D C) → new ≡ old → HasPostedNothing old new
+  unchanged old new same = record {
+    ports = ap (λ (cell : CellState M S D C). cell.ports) same;
+    posts = λ port. ap (λ (cell : CellState M S D C). posts_of port cell.journal) same;
+  }
+
+  -- what has an entry of no port more, at most, has posted nothing
+  no_port : (old new : CellState M S D C) (scheduled : ScheduledMachine M S D C) (command : Command C) (said : StepAnswer S C)
+      → new ≡ record old { scheduled = scheduled; journal = old.journal ++ entry_of scheduled.count None command (kept_answer said) }
+      → HasPostedNothing old new
+  no_port old new scheduled command said is = record {
+    ports = ap (λ (cell : CellState M S D C). cell.ports) is;
+    posts = λ port. ap (λ (cell : CellState M S D C). posts_of port cell.journal) is
+        ∙ none_by port scheduled.count old.journal command (kept_answer said);
+  }
+
+  -- what has the entry of a post more has posted that
+  one_post : (old new : CellState M S D C) (port number place : ℕ) (entry : Entry) (content : C) (scheduled : ScheduledMachine M S D C)
+      → new ≡ record old {
+        scheduled = scheduled;
+        journal = old.journal ++ record { number = place; port = Some port; command = command.Post entry content; answer = answer.Post (Ok number) } ∷ [];
+        ports = counted_at port true old.ports;
+      }
+      → HasPosted port (record { number = number; entry = entry; content = content }) old new
+  one_post old new port number place entry content scheduled is =
+      let more : JournalEntry S C = record { number = place; port = Some port; command = command.Post entry content; answer = answer.Post (Ok number) } in
+      let post : Post C = record { number = number; entry = entry; content = content } in
+      record {
+        ports = ap (λ (cell : CellState M S D C). cell.ports) is;
+        posts = ap (λ (cell : CellState M S D C). posts_of port cell.journal) is
+            ∙ (posts-append port old.journal (more ∷ [])
+            ∙ ap (λ (own : Bool). posts_of port old.journal ++ ((if own then post ∷ [] else []) ++ [])) (eq-eqb port port refl));
+        others = λ other differ. ap (λ (cell : CellState M S D C). posts_of other cell.journal) is ∙ none_more other old.journal more differ;
+      }
+
+  module _ (callbacks : M → Callbacks S D C) where
+    -- a command of no port
+    pub told_nothing : (old new : CellState M S D C) (command : Command C) (answer : StepAnswer S C)
+        → IsTold callbacks old command answer new → HasPostedNothing old new
+    told_nothing old new command answer (inl done) =
+        no_port old new (told_on callbacks old.scheduled command).1 command (told_on callbacks old.scheduled command).0 done.1
+    told_nothing old new command answer (inr none) = unchanged old new none.2
+
+    -- a turn
+    turns_nothing_by : (own : Bool) (old new : CellState M S D C) (token : Token) (now : ℕ) (result : Result Next (Refused Token))
+        → TurnsBy callbacks own old token now result new → HasPostedNothing old new
+    turns_nothing_by false old new token now result done = unchanged old new done.1
+    turns_nothing_by true old new token now result (answer, inl done, is) =
+        no_port old new (served_on callbacks old.scheduled now).1 (command.Turn now) (served_on callbacks old.scheduled now).0 done.1
+    turns_nothing_by true old new token now result (answer, inr none, is) = unchanged old new none.2
+
+    pub turns_nothing : (old new : CellState M S D C) (token : Token) (now : ℕ) (result : Result Next (Refused Token))
+        → Turns callbacks old token now result new → HasPostedNothing old new
+    turns_nothing old new token now result done = turns_nothing_by (is_token_of token old.scheduled) old new token now result done
+
+    -- a post that was taken
+    post_taken : (old new : CellState M S D C) (port : ℕ) (entry : Entry) (content : C) (number : ℕ) (wake : Option Token)
+        → Posts callbacks old port entry content (step.Posted number wake) new
+        → HasPosted port (record { number = number; entry = entry; content = content }) old new
+    post_taken old new port entry content number wake (inl done) =
+        let told = told_on callbacks old.scheduled (command.Post entry content) in
+        one_post old new port number told.1.count entry content told.1
+        (done.1 ∙ ap (λ (said : StepAnswer S C). record old {
+          scheduled = told.1;
+          journal = old.journal ++ entry_of told.1.count (Some port) (command.Post entry content) (kept_answer said);
+          ports = counted_at port (is_counted said) old.ports;
+        }) (sym done.0))
+    post_taken old new port entry content number wake (inr none) = let same = none.1 in cc
+
+    -- a post
+    pub posts_one : (old new : CellState M S D C) (port : ℕ) (entry : Entry) (content : C) (result : Result Posted (Refused C))
+        → Posts callbacks old port entry content (posted_as result) new
+        → IfOk result (λ posted. HasPosted port (record { number = posted.number; entry = entry; content = content }) old new)
+    posts_one old new port entry content (Ok posted) done = post_taken old new port entry content posted.number posted.wake done
+    posts_one old new port entry content (Err refused) done = tt

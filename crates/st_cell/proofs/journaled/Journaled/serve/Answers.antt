@@ -1,0 +1,61 @@
+use Rattle.std.proofs.Common.{inr, refl, sym, ap, subst, ◌∙◌, length, arith}
+use Rattle.std.specs.Prelude.{None, Ok}
+use Rattle.st_events.specs.declared.refusal.Refusal.TheVariants.{NoMemory}
+use Rattle.st_core.specs.Callbacks.{callbacks_of}
+use Rattle.st_scheduled.specs.declared.step_answer.StepAnswer.TheVariants as step
+use Rattle.st_scheduled.specs.Answered.{served_as}
+use Rattle.st_scheduled.specs.Serving.{refused_with, Serves}
+use Rattle.st_cell.proofs.CallLemmas.{served_unwritten, served_written, same_but_machine, got_places}
+use Rattle.st_cell.proofs.JournalLemmas.{longer}
+use Rattle.st_cell.proofs.journaled.Journaled.serve.Goals as goal
+
+-- there was no memory for the entry
+pub returns-then-is_err-clause-served : goal.returns-then-is_err-clause-served
+returns-then-is_err-clause-served g c =
+    (refused_with NoMemory None, inr (c.takes_turn.ensures.turn c.if-not-takes_turn.false, refl, c.make_room.ensures.same), refl)
+
+-- there are two places, one for this entry
+pub write-requires-after_bounds : goal.write-requires-after_bounds
+write-requires-after_bounds g c =
+    let got = got_places _ c.make_room.result (sym c.is_err.ensures.value ∙ c.if-is_err.false) c.make_room.ensures.room in
+    let before = ap (λ cell. length cell.journal) c.make_room.ensures.same in
+    let rest = ap (λ cell. length cell.journal) c.serve_scheduled.ensures.rest in
+    let places = c.serve_scheduled.ensures.places in
+    omega (arith, got, before, rest, places)
+
+-- the turn was written
+pub returns-in-Ok-Some-clause-served : goal.returns-in-Ok-Some-clause-served
+returns-in-Ok-Some-clause-served g c =
+    let same = c.make_room.ensures.same in
+    let between = c.serve_scheduled.new.self.cell in
+    let rest = same_but_machine c.args.self.now.cell c.make_room.new.self.cell between c.serve_scheduled.ensures.rest same in (
+      step.Turned c.in-Ok-Some.report,
+      served_written (callbacks_of g.M.Module g.M.State.PartialEq.eq) c.args.self.now.cell c.write.new.self.cell between c.args.now c.in-Ok-Some.report
+          (subst (λ cell. Serves (callbacks_of g.M.Module g.M.State.PartialEq.eq) cell.scheduled c.args.now (step.Turned c.in-Ok-Some.report) between.scheduled) same
+          (subst (λ said. Serves (callbacks_of g.M.Module g.M.State.PartialEq.eq) c.make_room.new.self.cell.scheduled c.args.now (served_as (Ok said)) between.scheduled) c.in-Ok-Some.field-0-is c.in-Ok-Some.ensures.served))
+          rest c.write.ensures.written,
+      refl,
+    )
+
+-- and there is a place for that of a stop
+pub returns-in-Ok-Some-clause-room : goal.returns-in-Ok-Some-clause-room
+returns-in-Ok-Some-clause-room g c room runs =
+    let got = got_places _ c.make_room.result (sym c.is_err.ensures.value ∙ c.if-is_err.false) c.make_room.ensures.room in
+    let before = ap (λ cell. length cell.journal) c.make_room.ensures.same in
+    let rest = ap (λ cell. length cell.journal) c.serve_scheduled.ensures.rest in
+    let written = ap (λ cell. length cell.journal) c.write.ensures.written ∙ longer c.serve_scheduled.new.self.cell.journal _ in
+    let places = c.serve_scheduled.ensures.places in
+    let after = c.write.ensures.places in
+    omega (arith, got, before, rest, written, places, after)
+
+-- the turn was refused
+pub returns-in-Err-clause-served : goal.returns-in-Err-clause-served
+returns-in-Err-clause-served g c =
+    let same = c.make_room.ensures.same in
+    let after = c.serve_scheduled.new.self.cell in
+    let rest = same_but_machine c.args.self.now.cell c.make_room.new.self.cell after c.serve_scheduled.ensures.rest same in (
+      refused_with c.in-Err.refusal None,
+      served_unwritten (callbacks_of g.M.Module g.M.State.PartialEq.eq) c.args.self.now.cell after c.args.now (refused_with c.in-Err.refusal None)
+          (subst (λ cell. Serves (callbacks_of g.M.Module g.M.State.PartialEq.eq) cell.scheduled c.args.now (refused_with c.in-Err.refusal None) after.scheduled) same c.in-Err.ensures.served) refl rest,
+      refl,
+    )

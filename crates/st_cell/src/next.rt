@@ -1,0 +1,14 @@
+//! What becomes of a token.
+
+use st_events::Token;
+
+/// What becomes of the token by which a machine was served.
+///
+/// Ours: docs/DECISIONS.md, Tokens.
+#[derive(Clone, Copy, Debug, PartialEq, Eq)]
+pub enum Next {
+    /// The machine has work still: the token is to be served again.
+    Again(Token),
+    /// The machine has no work, or has ended: the token is retired.
+    Rest,
+}

@@ -1,0 +1,2 @@
+-- Lemmas on locks with claims.
+pub mod StepLemmas

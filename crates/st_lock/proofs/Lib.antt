@@ -1,0 +1,4 @@
+-- Lemmas on the desk under a machine's lock, on what is claimed of it, and on what a port looks at.
+pub mod DeskLemmas
+pub mod ClaimLemmas
+pub mod PortLemmas

@@ -1,0 +1,17 @@
+use Rattle.std.proofs.Common.{ap, sym, ◌∙◌, subst}
+use Rattle.st_lock.specs.Claims.{Fits}
+use Rattle.st_lock.specs.Desk.{DeskState}
+use Rattle.st_lock.proofs.ClaimLemmas.{more_fits, next_fits}
+use Rattle.st_lock.proofs.machine.Machine.port.Goals as goal
+
+-- what was claimed of the desk is so of it with one endpoint more
+pub give_opened-requires-clause-others : goal.give_opened-requires-clause-others
+give_opened-requires-clause-others g c κs within = λ claimed fits.
+    more_fits c.deref_mut.result.now c.port.new.self c.in_ok-counter.end c.in-Ok.ensures.opened claimed
+    (subst (λ (desk : DeskState _ _ _ _). Fits desk claimed) (ap (λ desk. desk.value) c.arrive-taken.ensures.taken.1 ∙ sym c.deref_mut.ensures.value) fits)
+
+-- and that is the new port's
+pub give_opened-requires-clause-own : goal.give_opened-requires-clause-own
+give_opened-requires-clause-own g c κs within =
+    next_fits c.deref_mut.result.now c.port.new.self c.in_ok-counter.end c.in-Ok.number c.in_ok-counter.counter c.in-Ok.ensures.opened c.in-Ok.ensures.number
+    (ap (λ end. end.counter) c.in_ok-counter.ensures.machine)

@@ -1,0 +1,8 @@
+use Rattle.std.proofs.Common.{rules}
+use Rattle.st_lock.proofs.PortLemmas.{look_at}
+use Rattle.st_lock.proofs.port.Port.look.Goals as goal
+
+-- the cell under the lock is the one that is looked at
+pub returns-clause-look : goal.returns-clause-look
+returns-clause-look g c =
+    look_at c.deref_mut.result.now.cell c.self.inside.number _ c.look-answer.result c.look-answer.ensures.look (search rules) (search rules)

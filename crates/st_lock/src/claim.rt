@@ -1,0 +1,31 @@
+//! What is claimed of the desk under a machine's lock.
+
+use crate::desk::Desk;
+use crate::opened::Opened;
+use st_claim_lock::{Claimed, Tie};
+use st_core::Module;
+use std::marker::{Brand, PhantomData};
+
+/// The port of whoever claims it, if it has one. No value of it is made.
+pub struct Claim {
+    pub opened: Option<Opened>,
+}
+
+/// The desk has the endpoint that is claimed, if one is.
+pub struct ByPort<M> {
+    of: PhantomData<M>,
+}
+
+impl<M: Module> Tie<Box<Desk<M>>, Claim> for ByPort<M> {
+    ghost use Rattle.st_lock.specs.Claims.{Fits, newcomer};
+
+    ghost fits = { λ desk claimed. Fits desk.value claimed };
+
+    ghost first = { newcomer };
+}
+
+impl Claimed<Claim> for Brand {
+    ghost use Rattle.st_lock.specs.Claims.{newcomer};
+
+    ghost claim = { newcomer };
+}

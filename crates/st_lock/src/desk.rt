@@ -1,0 +1,284 @@
+//! What lies under a machine's lock.
+ghost use Rattle.std.specs.Prelude.{◌≡◌, ◌+◌, ◌++◌, ◌∷◌, [], ◌<◌, ◌^◌, length, true, is_some, IfOk, IfErr, OnErr};
+ghost use Rattle.st_events.specs.declared.refusal.Refusal.TheVariants.{NoMemory};
+ghost use Rattle.st_core.specs.declared.command.Command.TheVariants as command;
+ghost use Rattle.st_core.specs.Callbacks.{callbacks_of};
+ghost use Rattle.st_scheduled.specs.Answered.{posted_as, ticked_as, replied_as, collected_as, stopped_as};
+ghost use Rattle.st_scheduled.specs.ScheduledMachine.{token_of};
+ghost use Rattle.st_cell.specs.Calls.{Posts, IsTold, Turns, look_of, cut, IsJournalOf};
+ghost use Rattle.st_cell.specs.Cell.{cell_at_first, IsOpen, count_for};
+ghost use Rattle.st_cell.specs.Journal.{numbers_of};
+ghost use Rattle.st_post_counter.specs.Seen.{whole, part, IsWhole, IsPart};
+ghost use Rattle.st_lock.specs.Desk.{EndsWith, desk_at_first, HasEnd, counters_of};
+
+use st_cell::{
+    Cell, Collected, Core, Entry, Journal, Look, Module, Next, Post, Posted, Reason, Refusal,
+    Refused, Tag, Ticked, Token, a_port_has_no_more_posts_than_its_count,
+    a_port_that_is_not_open_has_no_posts,
+};
+use st_post_counter::{Addition, Counter, Endpoint};
+use std::alloc::Global;
+use std::marker::{Brand, Model};
+use std::snapshot::Snapshot;
+
+/// An event that a port of a machine of this module posted.
+pub(crate) type PostOf<M> = Post<<M as Module>::Content>;
+
+/// A machine's cell, and the machine's endpoint on the counter of each port.
+#[derive(Drop)]
+pub struct Desk<M: Module> {
+    cell: Cell<M>,
+    ends: Vec<Endpoint<PostOf<M>>>,
+}
+
+impl<M: Module> Model for Desk<M> {
+    ghost use Rattle.st_lock.specs.Desk.{DeskState, IsDesk};
+
+    ghost Value = { DeskState M M.State M.Data M.Content };
+
+    ghost view = { λ desk. record { cell = desk.cell; ends = desk.ends.items } };
+
+    ghost invariant = { λ desk. IsDesk (record { cell = desk.cell; ends = desk.ends.items }) };
+}
+
+/// The machine's endpoint sees the post whose number, entry and content these are.
+fn add_post<C>(
+    counter: &Counter<Post<C>>,
+    end: &mut Endpoint<Post<C>>,
+    count: u64,
+    number: u64,
+    entry: Entry,
+    content: Snapshot<C>,
+)
+    requires counter { end.old.counter ≡ counter.now }
+    requires whole { IsWhole end.old.seen }
+    requires count { count ≡ length end.old.seen.posts + 1 }
+    ensures added { end.new ≡ record end.old { seen = whole (end.old.seen.posts ++ record { number = number; entry = entry; content = content.value } ∷ []) } }
+{
+    add_picked::<C, Brand>(counter, end, count, number, entry, content);
+}
+
+/// The same, where the post that is added is picked.
+fn add_picked<C, A: Addition<Post<C>>>(
+    counter: &Counter<Post<C>>,
+    end: &mut Endpoint<Post<C>>,
+    count: u64,
+    number: u64,
+    entry: Entry,
+    content: Snapshot<C>,
+)
+    requires counter { end.old.counter ≡ counter.now }
+    requires whole { IsWhole end.old.seen }
+    requires count { count ≡ length end.old.seen.posts + 1 }
+    requires picked { A.added ≡ record { number = number; entry = entry; content = content.value } ∷ [] }
+    ensures added { end.new ≡ record end.old { seen = whole (end.old.seen.posts ++ record { number = number; entry = entry; content = content.value } ∷ []) } }
+{
+    let _ = number;
+    let _ = entry;
+    let _ = content;
+    counter.add_picked::<A>(end, count);
+}
+
+impl<M: Module> Desk<M> {
+    /// A cell with this machine as its base, and no port. Where there is no memory, the machine comes back.
+    pub(crate) fn new(
+        alloc: Global,
+        core: Core<M>,
+    ) -> Result<(Desk<M>, Option<Token>), Refused<Core<M>>>
+        ensures begun { IfOk result (λ begun. begun.0 ≡ desk_at_first core) }
+        ensures token { IfOk result (λ begun. begun.1 ≡ token_of (cell_at_first core).scheduled) }
+
+        ensures refusals { IfErr result (λ refused. refused.refusal ≡ NoMemory) }
+        ensures returned { IfErr result (λ refused. refused.value ≡ core) }
+    {
+        match Cell::new(alloc, core) {
+            Ok((cell, token)) => {
+                let ends = Vec::new(alloc);
+                Ok((Desk { cell, ends }, token))
+            }
+            Err(refused) => Err(refused),
+        }
+    }
+
+    /// The machine alone.
+    pub(crate) fn into_core(self) -> Core<M>
+        ensures { result ≡ self.cell.scheduled.core }
+    {
+        let Desk { cell, .. } = self;
+        cell.into_core()
+    }
+
+    /// Opens the next port, with this endpoint of the machine, and answers its number. Where there is no memory, none is
+    /// opened.
+    pub(crate) fn port(&mut self, end: Endpoint<PostOf<M>>) -> Result<u64, Refusal>
+        requires { end.seen ≡ whole [] }
+        ensures opened { IfOk result (λ port. self.new.ends ≡ self.old.ends ++ end ∷ []) }
+        ensures number { IfOk result (λ port. port ≡ length self.old.ends + 1) }
+
+        ensures refusals { IfErr result (λ refusal. refusal ≡ NoMemory) }
+        ensures unchanged { OnErr result (self.new ≡ self.old) }
+    {
+        a_port_that_is_not_open_has_no_posts(&self.cell);
+        if self.ends.reserve(1).is_err() {
+            return Err(Refusal::NoMemory);
+        }
+        match self.cell.port() {
+            Ok(port) => {
+                self.ends.push_reserved(end);
+                Ok(port)
+            }
+            Err(refusal) => Err(refusal),
+        }
+    }
+
+    /// Says whether a port is open and has posted so many events.
+    pub(crate) fn counts(&self, port: u64, count: u64) -> bool
+        ensures open { result ≡ true → IsOpen port self.now.cell }
+        ensures count { result ≡ true → count ≡ count_for port self.now.cell }
+        ensures limited { result ≡ true → count < 2 ^ 63 }
+    {
+        a_port_has_no_more_posts_than_its_count(&self.cell);
+        self.cell.is_open(port) && self.cell.count_for(port) == count
+    }
+
+    /// A port posts an event, as `Cell::post` does. Where it is taken, the machine's endpoint and the port's see it.
+    pub(crate) fn post(
+        &mut self,
+        counter: &Counter<PostOf<M>>,
+        mine: &mut Endpoint<PostOf<M>>,
+        port: u64,
+        entry: Entry,
+        content: M::Content,
+    ) -> Result<Posted, Refused<M::Content>>
+        requires open { IsOpen port self.old.cell }
+        requires end { HasEnd self.old port counter.now }
+        requires mine { (mine.old.counter ≡ counter.now) × IsPart mine.old.seen }
+        requires count { length mine.old.seen.posts ≡ count_for port self.old.cell }
+        ensures does { Posts (callbacks_of M.Module M.State.eq) self.old.cell port entry content (posted_as result) self.new.cell }
+        ensures posted { IfOk result (λ posted. mine.new ≡ record mine.old { seen = part (mine.old.seen.posts ++ record { number = posted.number; entry = entry; content = content } ∷ []) }) }
+        ensures same { counters_of self.new.ends ≡ counters_of self.old.ends }
+
+        ensures unchanged { OnErr result ((self.new ≡ self.old) × (mine.new ≡ mine.old)) }
+    {
+        let was = Snapshot::of(&content);
+        match self.cell.post(port, entry, content) {
+            Ok(posted) => {
+                let count = self.cell.count_for(port);
+                let end = &mut self.ends[port as usize - 1];
+                add_post(counter, end, count, posted.number, entry, was);
+                counter.follow(end, mine);
+                Ok(posted)
+            }
+            Err(refused) => Err(refused),
+        }
+    }
+
+    /// What is seen of the machine by a port, whose endpoint has seen as many posts as the machine's.
+    pub(crate) fn look(
+        &mut self,
+        counter: &Counter<PostOf<M>>,
+        mine: &mut Endpoint<PostOf<M>>,
+        port: u64,
+    ) -> Result<Look<M::State, M::Data>, Refusal>
+        requires open { IsOpen port self.old.cell }
+        requires end { HasEnd self.old port counter.now }
+        requires mine { (mine.old.counter ≡ counter.now) × IsPart mine.old.seen }
+        requires count { length mine.old.seen.posts ≡ count_for port self.old.cell }
+        ensures look { IfOk result (λ look. look ≡ look_of port self.old.cell) }
+        ensures numbers { IfOk result (λ look. EndsWith (numbers_of mine.old.seen.posts) look.numbers) }
+        ensures same { (counters_of self.new.ends ≡ counters_of self.old.ends) × (mine.new ≡ mine.old) }
+
+        ensures refusals { IfErr result (λ refusal. refusal ≡ NoMemory) }
+    {
+        match self.cell.look(port) {
+            Ok(look) => {
+                let end = &mut self.ends[port as usize - 1];
+                counter.agree(end, mine);
+                Ok(look)
+            }
+            Err(refusal) => Err(refusal),
+        }
+    }
+
+    /// Serves the machine by a token, at a moment, in milliseconds, as `Cell::turn` does.
+    pub(crate) fn turn(&mut self, token: Token, now: u64) -> Result<Next, Refused<Token>>
+        ensures does { Turns (callbacks_of M.Module M.State.eq) self.old.cell token now result self.new.cell }
+        ensures same { self.new.ends ≡ self.old.ends }
+
+        ensures unchanged { OnErr result (self.new.cell ≡ self.old.cell) }
+        ensures returned { IfErr result (λ refused. refused.value ≡ token) }
+    {
+        self.cell.turn(token, now)
+    }
+
+    /// Tells the machine the moment, in milliseconds, as `Cell::tick` does.
+    pub(crate) fn tick(&mut self, now: u64) -> Result<Ticked, Refusal>
+        ensures does { IsTold (callbacks_of M.Module M.State.eq) self.old.cell (command.Tick now) (ticked_as result) self.new.cell }
+        ensures same { self.new.ends ≡ self.old.ends }
+
+        ensures unchanged { OnErr result (self.new.cell ≡ self.old.cell) }
+    {
+        self.cell.tick(now)
+    }
+
+    /// Hands out what is kept for a request, once, as `Cell::collect` does.
+    pub(crate) fn collect(&mut self, tag: Tag) -> Result<Collected<M::Content>, Refusal>
+        ensures does { IsTold (callbacks_of M.Module M.State.eq) self.old.cell (command.Collect tag) (collected_as result) self.new.cell }
+        ensures same { self.new.ends ≡ self.old.ends }
+
+        ensures unchanged { OnErr result (self.new.cell ≡ self.old.cell) }
+    {
+        self.cell.collect(tag)
+    }
+
+    /// Answers a request, as `Cell::reply` does.
+    pub(crate) fn reply(
+        &mut self,
+        tag: Tag,
+        content: M::Content,
+    ) -> Result<bool, Refused<M::Content>>
+        ensures does { IsTold (callbacks_of M.Module M.State.eq) self.old.cell (command.Reply tag content) (replied_as result) self.new.cell }
+        ensures same { self.new.ends ≡ self.old.ends }
+
+        ensures unchanged { OnErr result (self.new.cell ≡ self.old.cell) }
+    {
+        self.cell.reply(tag, content)
+    }
+
+    /// Ends the machine at once, as `Cell::stop` does.
+    pub(crate) fn stop(&mut self, reason: Reason) -> Result<u32, Refusal>
+        ensures does { IsTold (callbacks_of M.Module M.State.eq) self.old.cell (command.Stop reason) (stopped_as result) self.new.cell }
+        ensures same { self.new.ends ≡ self.old.ends }
+
+        ensures unchanged { OnErr result (self.new.cell ≡ self.old.cell) }
+    {
+        self.cell.stop(reason)
+    }
+
+    /// Says whether the machine has ended.
+    pub(crate) fn removable(&self) -> bool
+        ensures { result ≡ is_some self.now.cell.scheduled.core.machine.ended }
+    {
+        self.cell.removable()
+    }
+
+    /// A copy of the journal, with a label.
+    pub(crate) fn journal(&self, label: &str) -> Result<Journal<M::State, M::Content>, Refusal>
+        ensures journal { IfOk result (λ journal. IsJournalOf self.now.cell label.now journal) }
+
+        ensures refusals { IfErr result (λ refusal. refusal ≡ NoMemory) }
+    {
+        self.cell.journal(label)
+    }
+
+    /// Cuts the journal, as `Cell::cut` does.
+    pub(crate) fn cut(&mut self) -> Result<(), Refusal>
+        ensures cut { IfOk result (λ _. self.new.cell ≡ cut self.old.cell) }
+        ensures same { self.new.ends ≡ self.old.ends }
+
+        ensures refusals { IfErr result (λ refusal. refusal ≡ NoMemory) }
+        ensures unchanged { OnErr result (self.new.cell ≡ self.old.cell) }
+    {
+        self.cell.cut()
+    }
+}

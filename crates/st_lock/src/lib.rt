@@ -1,0 +1,17 @@
+//! One machine under one lock, with its journal: threads share it, and each caller posts through a port of its own.
+//! It knows nothing of names, run queues and workers.
+#![tactic(auto)]
+
+mod claim;
+mod desk;
+mod machine;
+mod opened;
+mod port;
+
+pub use machine::Machine;
+pub use port::Port;
+pub use st_cell::{
+    Answer, Cell, Collected, Command, Core, Entry, Journal, JournalEntry, Look, MachineId, Module,
+    Next, PlainList, Post, Posted, Reason, Refusal, Refused, Report, Snapshot, Tag, Ticked, Token,
+    Turned,
+};

@@ -1,0 +1,330 @@
+//! A machine that threads share.
+ghost use Rattle.std.specs.Prelude.{◌≡◌, [], IfOk, IfErr};
+ghost use Rattle.st_events.specs.declared.refusal.Refusal.TheVariants.{NoMemory};
+ghost use Rattle.st_requests.specs.declared.collected.Collected.TheVariants.{Waiting};
+ghost use Rattle.st_scheduled.specs.ScheduledMachine.{token_of};
+ghost use Rattle.st_cell.specs.Cell.{cell_at_first};
+ghost use Rattle.st_claim_lock.specs.Holders.{lock_id, lock_of, claim_of, taken_from, value_taken, Claims, HasOut};
+ghost use Rattle.st_post_counter.specs.Endpoint.{CounterId};
+ghost use Rattle.st_lock.specs.declared.claim.Claim.{Claim};
+ghost use Rattle.st_lock.specs.Claims.{claim, Fits};
+ghost use Rattle.st_lock.specs.Desk.{HasEnd, counters_of};
+
+use crate::Port;
+use crate::claim::{ByPort, Claim};
+use crate::desk::{Desk, PostOf};
+use st_cell::{
+    Collected, Core, Journal, MachineId, Module, Next, Reason, Refusal, Refused, Tag, Ticked, Token,
+};
+use st_claim_lock::{ClaimLock, Claimed, Holder, Taken};
+use st_post_counter::Counter;
+use std::alloc::Global;
+use std::marker::Brand;
+use std::sync::{Arc, Condvar, MutexGuard, Wait};
+
+/// The desk of a machine of this module, as it lies under the lock: a hold moves no more than a box.
+pub(crate) type DeskOf<M> = Box<Desk<M>>;
+
+/// A lock over the desk of a machine of this module.
+pub(crate) type LockOf<M> = ClaimLock<DeskOf<M>, Claim, ByPort<M>>;
+
+/// A holder of that lock.
+pub(crate) type HolderOf<M> = Holder<DeskOf<M>, Claim>;
+
+/// That lock's value, while it is out.
+pub(crate) type TakenOf<'a, M> = Taken<'a, DeskOf<M>, Claim, ByPort<M>>;
+
+/// A machine with its journal under one lock, which any number of threads share. Each call is one critical section, and
+/// in it one call of a `Cell`. Events are posted through ports: see `Machine::port`.
+///
+/// A call may wait for the lock. No contract says that it gets it.
+///
+/// Ours: docs/DECISIONS.md, Shared machines.
+#[derive(Drop)]
+pub struct Machine<M: Module> {
+    pub(crate) lock: LockOf<M>,
+    pub(crate) told: Condvar,
+    id: MachineId,
+    alloc: Global,
+}
+
+/// Gives the desk back, whose endpoints are of the same counters.
+pub(crate) fn give_back<'a, M: Module>(
+    taken: TakenOf<'a, M>,
+    holder: &mut HolderOf<M>,
+    desk: DeskOf<M>,
+) -> MutexGuard<'a, ()>
+    requires lock { lock_of holder.old ≡ taken_from taken }
+    requires out { HasOut holder.old (claim_of holder.old) (value_taken taken) }
+    requires same { counters_of desk.value.ends ≡ counters_of (value_taken taken).value.ends }
+    ensures claims { Claims holder.new (claim_of holder.old) }
+    ensures same { lock_of holder.new ≡ lock_of holder.old }
+{
+    taken.give_back(holder, desk)
+}
+
+/// Gives the desk back, after the port was opened that the holder claims from now on.
+fn give_opened<M: Module>(
+    taken: TakenOf<'_, M>,
+    holder: &mut HolderOf<M>,
+    desk: DeskOf<M>,
+    port: u64,
+    counter: &Counter<PostOf<M>>,
+)
+    requires lock { lock_of holder.old ≡ taken_from taken }
+    requires out { HasOut holder.old (claim_of holder.old) (value_taken taken) }
+    requires others { (claimed : Claim) → Fits (value_taken taken).value claimed → Fits desk.value claimed }
+    requires own { HasEnd desk.value port counter.now }
+    ensures claims { Claims holder.new (claim port counter.now) }
+    ensures same { lock_of holder.new ≡ lock_of holder.old }
+{
+    give_picked::<M, Brand>(taken, holder, desk, port, counter);
+}
+
+/// The same, where the claim is picked.
+fn give_picked<M: Module, J: Claimed<Claim>>(
+    taken: TakenOf<'_, M>,
+    holder: &mut HolderOf<M>,
+    desk: DeskOf<M>,
+    port: u64,
+    counter: &Counter<PostOf<M>>,
+)
+    requires lock { lock_of holder.old ≡ taken_from taken }
+    requires out { HasOut holder.old (claim_of holder.old) (value_taken taken) }
+    requires others { (claimed : Claim) → Fits (value_taken taken).value claimed → Fits desk.value claimed }
+    requires own { HasEnd desk.value port counter.now }
+    requires picked { J.claim ≡ claim port counter.now }
+    ensures claims { Claims holder.new (claim port counter.now) }
+    ensures same { lock_of holder.new ≡ lock_of holder.old }
+{
+    let _ = port;
+    let _ = counter;
+    drop(taken.give::<J>(holder, desk));
+}
+
+impl<M: Module> Machine<M> {
+    /// Puts a machine with an empty journal under a lock. If it has work, it is issued a token, whose wake number is 0.
+    ///
+    /// Refused with `NoMemory` where memory is wanted and there is none; then the machine comes back, as it was.
+    ///
+    /// Ours: docs/DECISIONS.md, Shared machines, Tokens.
+    pub fn new(
+        alloc: Global,
+        core: Core<M>,
+    ) -> Result<(Machine<M>, Option<Token>), Refused<Core<M>>>
+        ensures token { IfOk result (λ made. made.1 ≡ token_of (cell_at_first core).scheduled) }
+
+        ensures refusals { IfErr result (λ refused. refused.refusal ≡ NoMemory) }
+        ensures returned { IfErr result (λ refused. refused.value ≡ core) }
+    {
+        let id = core.id();
+        let (desk, token) = Desk::new(alloc, core)?;
+        let desk = match Box::new(alloc, desk) {
+            Ok(desk) => desk,
+            Err(failed) => {
+                return Err(Refused::new(Refusal::NoMemory, failed.value.into_core()));
+            }
+        };
+        match ClaimLock::new(alloc, desk) {
+            Ok((lock, _first)) => {
+                let machine = Machine {
+                    lock,
+                    told: Condvar::new(),
+                    id,
+                    alloc,
+                };
+                Ok((machine, token))
+            }
+            Err(failed) => {
+                let desk = Box::into_inner(failed.value);
+                Err(Refused::new(Refusal::NoMemory, desk.into_core()))
+            }
+        }
+    }
+
+    /// Its id.
+    ///
+    /// Ours: docs/DECISIONS.md, Ids.
+    pub fn id(&self) -> MachineId {
+        self.id
+    }
+
+    /// The tag of the request that its call of this number opens.
+    ///
+    /// Ours: docs/DECISIONS.md, Requests.
+    pub fn tag(&self, number: u64) -> Tag
+        ensures { result.request ≡ number }
+    {
+        Tag::new(self.id, number)
+    }
+
+    /// Opens the next port of a machine: they are numbered from 1 on. It has posted nothing.
+    ///
+    /// Refused with `NoMemory` where memory is wanted and there is none; then none is opened.
+    ///
+    /// Ours: docs/DECISIONS.md, Ports.
+    pub fn port<R: Wait>(this: &Arc<Machine<M>>, rt: &R) -> Result<Port<M>, Refusal>
+        ensures opened { IfOk result (λ port. port ≡ []) }
+
+        ensures refusals { IfErr result (λ refusal. refusal ≡ NoMemory) }
+    {
+        let machine = Arc::try_clone(this)?;
+        let (counter, end, mine) = Counter::open(this.alloc)?;
+        let (taken, mut desk, mut holder) = this.lock.arrive(rt);
+        match desk.port(end) {
+            Ok(number) => {
+                give_opened(taken, &mut holder, desk, number, &counter);
+                Ok(Port {
+                    machine,
+                    counter,
+                    end: mine,
+                    holder,
+                    number,
+                    count: 0,
+                })
+            }
+            Err(refusal) => {
+                drop(give_back(taken, &mut holder, desk));
+                Err(refusal)
+            }
+        }
+    }
+
+    /// Serves the machine by a token: one turn at a moment, in milliseconds, as `Cell::turn` does. Who waits in
+    /// `wait_collect` is woken.
+    ///
+    /// Refused as `Cell::turn` is: with `NotQueued` where the token is not the machine's outstanding one, with `Moment`,
+    /// `Exhausted` and `NoMemory`. A refusal changes nothing and gives the token back.
+    ///
+    /// Manual: `Module:handle_event/4`; ours: docs/DECISIONS.md, Tokens.
+    pub fn turn<R: Wait>(&self, rt: &R, token: Token, now: u64) -> Result<Next, Refused<Token>>
+        ensures returned { IfErr result (λ refused. refused.value ≡ token) }
+    {
+        let (taken, mut desk, mut holder) = self.lock.arrive(rt);
+        let answer = desk.turn(token, now);
+        drop(give_back(taken, &mut holder, desk));
+        self.told.notify_all();
+        answer
+    }
+
+    /// Tells the machine the moment, in milliseconds, as `Cell::tick` does.
+    ///
+    /// Refused as `Cell::tick` is: with `Stopped`, `Moment`, `Exhausted` and `NoMemory`. A refusal changes nothing.
+    ///
+    /// Ours: docs/DECISIONS.md, Time-outs come by ticks.
+    pub fn tick<R: Wait>(&self, rt: &R, now: u64) -> Result<Ticked, Refusal> {
+        let (taken, mut desk, mut holder) = self.lock.arrive(rt);
+        let answer = desk.tick(now);
+        drop(give_back(taken, &mut holder, desk));
+        answer
+    }
+
+    /// Hands out what is kept for a request, once, as `Cell::collect` does. It waits for no reply.
+    ///
+    /// Refused as `Cell::collect` is: with `Exhausted` and `NoMemory`. Then what is kept stays.
+    ///
+    /// Manual: `receive_response/2` with no time; ours: docs/DECISIONS.md, Requests.
+    pub fn collect<R: Wait>(&self, rt: &R, tag: Tag) -> Result<Collected<M::Content>, Refusal> {
+        let (taken, mut desk, mut holder) = self.lock.arrive(rt);
+        let answer = desk.collect(tag);
+        drop(give_back(taken, &mut holder, desk));
+        answer
+    }
+
+    /// Collects as `collect` does, and where the request waits for its reply, waits until the machine was served,
+    /// answered or stopped, and collects again. It never answers `Waiting`.
+    ///
+    /// Refused as `collect` is. It waits for good where nobody serves the machine. No contract says that it ends.
+    ///
+    /// Manual: `receive_response/1`; ours: docs/DECISIONS.md, Requests.
+    pub fn wait_collect<R: Wait>(&self, rt: &R, tag: Tag) -> Result<Collected<M::Content>, Refusal>
+        ensures collected { IfOk result (λ collected. collected ≡ Waiting → ⊥) }
+    {
+        for _ in rt.forever() {
+            let (taken, mut desk, mut holder) = self.lock.arrive(rt);
+            let answer = desk.collect(tag);
+            let gate = give_back(taken, &mut holder, desk);
+            match answer {
+                Ok(Collected::Waiting) => drop(self.told.wait(rt, gate)),
+                _ => {
+                    drop(gate);
+                    return answer;
+                }
+            }
+        }
+        unreachable!()
+    }
+
+    /// Answers a request, as `Cell::reply` does, and says whether it was open. Who waits in `wait_collect` is woken.
+    ///
+    /// Refused as `Cell::reply` is: with `Exhausted` and `NoMemory`. A refusal changes nothing.
+    ///
+    /// Manual: `reply/2`; ours: docs/DECISIONS.md, Requests.
+    pub fn reply<R: Wait>(
+        &self,
+        rt: &R,
+        tag: Tag,
+        content: M::Content,
+    ) -> Result<bool, Refused<M::Content>> {
+        let (taken, mut desk, mut holder) = self.lock.arrive(rt);
+        let answer = desk.reply(tag, content);
+        drop(give_back(taken, &mut holder, desk));
+        self.told.notify_all();
+        answer
+    }
+
+    /// Ends the machine at once, as `Cell::stop` does, and answers its last word. Who waits in `wait_collect` is woken.
+    ///
+    /// Refused as `Cell::stop` is: with `Stopped` and `Exhausted`. It takes no memory.
+    ///
+    /// Manual: `stop/3`; ours: docs/DECISIONS.md, A stop from outside.
+    pub fn stop<R: Wait>(&self, rt: &R, reason: Reason) -> Result<u32, Refusal> {
+        let (taken, mut desk, mut holder) = self.lock.arrive(rt);
+        let answer = desk.stop(reason);
+        drop(give_back(taken, &mut holder, desk));
+        self.told.notify_all();
+        answer
+    }
+
+    /// Says whether the machine has ended, so that it can be removed.
+    ///
+    /// Ours: docs/DECISIONS.md, Journals.
+    pub fn removable<R: Wait>(&self, rt: &R) -> bool {
+        let (taken, desk, mut holder) = self.lock.arrive(rt);
+        let answer = desk.removable();
+        drop(give_back(taken, &mut holder, desk));
+        answer
+    }
+
+    /// A copy of the journal, with a label, as the machine's name.
+    ///
+    /// Refused with `NoMemory` where memory is wanted and there is none. It walks the journal.
+    ///
+    /// Ours: docs/DECISIONS.md, Journals.
+    pub fn journal<R: Wait>(
+        &self,
+        rt: &R,
+        label: &str,
+    ) -> Result<Journal<M::State, M::Content>, Refusal>
+        ensures refusals { IfErr result (λ refusal. refusal ≡ NoMemory) }
+    {
+        let (taken, desk, mut holder) = self.lock.arrive(rt);
+        let answer = desk.journal(label);
+        drop(give_back(taken, &mut holder, desk));
+        answer
+    }
+
+    /// Cuts the journal, as `Cell::cut` does.
+    ///
+    /// Refused with `NoMemory` where memory is wanted and there is none; then nothing is cut.
+    ///
+    /// Ours: docs/DECISIONS.md, Journals.
+    pub fn cut<R: Wait>(&self, rt: &R) -> Result<(), Refusal>
+        ensures refusals { IfErr result (λ refusal. refusal ≡ NoMemory) }
+    {
+        let (taken, mut desk, mut holder) = self.lock.arrive(rt);
+        let answer = desk.cut();
+        drop(give_back(taken, &mut holder, desk));
+        answer
+    }
+}

@@ -1,0 +1,20 @@
+//! What cells and machines answer to calls, with memory and while an allocation is refused, and what threads see.
+
+mod asked;
+mod begun;
+mod by_rows;
+mod did;
+mod ended;
+mod entries;
+mod first;
+mod host;
+mod kept;
+mod machines;
+mod memory;
+mod plain;
+mod played;
+mod row;
+mod shared;
+mod threads;
+mod twin;
+mod whole;

@@ -1,0 +1,80 @@
+//! What a cell is asked, and what it answers.
+use st_core::{Collected, Entry, Reason, Refusal, Refused, Tag};
+use st_events::Token;
+use st_lock::{Journal, Look, Next};
+use st_scheduled::{Posted, Ticked};
+
+/// A call of a cell, which can be made again.
+#[derive(Clone, Copy, Debug)]
+pub enum Asked {
+    Port,
+    Post(u64, Entry, u32),
+    Turn(Token, u64),
+    Tick(u64),
+    Collect(Tag),
+    Reply(Tag, u32),
+    Stop(Reason),
+    Look(u64),
+    Journal(&'static str),
+    Cut,
+    Ports,
+    Token,
+    Removable,
+}
+
+/// What a call answers.
+#[derive(Debug, PartialEq, Eq, Drop)]
+pub enum Answered {
+    Port(Result<u64, Refusal>),
+    Posted(Result<Posted, Refused<u32>>),
+    Turned(Result<Next, Refused<Token>>),
+    Ticked(Result<Ticked, Refusal>),
+    Collected(Result<Collected<u32>, Refusal>),
+    Replied(Result<bool, Refused<u32>>),
+    Stopped(Result<u32, Refusal>),
+    Looked(Result<Look<u32, u32>, Refusal>),
+    Journal(Result<Journal<u32, u32>, Refusal>),
+    Cut(Result<(), Refusal>),
+    Ports(usize),
+    Token(Option<Token>),
+    Removable(bool),
+    /// No call was made, for the port is not open.
+    NotOpen,
+}
+
+impl Answered {
+    /// Why the call was refused, if it was.
+    pub fn refusal(&self) -> Option<Refusal> {
+        match self {
+            Answered::Port(Err(refusal)) => Some(*refusal),
+            Answered::Posted(Err(refused)) => Some(refused.refusal),
+            Answered::Turned(Err(refused)) => Some(refused.refusal),
+            Answered::Ticked(Err(refusal)) => Some(*refusal),
+            Answered::Collected(Err(refusal)) => Some(*refusal),
+            Answered::Replied(Err(refused)) => Some(refused.refusal),
+            Answered::Stopped(Err(refusal)) => Some(*refusal),
+            Answered::Looked(Err(refusal)) => Some(*refusal),
+            Answered::Journal(Err(refusal)) => Some(*refusal),
+            Answered::Cut(Err(refusal)) => Some(*refusal),
+            _ => None,
+        }
+    }
+}
+
+/// What a call answers that is refused, with what it was given. The last three are never refused, and have no such
+/// answer.
+pub fn refused(asked: Asked, refusal: Refusal) -> Answered {
+    match asked {
+        Asked::Port => Answered::Port(Err(refusal)),
+        Asked::Post(_, _, content) => Answered::Posted(Err(Refused::new(refusal, content))),
+        Asked::Turn(token, _) => Answered::Turned(Err(Refused::new(refusal, token))),
+        Asked::Tick(_) => Answered::Ticked(Err(refusal)),
+        Asked::Collect(_) => Answered::Collected(Err(refusal)),
+        Asked::Reply(_, content) => Answered::Replied(Err(Refused::new(refusal, content))),
+        Asked::Stop(_) => Answered::Stopped(Err(refusal)),
+        Asked::Look(_) => Answered::Looked(Err(refusal)),
+        Asked::Journal(_) => Answered::Journal(Err(refusal)),
+        Asked::Cut => Answered::Cut(Err(refusal)),
+        Asked::Ports | Asked::Token | Asked::Removable => Answered::NotOpen,
+    }
+}

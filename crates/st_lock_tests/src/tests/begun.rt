@@ -1,0 +1,97 @@
+//! How a cell of a test begins.
+use super::host::Host;
+use super::plain::Plain;
+use super::twin::{snapshot_of, steps};
+use st_core::{
+    Answer, Command, Core, Entry, MachineId, MachineState, Refusal, Refused, Start, Tag,
+};
+use st_events::Token;
+use st_lock::Cell;
+use std::alloc::Global;
+use std::process::Abort;
+
+/// The machine's id.
+pub const ID: MachineId = MachineId { slot: 0, serial: 1 };
+
+/// The machine's token with this wake number.
+pub fn token(wake: u64) -> Token {
+    Token { machine: ID, wake }
+}
+
+/// The machine's request with this number.
+pub fn tag(number: u64) -> Tag {
+    Tag::new(ID, number)
+}
+
+/// Makes the call of a start, at the moment 0. Where it finds no memory, it is made again.
+fn start(rt: &Host<impl Abort>, alloc: Global, first: u64) -> Result<Start<Plain>, Refused<Plain>> {
+    assert!(rt; first >= 1);
+    assert!(rt; first < 1 << 63);
+    let started = Core::start_from(alloc, Plain, ID, &(), 0, first);
+    if matches!(&started, Err(refused) if refused.refusal == Refusal::NoMemory) {
+        rt.retry();
+        return Core::start_from(alloc, Plain, ID, &(), 0, first);
+    }
+    started
+}
+
+/// A machine whose first event gets this number, and to which casts with these contents were posted.
+pub fn machine(rt: &Host<impl Abort>, alloc: Global, first: u64, contents: &[u32]) -> Core<Plain> {
+    let mut core = match start(rt, alloc, first) {
+        Ok(Start::Running(core, _)) => core,
+        Ok(_) => panic!(rt; "there is no machine"),
+        Err(refused) => panic!(rt; "the start was refused: {}", refused.refusal),
+    };
+    for content in contents {
+        let answer = steps(rt, &mut core, &Command::Post(Entry::Cast, *content));
+        assert!(rt; matches!(answer, Answer::Post(Ok(_))));
+    }
+    core
+}
+
+/// Makes a cell of a machine, which is equal to this base. Where it finds no memory, the machine comes back as it was,
+/// and the call is made again.
+fn cell_of(
+    rt: &Host<impl Abort>,
+    alloc: Global,
+    core: Core<Plain>,
+    base: &MachineState<u32, u32, u32>,
+) -> (Cell<Plain>, Option<Token>) {
+    let refused = match Cell::new(alloc, core) {
+        Ok(begun) => return begun,
+        Err(refused) => refused,
+    };
+    assert_eq!(rt; refused.refusal, Refusal::NoMemory);
+    let mut core = refused.value;
+    assert!(rt;
+        snapshot_of(rt, &mut core) == *base,
+        "a refusal changes nothing"
+    );
+    rt.retry();
+    match Cell::new(alloc, core) {
+        Ok(begun) => begun,
+        Err(_) => panic!(rt; "one allocation alone is refused"),
+    }
+}
+
+/// A cell whose machine gives its first event this number, and to which casts with these contents were posted; this is
+/// its token, if it is issued one. And a machine that has begun alike.
+pub fn begun(
+    rt: &Host<impl Abort>,
+    alloc: Global,
+    first: u64,
+    contents: &[u32],
+    wake: Option<Token>,
+) -> (Cell<Plain>, Core<Plain>) {
+    let mut twin = machine(rt, alloc, first, contents);
+    let base = snapshot_of(rt, &mut twin);
+    let core = machine(rt, alloc, first, contents);
+    let (cell, token) = cell_of(rt, alloc, core, &base);
+    assert_eq!(rt; token, wake);
+    (cell, twin)
+}
+
+/// A cell whose machine has just started, and a machine that has begun alike.
+pub fn just_begun(rt: &Host<impl Abort>, alloc: Global) -> (Cell<Plain>, Core<Plain>) {
+    begun(rt, alloc, 1, [].as_slice(), None)
+}

@@ -1,0 +1,129 @@
+//! A module whose contents each ask for something else.
+ghost use Rattle.std.specs.Prelude.{◌≡◌, ◌==◌, if◌then◌else◌, ℕ, true, false, None, [], ◌∷◌, refl};
+ghost use Rattle.std.proofs.Common.{rules};
+ghost use Rattle.st_events.specs.declared.action.Action.TheVariants.{NextEvent, Postpone, Reply, Set};
+ghost use Rattle.st_events.specs.declared.enter_outcome.EnterOutcome.TheVariants as enter_outcome;
+ghost use Rattle.st_events.specs.declared.init.Init.TheVariants as init;
+ghost use Rattle.st_events.specs.declared.kind.Kind.TheVariants.{Call, Cast, Info, Timeout, Internal};
+ghost use Rattle.st_events.specs.declared.outcome.Outcome.{Outcome};
+ghost use Rattle.st_events.specs.declared.outcome.Outcome.TheVariants.{KeepStateAndData, Stop};
+ghost use Rattle.st_events.specs.declared.time.Time.TheVariants.{After};
+ghost use Rattle.st_events.specs.declared.timer.Timer.TheVariants.{State as StateTimer};
+
+use st_core::{
+    Action, Actions, EnterActions, EnterOutcome, Init, Kind, Module, Outcome, Reason, Time, Timer,
+};
+use std::alloc::{AllocError, Global};
+
+/// States, data and contents are numbers. The state is 0 and the data 7, and `terminate` answers the data.
+///
+/// | Content | Outcome |
+/// |---|---|
+/// | 1 | stops for the reason 9 |
+/// | 2 | inserts 0 as internal |
+/// | 3 | sets the state time-out for 5, with the content 0 |
+/// | 4 | is postponed |
+/// | 5 | inserts 0 as internal, and sets the state time-out for 5, with the content 0 |
+/// | 6 | replies 50 where it is a call |
+/// | 7 | inserts 0 as internal twice |
+/// | other | keeps both |
+#[derive(Clone, Copy, Debug, PartialEq, Eq)]
+pub struct Plain;
+
+impl Module for Plain {
+    type State = u32;
+
+    type Data = u32;
+
+    type Content = u32;
+
+    type Arg = ();
+
+    ghost init_is = { λ plain arg. init.Ok 0 7 [] };
+
+    ghost handle_is = { λ plain kind content state held.
+        if content == 1 then Stop 9 None
+        else (if content == 2 then KeepStateAndData (NextEvent Internal 0 ∷ [])
+        else (if content == 3 then KeepStateAndData (Set StateTimer (After 5) 0 ∷ [])
+        else (if content == 4 then KeepStateAndData (Postpone true ∷ [])
+        else (if content == 5 then KeepStateAndData (NextEvent Internal 0 ∷ Set StateTimer (After 5) 0 ∷ [])
+        else (if content == 6 then (elim kind as (λ k. Outcome ℕ ℕ ℕ) [
+          | Call tag ↦ KeepStateAndData (Reply tag 50 ∷ [])
+          | Cast ↦ KeepStateAndData []
+          | Info ↦ KeepStateAndData []
+          | Timeout timer ↦ KeepStateAndData []
+          | Internal ↦ KeepStateAndData []
+        ])
+        else (if content == 7 then KeepStateAndData (NextEvent Internal 0 ∷ NextEvent Internal 0 ∷ [])
+        else KeepStateAndData [])))))) };
+
+    ghost enters_is = { λ plain. false };
+
+    ghost enter_is = { λ plain old state held. enter_outcome.KeepStateAndData [] };
+
+    ghost terminate_is = { λ plain reason state held. held };
+
+    fn init(&self, alloc: Global, _arg: &()) -> Result<Init<u32, u32, u32>, AllocError> {
+        Ok(Init::Ok(0, 7, Actions::new(alloc)))
+    }
+
+    fn handle(
+        &self,
+        alloc: Global,
+        kind: Kind,
+        content: &u32,
+        _state: u32,
+        _held: &u32,
+    ) -> Result<Outcome<u32, u32, u32>, AllocError> {
+        let mut actions = Actions::new(alloc);
+        match *content {
+            1 => return Ok(Outcome::Stop(9, None)),
+            2 => actions.push(Action::NextEvent(Kind::Internal, 0))?,
+            3 => actions.push(Action::Set(Timer::State, Time::After(5), 0))?,
+            4 => actions.push(Action::Postpone(true))?,
+            5 => {
+                actions.push(Action::NextEvent(Kind::Internal, 0))?;
+                actions.push(Action::Set(Timer::State, Time::After(5), 0))?;
+            }
+            6 => {
+                if let Kind::Call(tag) = kind {
+                    actions.push(Action::Reply(tag, 50))?;
+                }
+            }
+            7 => {
+                actions.push(Action::NextEvent(Kind::Internal, 0))?;
+                actions.push(Action::NextEvent(Kind::Internal, 0))?;
+            }
+            _ => {}
+        }
+        Ok(Outcome::KeepStateAndData(actions))
+    }
+
+    fn enters(&self) -> bool {
+        false
+    }
+
+    fn enter(
+        &self,
+        alloc: Global,
+        _old: u32,
+        _state: u32,
+        _held: &u32,
+    ) -> Result<EnterOutcome<u32, u32>, AllocError> {
+        Ok(EnterOutcome::KeepStateAndData(EnterActions::new(alloc)))
+    }
+
+    fn terminate(&self, _reason: Reason, _state: u32, held: &u32) -> u32 {
+        *held
+    }
+
+    fn copy_content(&self, _alloc: Global, content: &u32) -> Result<u32, AllocError> {
+        Ok(*content)
+    }
+
+    fn copy_data(&self, _alloc: Global, held: &u32) -> Result<u32, AllocError> {
+        Ok(*held)
+    }
+
+    ghost lawful = { Prim.search rules };
+}

@@ -1,0 +1,86 @@
+//! A machine that is told what a cell's journal says.
+use super::host::Host;
+use super::plain::Plain;
+use st_core::{Answer, Command, Core, MachineState, Refusal};
+use st_lock::JournalEntry;
+use std::process::Abort;
+
+/// A machine by itself.
+pub trait Twin: Drop {
+    /// Does one command.
+    fn do_step(&mut self, command: Command<u32>) -> Answer<u32, u32>;
+
+    /// The whole machine as a value, or that there is no memory for it.
+    fn try_snapshot(&mut self) -> Result<MachineState<u32, u32, u32>, Refusal>;
+}
+
+impl Twin for Core<Plain> {
+    fn do_step(&mut self, command: Command<u32>) -> Answer<u32, u32> {
+        self.step(command)
+    }
+
+    fn try_snapshot(&mut self) -> Result<MachineState<u32, u32, u32>, Refusal> {
+        self.snapshot()
+    }
+}
+
+/// The same command.
+fn copy_of(command: &Command<u32>) -> Command<u32> {
+    match command {
+        Command::Post(entry, content) => Command::Post(*entry, *content),
+        Command::Tick(now) => Command::Tick(*now),
+        Command::Turn(now) => Command::Turn(*now),
+        Command::Reply(tag, content) => Command::Reply(*tag, *content),
+        Command::Collect(tag) => Command::Collect(*tag),
+        Command::Stop(reason) => Command::Stop(*reason),
+    }
+}
+
+/// Says whether a command found no memory.
+fn found_no_memory(answer: &Answer<u32, u32>) -> bool {
+    match answer {
+        Answer::Post(Err(refused)) => refused.refusal == Refusal::NoMemory,
+        Answer::Tick(Err(refusal)) => *refusal == Refusal::NoMemory,
+        Answer::Turn(Err(refusal)) => *refusal == Refusal::NoMemory,
+        _ => false,
+    }
+}
+
+/// Does one command. Where it finds no memory, it is done again.
+pub fn steps<U: Twin>(
+    rt: &Host<impl Abort>,
+    twin: &mut U,
+    command: &Command<u32>,
+) -> Answer<u32, u32> {
+    let answer = twin.do_step(copy_of(command));
+    if !found_no_memory(&answer) {
+        return answer;
+    }
+    rt.retry();
+    twin.do_step(copy_of(command))
+}
+
+/// The whole machine as a value. Where memory was refused, it is asked for again.
+pub fn snapshot_of<U: Twin>(rt: &Host<impl Abort>, twin: &mut U) -> MachineState<u32, u32, u32> {
+    match twin.try_snapshot() {
+        Ok(snapshot) => snapshot,
+        Err(refusal) => {
+            assert_eq!(rt; refusal, Refusal::NoMemory);
+            rt.retry();
+            twin.try_snapshot()
+                .expect(rt, "one allocation alone is refused")
+        }
+    }
+}
+
+/// Does the commands of a journal, and looks that each is answered as the journal says.
+pub fn replays<U: Twin>(rt: &Host<impl Abort>, twin: &mut U, entries: &[JournalEntry<u32, u32>]) {
+    for entry in entries {
+        let answer = steps(rt, twin, &entry.command);
+        assert!(rt;
+            answer == entry.answer,
+            "{answer:?} in place of {:?}",
+            entry.answer
+        );
+    }
+}

@@ -1,0 +1,36 @@
+//! All that can be read of a cell, but its journal and its base.
+use super::host::Host;
+use super::kept::{Kept, Seen};
+use st_core::Refusal;
+use st_lock::Look;
+use std::process::Abort;
+
+/// What can be read of a cell of at most two ports, but its journal and its base: of each port there is its look.
+#[derive(Debug, PartialEq, Eq, Drop)]
+pub struct Whole {
+    seen: Seen,
+    looks: [Option<Look<u32, u32>>; 2],
+}
+
+/// What is seen through a port, if it is open. Where memory was refused, it is asked for again.
+fn look<T: Kept>(rt: &Host<impl Abort>, cell: &T, port: u64) -> Option<Look<u32, u32>> {
+    match cell.try_look(port) {
+        Ok(look) => look,
+        Err(refusal) => {
+            assert_eq!(rt; refusal, Refusal::NoMemory);
+            rt.retry();
+            cell.try_look(port)
+                .expect(rt, "one allocation alone is refused")
+        }
+    }
+}
+
+/// All that can be read of a cell, but its journal and its base.
+pub fn read_all<T: Kept>(rt: &Host<impl Abort>, cell: &T) -> Whole {
+    let seen = cell.see();
+    assert!(rt; seen.ports <= 2);
+    Whole {
+        seen,
+        looks: [look(rt, cell, 1), look(rt, cell, 2)],
+    }
+}

@@ -1,0 +1,4 @@
+-- Lemmas on counters.
+pub mod HistoryLemmas
+pub mod StepLemmas
+mod WorkedCounters
