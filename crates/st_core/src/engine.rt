@@ -81,6 +81,16 @@ impl<M: Module> Core<M> {
         &self.module
     }
 
+    /// The callback module alone: the machine is let go, and its `terminate` is not called.
+    ///
+    /// Ours: docs/DECISIONS.md, Callbacks are functions.
+    pub fn into_module(self) -> M
+        ensures { result ≡ self.module_ }
+    {
+        let Core { module, .. } = self;
+        module
+    }
+
     /// The number that the next event gets. Where it is 2^63, no number is left.
     ///
     /// Ours: docs/DECISIONS.md, Numbers of events.

@@ -6,7 +6,7 @@ use crate::MachineId;
 /// A request: the machine that was called, and the number of the call's event.
 ///
 /// Manual: `from()`.
-#[derive(Clone, Copy, Debug, PartialEq, Eq)]
+#[derive(Clone, Copy, Debug, PartialEq, Eq, Hash)]
 pub struct Tag {
     /// The machine that was called.
     pub machine: MachineId,

@@ -1,27 +1,53 @@
 -- What is claimed of a desk stays so.
-use Rattle.std.proofs.Common.{◌≡◌, ℕ, ◌+◌, ◌-◌, List, [], ◌∷◌, ◌++◌, length, ap, ◌∙◌, arith}
+use Rattle.std.proofs.Common.{◌≡◌, ℕ, ◌+◌, ◌-◌, List, [], ◌∷◌, ◌++◌, length, refl, sym, ap, ◌∙◌, subst, arith}
 use Rattle.std.specs.Prelude.{Option, Some, None, IfSome, slice_get}
+use Rattle.std.specs.Global.{Box}
 use Rattle.std.proofs.lemmas.List.{map-append, length-map}
 use Rattle.st_cell.specs.declared.post.Post.{Post}
 use Rattle.st_post_counter.specs.Endpoint.{CounterId, EndpointState}
 use Rattle.st_lock.specs.declared.claim.Claim.{Claim}
 use Rattle.st_lock.specs.declared.opened.Opened.{Opened}
-use Rattle.st_lock.specs.Claims.{Fits}
+use Rattle.st_lock.specs.Claims.{HasEndOf, Fits, desk_of, HasSameCounters}
 use Rattle.st_lock.specs.Desk.{DeskState, HasEnd, counters_of}
 use Rattle.st_lock.proofs.DeskLemmas.{at_longer, at_last}
 
 module _ {M S D C : Type 0} where
+  -- the desk that lies there has the endpoint
+  pub has_end : (desk : DeskState M S D C) (one : Opened) → HasEndOf (Some desk) one → HasEnd desk one.port one.counter
+  has_end desk one has =
+      let there : Some desk ≡ Some has.desk = has.there in
+      let same : desk ≡ has.desk = cc in
+      subst (λ (d : DeskState M S D C). HasEnd d one.port one.counter) (sym same) has.end
+
+  -- where none lies, nothing is claimed
+  from_none : (opened : Option Opened) (desk : DeskState M S D C)
+      → IfSome opened (λ (one : Opened). HasEndOf {M = M} {S = S} {D = D} {C = C} None one) → IfSome opened (λ (one : Opened). HasEndOf (Some desk) one)
+  from_none None desk fits = tt
+  from_none (Some one) desk fits = let there : None ≡ Some fits.desk = fits.there in absurd cc
+
   -- where the endpoints are of the same counters
   same_by : (opened : Option Opened) (old new : DeskState M S D C) → counters_of new.ends ≡ counters_of old.ends
-      → IfSome opened (λ (one : Opened). HasEnd old one.port one.counter) → IfSome opened (λ (one : Opened). HasEnd new one.port one.counter)
+      → IfSome opened (λ (one : Opened). HasEndOf (Some old) one) → IfSome opened (λ (one : Opened). HasEndOf (Some new) one)
   same_by None old new same fits = tt
-  same_by (Some one) old new same fits = record {
-    numbered = fits.numbered;
-    found = ap (λ counters. slice_get counters (one.port - 1)) same ∙ fits.found;
-  }
+  same_by (Some one) old new same fits =
+      let was = has_end old one fits in
+      record {
+        desk = new;
+        there = refl;
+        end = record {
+          numbered = was.numbered;
+          found = ap (λ counters. slice_get counters (one.port - 1)) same ∙ was.found;
+        };
+      }
 
-  pub same_fits : (old new : DeskState M S D C) → counters_of new.ends ≡ counters_of old.ends → (claimed : Claim) → Fits old claimed → Fits new claimed
+  pub same_fits : (old new : DeskState M S D C) → counters_of new.ends ≡ counters_of old.ends → (claimed : Claim) → Fits (Some old) claimed → Fits (Some new) claimed
   same_fits old new same claimed fits = same_by claimed.opened old new same fits
+
+  -- or there was none
+  pub put_fits : (under : Option (Box (DeskState M S D C))) (desk : DeskState M S D C) → HasSameCounters under desk
+      → (claimed : Claim) → Fits (desk_of under) claimed → Fits (Some desk) claimed
+  put_fits None desk same claimed fits = from_none claimed.opened desk fits
+  put_fits (Some was) desk same claimed fits = same_fits was.value desk same claimed fits
 
   -- where there is one endpoint more
   one_more : (old new : DeskState M S D C) (end : EndpointState (Post C)) → new.ends ≡ old.ends ++ end ∷ []
@@ -30,16 +56,22 @@ module _ {M S D C : Type 0} where
       ap (λ (ends : List (EndpointState (Post C))). counters_of ends) more ∙ map-append (λ (one : EndpointState (Post C)). one.counter) old.ends (end ∷ [])
 
   more_by : (opened : Option Opened) (old new : DeskState M S D C) (end : EndpointState (Post C)) → new.ends ≡ old.ends ++ end ∷ []
-      → IfSome opened (λ (one : Opened). HasEnd old one.port one.counter) → IfSome opened (λ (one : Opened). HasEnd new one.port one.counter)
+      → IfSome opened (λ (one : Opened). HasEndOf (Some old) one) → IfSome opened (λ (one : Opened). HasEndOf (Some new) one)
   more_by None old new end more fits = tt
-  more_by (Some one) old new end more fits = record {
-    numbered = fits.numbered;
-    found = ap (λ counters. slice_get counters (one.port - 1)) (one_more old new end more)
-        ∙ at_longer (counters_of old.ends) (end.counter ∷ []) one.counter (one.port - 1) fits.found;
-  }
+  more_by (Some one) old new end more fits =
+      let was = has_end old one fits in
+      record {
+        desk = new;
+        there = refl;
+        end = record {
+          numbered = was.numbered;
+          found = ap (λ counters. slice_get counters (one.port - 1)) (one_more old new end more)
+              ∙ at_longer (counters_of old.ends) (end.counter ∷ []) one.counter (one.port - 1) was.found;
+        };
+      }
 
   pub more_fits : (old new : DeskState M S D C) (end : EndpointState (Post C)) → new.ends ≡ old.ends ++ end ∷ []
-      → (claimed : Claim) → Fits old claimed → Fits new claimed
+      → (claimed : Claim) → Fits (Some old) claimed → Fits (Some new) claimed
   more_fits old new end more claimed fits = more_by claimed.opened old new end more fits
 
   -- and that is the next port's

@@ -1,6 +1,6 @@
 //! What is claimed of the desk under a machine's lock.
 
-use crate::desk::Desk;
+use crate::machine::UnderLock;
 use crate::opened::Opened;
 use st_claim_lock::{Claimed, Tie};
 use st_core::Module;
@@ -11,15 +11,15 @@ pub struct Claim {
     pub opened: Option<Opened>,
 }
 
-/// The desk has the endpoint that is claimed, if one is.
+/// There is a desk with the endpoint that is claimed, if one is.
 pub struct ByPort<M> {
     of: PhantomData<M>,
 }
 
-impl<M: Module> Tie<Box<Desk<M>>, Claim> for ByPort<M> {
-    ghost use Rattle.st_lock.specs.Claims.{Fits, newcomer};
+impl<M: Module> Tie<UnderLock<M>, Claim> for ByPort<M> {
+    ghost use Rattle.st_lock.specs.Claims.{Fits, desk_of, newcomer};
 
-    ghost fits = { λ desk claimed. Fits desk.value claimed };
+    ghost fits = { λ under claimed. Fits (desk_of under) claimed };
 
     ghost first = { newcomer };
 }

@@ -7,9 +7,11 @@ mod desk;
 mod machine;
 mod opened;
 mod port;
+mod room;
 
 pub use machine::Machine;
 pub use port::Port;
+pub use room::MachineRoom;
 pub use st_cell::{
     Answer, Cell, Collected, Command, Core, Entry, Journal, JournalEntry, Look, MachineId, Module,
     Next, PlainList, Post, Posted, Reason, Refusal, Refused, Report, Snapshot, Tag, Ticked, Token,

@@ -1,5 +1,6 @@
 //! A machine that threads share.
-ghost use Rattle.std.specs.Prelude.{◌≡◌, [], IfOk, IfErr};
+ghost use Rattle.std.specs.Prelude.{◌≡◌, Some, IfOk, IfErr};
+ghost use Rattle.std.specs.Arc.{arc_value};
 ghost use Rattle.st_events.specs.declared.refusal.Refusal.TheVariants.{NoMemory};
 ghost use Rattle.st_requests.specs.declared.collected.Collected.TheVariants.{Waiting};
 ghost use Rattle.st_scheduled.specs.ScheduledMachine.{token_of};
@@ -7,8 +8,10 @@ ghost use Rattle.st_cell.specs.Cell.{cell_at_first};
 ghost use Rattle.st_claim_lock.specs.Holders.{lock_id, lock_of, claim_of, taken_from, value_taken, Claims, HasOut};
 ghost use Rattle.st_post_counter.specs.Endpoint.{CounterId};
 ghost use Rattle.st_lock.specs.declared.claim.Claim.{Claim};
-ghost use Rattle.st_lock.specs.Claims.{claim, Fits};
-ghost use Rattle.st_lock.specs.Desk.{HasEnd, counters_of};
+ghost use Rattle.st_lock.specs.Claims.{claim, Fits, desk_of, HasSameCounters};
+ghost use Rattle.st_lock.specs.Desk.{desk_at_first, HasEnd};
+ghost use Rattle.st_lock.specs.Machines.{id_of};
+ghost use Rattle.st_lock.specs.Ports.{port_at_first};
 
 use crate::Port;
 use crate::claim::{ByPort, Claim};
@@ -22,17 +25,20 @@ use std::alloc::Global;
 use std::marker::Brand;
 use std::sync::{Arc, Condvar, MutexGuard, Wait};
 
-/// The desk of a machine of this module, as it lies under the lock: a hold moves no more than a box.
+/// The desk of a machine of this module: a hold moves no more than a box.
 pub(crate) type DeskOf<M> = Box<Desk<M>>;
 
+/// What lies under its lock: the desk, but in a room whose machine is not there yet.
+pub(crate) type UnderLock<M> = Option<DeskOf<M>>;
+
 /// A lock over the desk of a machine of this module.
-pub(crate) type LockOf<M> = ClaimLock<DeskOf<M>, Claim, ByPort<M>>;
+pub(crate) type LockOf<M> = ClaimLock<UnderLock<M>, Claim, ByPort<M>>;
 
 /// A holder of that lock.
-pub(crate) type HolderOf<M> = Holder<DeskOf<M>, Claim>;
+pub(crate) type HolderOf<M> = Holder<UnderLock<M>, Claim>;
 
 /// That lock's value, while it is out.
-pub(crate) type TakenOf<'a, M> = Taken<'a, DeskOf<M>, Claim, ByPort<M>>;
+pub(crate) type TakenOf<'a, M> = Taken<'a, UnderLock<M>, Claim, ByPort<M>>;
 
 /// A machine with its journal under one lock, which any number of threads share. Each call is one critical section, and
 /// in it one call of a `Cell`. Events are posted through ports: see `Machine::port`.
@@ -44,7 +50,7 @@ pub(crate) type TakenOf<'a, M> = Taken<'a, DeskOf<M>, Claim, ByPort<M>>;
 pub struct Machine<M: Module> {
     pub(crate) lock: LockOf<M>,
     pub(crate) told: Condvar,
-    id: MachineId,
+    pub(crate) id: MachineId,
     alloc: Global,
 }
 
@@ -56,11 +62,11 @@ pub(crate) fn give_back<'a, M: Module>(
 ) -> MutexGuard<'a, ()>
     requires lock { lock_of holder.old ≡ taken_from taken }
     requires out { HasOut holder.old (claim_of holder.old) (value_taken taken) }
-    requires same { counters_of desk.value.ends ≡ counters_of (value_taken taken).value.ends }
+    requires same { HasSameCounters (value_taken taken) desk.value }
     ensures claims { Claims holder.new (claim_of holder.old) }
     ensures same { lock_of holder.new ≡ lock_of holder.old }
 {
-    taken.give_back(holder, desk)
+    taken.give_back(holder, Some(desk))
 }
 
 /// Gives the desk back, after the port was opened that the holder claims from now on.
@@ -73,7 +79,7 @@ fn give_opened<M: Module>(
 )
     requires lock { lock_of holder.old ≡ taken_from taken }
     requires out { HasOut holder.old (claim_of holder.old) (value_taken taken) }
-    requires others { (claimed : Claim) → Fits (value_taken taken).value claimed → Fits desk.value claimed }
+    requires others { (claimed : Claim) → Fits (desk_of (value_taken taken)) claimed → Fits (Some desk.value) claimed }
     requires own { HasEnd desk.value port counter.now }
     ensures claims { Claims holder.new (claim port counter.now) }
     ensures same { lock_of holder.new ≡ lock_of holder.old }
@@ -91,7 +97,7 @@ fn give_picked<M: Module, J: Claimed<Claim>>(
 )
     requires lock { lock_of holder.old ≡ taken_from taken }
     requires out { HasOut holder.old (claim_of holder.old) (value_taken taken) }
-    requires others { (claimed : Claim) → Fits (value_taken taken).value claimed → Fits desk.value claimed }
+    requires others { (claimed : Claim) → Fits (desk_of (value_taken taken)) claimed → Fits (Some desk.value) claimed }
     requires own { HasEnd desk.value port counter.now }
     requires picked { J.claim ≡ claim port counter.now }
     ensures claims { Claims holder.new (claim port counter.now) }
@@ -99,7 +105,25 @@ fn give_picked<M: Module, J: Claimed<Claim>>(
 {
     let _ = port;
     let _ = counter;
-    drop(taken.give::<J>(holder, desk));
+    drop(taken.give::<J>(holder, Some(desk)));
+}
+
+/// A desk with this machine as its cell's base, in a box. Where there is no memory, the machine comes back.
+pub(crate) fn boxed<M: Module>(
+    alloc: Global,
+    core: Core<M>,
+) -> Result<(DeskOf<M>, Option<Token>), Refused<Core<M>>>
+    ensures desk { IfOk result (λ made. made.0.value ≡ desk_at_first core) }
+    ensures token { IfOk result (λ made. made.1 ≡ token_of (cell_at_first core).scheduled) }
+
+    ensures refusals { IfErr result (λ refused. refused.refusal ≡ NoMemory) }
+    ensures returned { IfErr result (λ refused. refused.value ≡ core) }
+{
+    let (desk, token) = Desk::new(alloc, core)?;
+    match Box::new(alloc, desk) {
+        Ok(desk) => Ok((desk, token)),
+        Err(failed) => Err(Refused::new(Refusal::NoMemory, failed.value.into_core())),
+    }
 }
 
 impl<M: Module> Machine<M> {
@@ -112,40 +136,85 @@ impl<M: Module> Machine<M> {
         alloc: Global,
         core: Core<M>,
     ) -> Result<(Machine<M>, Option<Token>), Refused<Core<M>>>
+        ensures id { IfOk result (λ made. id_of made.0 ≡ core.machine.id) }
         ensures token { IfOk result (λ made. made.1 ≡ token_of (cell_at_first core).scheduled) }
 
         ensures refusals { IfErr result (λ refused. refused.refusal ≡ NoMemory) }
         ensures returned { IfErr result (λ refused. refused.value ≡ core) }
     {
         let id = core.id();
-        let (desk, token) = Desk::new(alloc, core)?;
-        let desk = match Box::new(alloc, desk) {
-            Ok(desk) => desk,
+        let (desk, token) = boxed(alloc, core)?;
+        match ClaimLock::new(alloc, Some(desk)) {
+            Ok((lock, _first)) => Ok((Machine::over(alloc, lock, id), token)),
             Err(failed) => {
-                return Err(Refused::new(Refusal::NoMemory, failed.value.into_core()));
-            }
-        };
-        match ClaimLock::new(alloc, desk) {
-            Ok((lock, _first)) => {
-                let machine = Machine {
-                    lock,
-                    told: Condvar::new(),
-                    id,
-                    alloc,
+                let Some(desk) = failed.value else {
+                    unreachable!()
                 };
-                Ok((machine, token))
-            }
-            Err(failed) => {
-                let desk = Box::into_inner(failed.value);
+                let desk = Box::into_inner(desk);
                 Err(Refused::new(Refusal::NoMemory, desk.into_core()))
             }
         }
     }
 
+    /// A machine of this id, whose desk will lie under a new lock. Where there is no memory, there is none.
+    pub(crate) fn without_desk(alloc: Global, id: MachineId) -> Result<Machine<M>, Refusal>
+        ensures id { IfOk result (λ machine. id_of machine ≡ id) }
+
+        ensures refusals { IfErr result (λ refusal. refusal ≡ NoMemory) }
+    {
+        match ClaimLock::new(alloc, None) {
+            Ok((lock, _first)) => Ok(Machine::over(alloc, lock, id)),
+            Err(_) => Err(Refusal::NoMemory),
+        }
+    }
+
+    /// The machine of this id over a lock.
+    fn over(alloc: Global, lock: LockOf<M>, id: MachineId) -> Machine<M>
+        ensures { id_of result ≡ id }
+    {
+        Machine {
+            lock,
+            told: Condvar::new(),
+            id,
+            alloc,
+        }
+    }
+
+    /// Puts a desk under the lock, where none lies.
+    pub(crate) fn put<R: Wait>(&self, rt: &R, desk: DeskOf<M>) {
+        let (taken, under, mut holder) = self.lock.arrive(rt);
+        if under.is_some() {
+            // No run comes here: a room is filled once.
+            drop(taken.give_back(&mut holder, under));
+            for _ in rt.forever() {}
+            unreachable!()
+        }
+        drop(give_back(taken, &mut holder, desk));
+    }
+
+    /// Takes the desk, with a newcomer's claim.
+    fn arrive<R: Wait>(&self, rt: &R) -> (TakenOf<'_, M>, DeskOf<M>, HolderOf<M>)
+        ensures lock { lock_of result.2 ≡ taken_from result.0 }
+        ensures from { taken_from result.0 ≡ lock_id self.now.lock }
+        ensures taken { value_taken result.0 ≡ Some result.1 }
+        ensures out { HasOut result.2 (claim_of result.2) (value_taken result.0) }
+    {
+        let (taken, under, mut holder) = self.lock.arrive(rt);
+        let Some(desk) = under else {
+            // No run comes here: a machine is shared after its desk is there.
+            drop(taken.give_back(&mut holder, None));
+            for _ in rt.forever() {}
+            unreachable!()
+        };
+        (taken, desk, holder)
+    }
+
     /// Its id.
     ///
     /// Ours: docs/DECISIONS.md, Ids.
-    pub fn id(&self) -> MachineId {
+    pub fn id(&self) -> MachineId
+        ensures { result ≡ id_of self.now }
+    {
         self.id
     }
 
@@ -153,7 +222,7 @@ impl<M: Module> Machine<M> {
     ///
     /// Ours: docs/DECISIONS.md, Requests.
     pub fn tag(&self, number: u64) -> Tag
-        ensures { result.request ≡ number }
+        ensures { result ≡ record { machine = id_of self.now; request = number } }
     {
         Tag::new(self.id, number)
     }
@@ -164,13 +233,13 @@ impl<M: Module> Machine<M> {
     ///
     /// Ours: docs/DECISIONS.md, Ports.
     pub fn port<R: Wait>(this: &Arc<Machine<M>>, rt: &R) -> Result<Port<M>, Refusal>
-        ensures opened { IfOk result (λ port. port ≡ []) }
+        ensures opened { IfOk result (λ port. port ≡ port_at_first (id_of (arc_value this.now))) }
 
         ensures refusals { IfErr result (λ refusal. refusal ≡ NoMemory) }
     {
         let machine = Arc::try_clone(this)?;
         let (counter, end, mine) = Counter::open(this.alloc)?;
-        let (taken, mut desk, mut holder) = this.lock.arrive(rt);
+        let (taken, mut desk, mut holder) = this.arrive(rt);
         match desk.port(end) {
             Ok(number) => {
                 give_opened(taken, &mut holder, desk, number, &counter);
@@ -200,7 +269,7 @@ impl<M: Module> Machine<M> {
     pub fn turn<R: Wait>(&self, rt: &R, token: Token, now: u64) -> Result<Next, Refused<Token>>
         ensures returned { IfErr result (λ refused. refused.value ≡ token) }
     {
-        let (taken, mut desk, mut holder) = self.lock.arrive(rt);
+        let (taken, mut desk, mut holder) = self.arrive(rt);
         let answer = desk.turn(token, now);
         drop(give_back(taken, &mut holder, desk));
         self.told.notify_all();
@@ -213,7 +282,7 @@ impl<M: Module> Machine<M> {
     ///
     /// Ours: docs/DECISIONS.md, Time-outs come by ticks.
     pub fn tick<R: Wait>(&self, rt: &R, now: u64) -> Result<Ticked, Refusal> {
-        let (taken, mut desk, mut holder) = self.lock.arrive(rt);
+        let (taken, mut desk, mut holder) = self.arrive(rt);
         let answer = desk.tick(now);
         drop(give_back(taken, &mut holder, desk));
         answer
@@ -225,7 +294,7 @@ impl<M: Module> Machine<M> {
     ///
     /// Manual: `receive_response/2` with no time; ours: docs/DECISIONS.md, Requests.
     pub fn collect<R: Wait>(&self, rt: &R, tag: Tag) -> Result<Collected<M::Content>, Refusal> {
-        let (taken, mut desk, mut holder) = self.lock.arrive(rt);
+        let (taken, mut desk, mut holder) = self.arrive(rt);
         let answer = desk.collect(tag);
         drop(give_back(taken, &mut holder, desk));
         answer
@@ -241,7 +310,7 @@ impl<M: Module> Machine<M> {
         ensures collected { IfOk result (λ collected. collected ≡ Waiting → ⊥) }
     {
         for _ in rt.forever() {
-            let (taken, mut desk, mut holder) = self.lock.arrive(rt);
+            let (taken, mut desk, mut holder) = self.arrive(rt);
             let answer = desk.collect(tag);
             let gate = give_back(taken, &mut holder, desk);
             match answer {
@@ -266,7 +335,7 @@ impl<M: Module> Machine<M> {
         tag: Tag,
         content: M::Content,
     ) -> Result<bool, Refused<M::Content>> {
-        let (taken, mut desk, mut holder) = self.lock.arrive(rt);
+        let (taken, mut desk, mut holder) = self.arrive(rt);
         let answer = desk.reply(tag, content);
         drop(give_back(taken, &mut holder, desk));
         self.told.notify_all();
@@ -279,7 +348,7 @@ impl<M: Module> Machine<M> {
     ///
     /// Manual: `stop/3`; ours: docs/DECISIONS.md, A stop from outside.
     pub fn stop<R: Wait>(&self, rt: &R, reason: Reason) -> Result<u32, Refusal> {
-        let (taken, mut desk, mut holder) = self.lock.arrive(rt);
+        let (taken, mut desk, mut holder) = self.arrive(rt);
         let answer = desk.stop(reason);
         drop(give_back(taken, &mut holder, desk));
         self.told.notify_all();
@@ -290,7 +359,7 @@ impl<M: Module> Machine<M> {
     ///
     /// Ours: docs/DECISIONS.md, Journals.
     pub fn removable<R: Wait>(&self, rt: &R) -> bool {
-        let (taken, desk, mut holder) = self.lock.arrive(rt);
+        let (taken, desk, mut holder) = self.arrive(rt);
         let answer = desk.removable();
         drop(give_back(taken, &mut holder, desk));
         answer
@@ -308,7 +377,7 @@ impl<M: Module> Machine<M> {
     ) -> Result<Journal<M::State, M::Content>, Refusal>
         ensures refusals { IfErr result (λ refusal. refusal ≡ NoMemory) }
     {
-        let (taken, desk, mut holder) = self.lock.arrive(rt);
+        let (taken, desk, mut holder) = self.arrive(rt);
         let answer = desk.journal(label);
         drop(give_back(taken, &mut holder, desk));
         answer
@@ -322,7 +391,7 @@ impl<M: Module> Machine<M> {
     pub fn cut<R: Wait>(&self, rt: &R) -> Result<(), Refusal>
         ensures refusals { IfErr result (λ refusal. refusal ≡ NoMemory) }
     {
-        let (taken, mut desk, mut holder) = self.lock.arrive(rt);
+        let (taken, mut desk, mut holder) = self.arrive(rt);
         let answer = desk.cut();
         drop(give_back(taken, &mut holder, desk));
         answer

@@ -1,9 +1,11 @@
 //! A port of a machine.
-ghost use Rattle.std.specs.Prelude.{◌≡◌, ◌++◌, ◌∷◌, [], length, IfOk, IfErr, OnErr};
+ghost use Rattle.std.specs.Prelude.{◌≡◌, length, IfOk, IfErr, OnErr};
+ghost use Rattle.std.specs.Arc.{arc_value};
 ghost use Rattle.st_events.specs.declared.refusal.Refusal.TheVariants.{NoMemory};
 ghost use Rattle.st_cell.specs.Journal.{numbers_of};
 ghost use Rattle.st_lock.specs.Desk.{EndsWith};
-ghost use Rattle.st_lock.specs.Ports.{IsLookAt};
+ghost use Rattle.st_lock.specs.Machines.{id_of};
+ghost use Rattle.st_lock.specs.Ports.{posted, IsLookAt};
 
 use crate::Machine;
 use crate::desk::PostOf;
@@ -30,13 +32,13 @@ pub struct Port<M: Module> {
 }
 
 impl<M: Module> Model for Port<M> {
-    ghost use Rattle.std.specs.Prelude.{List};
-    ghost use Rattle.st_cell.specs.declared.post.Post.{Post};
-    ghost use Rattle.st_lock.specs.Ports.{IsPort};
+    ghost use Rattle.std.specs.Arc.{arc_value};
+    ghost use Rattle.st_lock.specs.Machines.{id_of};
+    ghost use Rattle.st_lock.specs.Ports.{PortState, IsPort};
 
-    ghost Value = { List (Post M.Content) };
+    ghost Value = { PortState M.Content };
 
-    ghost view = { λ port. port.end.seen.posts };
+    ghost view = { λ port. record { machine = id_of (arc_value port.machine); posts = port.end.seen.posts } };
 
     ghost invariant = { IsPort };
 }
@@ -45,7 +47,9 @@ impl<M: Module> Port<M> {
     /// The machine.
     ///
     /// Ours: docs/DECISIONS.md, Ports.
-    pub fn machine(&self) -> &Arc<Machine<M>> {
+    pub fn machine(&self) -> &Arc<Machine<M>>
+        ensures { id_of (arc_value result.now) ≡ self.now.machine }
+    {
         &self.machine
     }
 
@@ -53,7 +57,7 @@ impl<M: Module> Port<M> {
     ///
     /// Ours: docs/DECISIONS.md, Ports.
     pub fn count(&self) -> u64
-        ensures { result ≡ length self.now }
+        ensures { result ≡ length self.now.posts }
     {
         self.count
     }
@@ -71,12 +75,15 @@ impl<M: Module> Port<M> {
         entry: Entry,
         content: M::Content,
     ) -> Result<Posted, Refused<M::Content>>
-        ensures posted { IfOk result (λ posted. self.new ≡ self.old ++ record { number = posted.number; entry = entry; content = content } ∷ []) }
+        ensures posted { IfOk result (λ answer. self.new ≡ posted (record { number = answer.number; entry = entry; content = content }) self.old) }
 
         ensures unchanged { OnErr result (self.new ≡ self.old) }
         ensures returned { IfErr result (λ refused. refused.value ≡ content) }
     {
-        let (taken, mut desk) = self.machine.lock.take(rt, &mut self.holder);
+        let (taken, under) = self.machine.lock.take(rt, &mut self.holder);
+        let Some(mut desk) = under else {
+            unreachable!()
+        };
         if !desk.counts(self.number, self.count) {
             // No run comes here: nobody else posts through this port.
             drop(give_back(taken, &mut self.holder, desk));
@@ -104,13 +111,16 @@ impl<M: Module> Port<M> {
     /// Ours: docs/DECISIONS.md, Looks, Ports; manual: `sys:get_state/1`.
     pub fn look<R: Wait>(&mut self, rt: &R) -> Result<Look<M::State, M::Data>, Refusal>
         ensures same { self.new ≡ self.old }
-        ensures mine { IfOk result (λ look. look.mine ≡ length self.old) }
-        ensures numbers { IfOk result (λ look. EndsWith (numbers_of self.old) look.numbers) }
-        ensures look { IfOk result (λ look. IsLookAt M M.Content (length self.old) look) }
+        ensures mine { IfOk result (λ look. look.mine ≡ length self.old.posts) }
+        ensures numbers { IfOk result (λ look. EndsWith (numbers_of self.old.posts) look.numbers) }
+        ensures look { IfOk result (λ look. IsLookAt M M.Content (length self.old.posts) look) }
 
         ensures refusals { IfErr result (λ refusal. refusal ≡ NoMemory) }
     {
-        let (taken, mut desk) = self.machine.lock.take(rt, &mut self.holder);
+        let (taken, under) = self.machine.lock.take(rt, &mut self.holder);
+        let Some(mut desk) = under else {
+            unreachable!()
+        };
         if !desk.counts(self.number, self.count) {
             // No run comes here: nobody else posts through this port.
             drop(give_back(taken, &mut self.holder, desk));

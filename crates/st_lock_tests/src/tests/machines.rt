@@ -2,7 +2,7 @@
 use super::by_rows::{after_a_cut, before_a_cut, until_a_stop};
 use super::host::Host;
 use super::memory::each_call;
-use super::shared::{plays_shared, share};
+use super::shared::{plays_shared, share, share_in_room};
 
 #[test]
 fn a_machine_by_rows(rt: HostRuntime) {
@@ -17,7 +17,7 @@ fn a_machine_by_rows(rt: HostRuntime) {
 fn a_machines_journal_is_cut(rt: HostRuntime) {
     let threads = rt;
     let rt = Host::new(rt);
-    let mut machine = share(&rt, rt.alloc());
+    let mut machine = share_in_room(&rt, &threads, rt.alloc());
     plays_shared(&rt, &threads, &mut machine, before_a_cut().as_slice());
     plays_shared(&rt, &threads, &mut machine, after_a_cut().as_slice());
     rt.end();

@@ -1,11 +1,14 @@
 //! A machine that threads share, with its ports, as a test sees it.
+ghost use Rattle.std.specs.Prelude.{◌≡◌};
+ghost use Rattle.st_lock.specs.Machines.{id_for};
+
 use super::asked::{Answered, Asked, refused};
 use super::begun::{ID, machine};
 use super::host::Host;
 use super::plain::Plain;
 use super::played::{are_lines, is_sight};
 use super::row::{Row, Wanted};
-use st_lock::{Entry, Journal, Look, Machine, Port, Refusal};
+use st_lock::{Entry, Journal, Look, Machine, MachineId, MachineRoom, Port, Refusal};
 use std::alloc::Global;
 use std::process::Abort;
 use std::sync::{Arc, Wait};
@@ -47,6 +50,44 @@ pub fn share(rt: &Host<impl Abort>, alloc: Global) -> Shared {
             Arc::new(alloc, failed.value).expect(rt, "one allocation alone is refused")
         }
     };
+    Shared {
+        machine,
+        ports: Vec::new(alloc),
+    }
+}
+
+/// Room for a machine. Where memory was refused, it is asked for again.
+fn room(rt: &Host<impl Abort>, alloc: Global, id: MachineId) -> MachineRoom<Plain>
+    ensures { id_for result ≡ id }
+{
+    match MachineRoom::new(alloc, id) {
+        Ok(room) => room,
+        Err(refusal) => {
+            assert_eq!(rt; refusal, Refusal::NoMemory);
+            rt.retry();
+            MachineRoom::new(alloc, id).expect(rt, "one allocation alone is refused")
+        }
+    }
+}
+
+/// A machine that has just started, and was put where room was made for it. Where memory was refused, it had come back,
+/// and is put where room is made anew.
+pub fn share_in_room(rt: &Host<impl Abort>, threads: &impl Wait, alloc: Global) -> Shared {
+    let core = machine(rt, alloc, 1, [].as_slice());
+    let id = core.id();
+    let put = match room(rt, alloc, id).fill(alloc, threads, core) {
+        Ok(put) => Ok(put),
+        Err(refused) => {
+            assert_eq!(rt; refused.refusal, Refusal::NoMemory);
+            rt.retry();
+            room(rt, alloc, id).fill(alloc, threads, refused.value)
+        }
+    };
+    let Ok((machine, token)) = put else {
+        panic!(rt; "one allocation alone is refused")
+    };
+    assert_eq!(rt; token, None);
+    assert_eq!(rt; machine.id(), ID);
     Shared {
         machine,
         ports: Vec::new(alloc),

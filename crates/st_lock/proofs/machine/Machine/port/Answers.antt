@@ -1,6 +1,5 @@
-use Rattle.std.proofs.Common.{ap, sym, ◌∙◌, subst}
-use Rattle.st_lock.specs.Claims.{Fits}
-use Rattle.st_lock.specs.Desk.{DeskState}
+use Rattle.std.proofs.Common.{Some, ap, sym, ◌∙◌, subst}
+use Rattle.st_lock.specs.Claims.{Fits, desk_of}
 use Rattle.st_lock.proofs.ClaimLemmas.{more_fits, next_fits}
 use Rattle.st_lock.proofs.machine.Machine.port.Goals as goal
 
@@ -8,7 +7,8 @@ use Rattle.st_lock.proofs.machine.Machine.port.Goals as goal
 pub give_opened-requires-clause-others : goal.give_opened-requires-clause-others
 give_opened-requires-clause-others g c κs within = λ claimed fits.
     more_fits c.deref_mut.result.now c.port.new.self c.in_ok-counter.end c.in-Ok.ensures.opened claimed
-    (subst (λ (desk : DeskState _ _ _ _). Fits desk claimed) (ap (λ desk. desk.value) c.arrive-taken.ensures.taken.1 ∙ sym c.deref_mut.ensures.value) fits)
+    (subst (λ desk. Fits (Some desk) claimed) (sym c.deref_mut.ensures.value)
+    (subst (λ under. Fits (desk_of under) claimed) c.arrive-taken.ensures.taken fits))
 
 -- and that is the new port's
 pub give_opened-requires-clause-own : goal.give_opened-requires-clause-own
