@@ -1,0 +1,22 @@
+-- A call posts one event at its port, and the request that it hands out, if it hands one out, is that event's.
+use Rattle.std.specs.Prelude.{◌≡◌, ℕ, Option, Some, None, IfSome}
+use Rattle.st_core.specs.declared.entry.Entry.TheVariants.{Call}
+use Rattle.st_events.specs.declared.tag.Tag.{Tag}
+use Rattle.st_lock.specs.Ports.{PortState, posted}
+use Rattle.st_client.specs.declared.called.Called.{Called}
+use Rattle.st_client.specs.declared.called.Called.TheVariants.{Reply, Stopped, Gone, Uncollected, Unscheduled}
+
+module _ {M S D C A : Type 0} where
+  -- the request that is handed out
+  abbrev pub request_in : Called M S D C A → Option Tag
+  request_in (Reply content) = None
+  request_in (Stopped reason) = None
+  request_in Gone = None
+  request_in (Uncollected id refusal) = Some id
+  request_in (Unscheduled id token) = Some id
+
+  -- a call with this content was posted
+  pub record IsCall (content : C) (called : Called M S D C A) (old new : PortState C) : Type 0 where
+    pub number : ℕ
+    pub posted : new ≡ posted (record { number = number; entry = Call; content = content }) old
+    pub request : IfSome (request_in called) (λ (tag : Tag). tag ≡ record { machine = old.machine; request = number })

@@ -1,0 +1,2 @@
+-- What a call did at its port.
+pub mod Called

@@ -1,0 +1,66 @@
+//! Requests are waited for, asked about and answered.
+ghost use Rattle.std.specs.Prelude.{◌≡◌, IfOk, IfErr, OnErr};
+ghost use Rattle.st_client.specs.Called.{IsCall};
+
+use crate::{Called, RequestId, Wake, send_request};
+use st_lock::{Collected, Machine, Module, Port, Refusal, Refused, Tag};
+use std::sync::Wait;
+
+/// Calls: posts an event that wants a reply, schedules the machine, and waits for the reply or the machine's end. Where the
+/// token could not be scheduled it does not wait, and answers both the request's id and the token.
+///
+/// Refused as `Port::post` is: with `Stopped`, `Exhausted` and `NoMemory`. Then nothing was posted, and the content comes
+/// back. A refusal later than that is answered as `Called::Uncollected`.
+///
+/// It waits for good where nobody serves the machine. No contract says that it ends.
+///
+/// Manual: `call/2`.
+pub fn call<M: Module, W: Wake, R: Wait>(
+    rt: &R,
+    port: &mut Port<M>,
+    wake: &W,
+    content: M::Content,
+) -> Result<Called<M>, Refused<M::Content>>
+    ensures posted { IfOk result (λ called. IsCall content called port.old port.new) }
+
+    ensures unchanged { OnErr result (port.new ≡ port.old) }
+    ensures returned { IfErr result (λ refused. refused.value ≡ content) }
+{
+    let (id, left) = send_request(rt, port, wake, content)?;
+    if let Some(token) = left {
+        return Ok(Called::Unscheduled(id, token));
+    }
+    match id.machine().wait_collect(rt, id.tag()) {
+        Ok(Collected::Reply(content)) => Ok(Called::Reply(content)),
+        Ok(Collected::Stopped(reason)) => Ok(Called::Stopped(reason)),
+        Ok(Collected::Gone) => Ok(Called::Gone),
+        Ok(Collected::Waiting) => unreachable!(),
+        Err(refusal) => Ok(Called::Uncollected(id, refusal)),
+    }
+}
+
+/// Asks what is kept for a request, and is handed it, once: `Machine::collect` of its tag.
+///
+/// Refused with `Exhausted` and `NoMemory`. Then what is kept stays.
+///
+/// Manual: `check_response/2`, `receive_response/2` with no time.
+pub fn check<M: Module, R: Wait>(
+    rt: &R,
+    id: &RequestId<M>,
+) -> Result<Collected<M::Content>, Refusal> {
+    id.machine().collect(rt, id.tag())
+}
+
+/// Answers a request of a machine, and says whether it was open: `Machine::reply`.
+///
+/// Refused with `Exhausted` and `NoMemory`. Then the content comes back, and the request stays open.
+///
+/// Manual: `reply/2`.
+pub fn reply<M: Module, R: Wait>(
+    rt: &R,
+    machine: &Machine<M>,
+    tag: Tag,
+    content: M::Content,
+) -> Result<bool, Refused<M::Content>> {
+    machine.reply(rt, tag, content)
+}

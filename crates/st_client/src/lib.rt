@@ -1,0 +1,17 @@
+//! What clients of machines do: they cast, send requests, call, reply, and gather what comes back.
+#![tactic(auto)]
+
+mod called;
+mod calls;
+mod request_id;
+mod sends;
+mod sent;
+mod wake;
+
+pub use called::Called;
+pub use calls::{call, check, reply};
+pub use request_id::RequestId;
+pub use sends::{cast, info, send_request};
+pub use sent::Sent;
+pub use st_lock::{Collected, Entry, Machine, MachineId, Module, Port, Reason, Refusal, Refused, Tag, Token};
+pub use wake::Wake;

@@ -1,0 +1,37 @@
+//! A machine is served, and a request is checked.
+use super::host::Host;
+use st_client::{Collected, Machine, Refusal, RequestId, Token, check};
+use st_door::{Door, DoorContent};
+use st_lock::Next;
+use std::process::Abort;
+use std::sync::Wait;
+
+/// Serves a machine by its token until that rests. A turn that finds no memory gives the token back, and is made again.
+pub fn serve(rt: &Host<impl Abort>, threads: &impl Wait, machine: &Machine<Door>, token: Token) {
+    for _ in threads.forever() {
+        match machine.turn(threads, token, 0) {
+            Ok(Next::Again(again)) => assert_eq!(rt; again, token),
+            Ok(Next::Rest) => return,
+            Err(refused) => {
+                assert_eq!(rt; (refused.refusal, refused.value), (Refusal::NoMemory, token));
+                rt.retry();
+            }
+        }
+    }
+}
+
+/// Checks a request. Where there is no memory, what is kept stays, and it is checked again.
+pub fn checked(
+    rt: &Host<impl Abort>,
+    threads: &impl Wait,
+    id: &RequestId<Door>,
+) -> Collected<DoorContent> {
+    match check(threads, id) {
+        Ok(collected) => collected,
+        Err(refusal) => {
+            assert_eq!(rt; refusal, Refusal::NoMemory);
+            rt.retry();
+            check(threads, id).expect(rt, "one allocation alone is refused")
+        }
+    }
+}

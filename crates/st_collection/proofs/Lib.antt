@@ -1,0 +1,3 @@
+-- The lemmas of collections.
+mod AddedLemmas
+mod CheckedLemmas

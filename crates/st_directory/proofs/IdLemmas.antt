@@ -1,0 +1,45 @@
+-- Ids compared.
+use Rattle.std.proofs.Common.{◌≡◌, ◌≢◌, ℕ, Bool, true, false, ◌&&◌, ◌==◌, refl, ap, ◌∙◌, arith, inl, inr, eqb-true}
+use Rattle.std.proofs.lemmas.Bool.{cases_Bool, and_parts}
+use Rattle.st_events.specs.declared.machine_id.MachineId.{MachineId}
+use Rattle.st_directory.specs.DirectoryState.{same_id}
+
+numbers_flip : (m n : ℕ) → (m == n) ≡ (n == m)
+numbers_flip m n = grind arith
+
+same_number : (n : ℕ) → (n == n) ≡ true
+same_number n = grind arith
+
+other_number : (m n : ℕ) → m ≢ n → (m == n) ≡ false
+other_number m n h = grind arith
+
+never_both : (b : Bool) → (b && false) ≡ false
+never_both true = refl
+never_both false = refl
+
+-- ids compare either way round
+pub ids_flip : (one other : MachineId) → same_id one other ≡ same_id other one
+ids_flip one other = rw (numbers_flip one.slot other.slot, numbers_flip one.serial other.serial) refl
+
+-- an id is the same as itself
+pub same_id_self : (id : MachineId) → same_id id id ≡ true
+same_id_self id = rw (same_number id.slot, same_number id.serial) refl
+
+-- ids that are the same are equal
+pub ids_same : (one other : MachineId) → same_id one other ≡ true → one ≡ other
+ids_same one other h =
+    let parts = and_parts (one.slot == other.slot) (one.serial == other.serial) h in
+    let slots : one.slot ≡ other.slot = eqb-true one.slot other.slot parts.0 in
+    let serials : one.serial ≡ other.serial = eqb-true one.serial other.serial parts.1 in
+    ap (λ (n : ℕ). record one { slot = n }) slots ∙ ap (λ (n : ℕ). record other { serial = n }) serials
+
+-- ids of different serials are not the same
+pub other_serial : (one other : MachineId) → one.serial ≢ other.serial → same_id one other ≡ false
+other_serial one other h = rw (other_number one.serial other.serial h) (never_both (one.slot == other.slot))
+
+-- ids that are not equal are not the same
+pub others_differ : (one other : MachineId) → one ≢ other → same_id one other ≡ false
+others_differ one other differs = elim (cases_Bool (same_id one other)) [
+  | inl same ↦ absurd (differs (ids_same one other same))
+  | inr apart ↦ apart
+]

@@ -1,0 +1,2 @@
+-- What a start under a registry comes to.
+pub mod Registry

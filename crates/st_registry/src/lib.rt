@@ -1,0 +1,10 @@
+//! Machines by id and by name: an id names at most one machine, for good.
+#![tactic(auto)]
+
+mod registry;
+mod started;
+mod starts;
+
+pub use registry::Registry;
+pub use st_lock::{Core, Machine, MachineId, Module, Port, Reason, Refusal, Refused, Tag, Token};
+pub use started::Started;

@@ -1,0 +1,191 @@
+//! Machines by id and by name.
+ghost use Rattle.std.specs.Prelude.{◌≡◌, ◌==◌, [], length, Some, None, IfOk, IfErr, OnOk, OnErr, String, option_copied};
+ghost use Rattle.std.specs.Arc.{arc_value};
+ghost use Rattle.std.specs.Map.Iter.{ShowsInOrder, deref_pair};
+ghost use Rattle.st_events.specs.declared.refusal.Refusal.TheVariants.{NoMemory, NoSuchName, NoSuchMachine, NotStopped};
+ghost use Rattle.st_core.specs.Callbacks.{callbacks_of};
+ghost use Rattle.st_core.specs.Start.{start_of};
+ghost use Rattle.st_directory.specs.DirectoryState.{found, id_of_name, state_of, unregistered, removed};
+ghost use Rattle.st_directory.specs.Entries.{names_of_entries};
+ghost use Rattle.st_lock.specs.Machines.{id_of};
+ghost use Rattle.st_registry.specs.Registry.{StartsUnder, start_due, IsMachineAt, RefusesMachine, RefusesRemoval};
+
+use crate::Started;
+use crate::starts::start_at;
+use indexmap::map::Iter;
+use st_core::MOMENT_LIMIT;
+use st_directory::Directory;
+use st_lock::{Machine, MachineId, Module, Refusal, Refused};
+use std::alloc::Global;
+use std::marker::Model;
+use std::sync::{Arc, Wait};
+
+/// Machines of one module by id, some of them under names. An id names at most one machine, for good. A contract sees the
+/// names with their ids, in order of registration, the machines by id, and how many were started.
+///
+/// Manual: `server_name()`, `server_ref()`; ours: docs/DECISIONS.md, Ids, Directories.
+#[derive(Drop)]
+pub struct Registry<M: Module> {
+    directory: Directory<Arc<Machine<M>>>,
+    alloc: Global,
+}
+
+impl<M: Module> Model for Registry<M> {
+    ghost use Rattle.st_registry.specs.Registry.{RegistryState, HasIds};
+
+    ghost Value = { RegistryState M M.State M.Data M.Content M.Arg };
+
+    ghost view = { λ registry. registry.directory.state };
+
+    ghost invariant = { λ registry. HasIds registry.directory.state };
+}
+
+impl<M: Module> Registry<M> {
+    /// No machine yet. It takes no memory.
+    ///
+    /// Ours: docs/DECISIONS.md, Directories.
+    pub fn new(alloc: Global) -> Registry<M>
+        ensures { result ≡ state_of [] [] 0 }
+    {
+        Registry {
+            directory: Directory::new(alloc),
+            alloc,
+        }
+    }
+
+    /// Starts a machine as `Core::start` does, under a name if one is given, at a moment, in milliseconds, and keeps it
+    /// under an id that no machine had.
+    ///
+    /// Refused, in this order, with `BadName` where the name has no byte or more than 64; with `AlreadyStarted` where it is
+    /// registered; with `Full` where there are 65,536 machines; with `Moment` at 2^63 or later; with `Exhausted` where
+    /// 2^63 - 1 machines were started, and as `Core::start` is; with `NoMemory` where memory is wanted and there is none.
+    /// Then nothing has changed, and the module comes back.
+    ///
+    /// Manual: `start/3`, `start/4`, `start_ret()`.
+    pub fn start<R: Wait>(
+        &mut self,
+        rt: &R,
+        name: Option<&str>,
+        module: M,
+        arg: &M::Arg,
+        now: u64,
+    ) -> Result<Started, Refused<M>>
+        ensures starts { StartsUnder «module» (λ id. start_of (callbacks_of M.Module M.State.eq «module») «module» id (M.init_is «module» arg.now) now 1) (start_due (option_copied name.entry) now self.old) (option_copied name.entry) self.old result self.new }
+
+        ensures unchanged { OnErr result (self.new ≡ self.old) }
+        ensures returned { IfErr result (λ refused. refused.value ≡ «module») }
+    {
+        if let Err(refusal) = self.directory.admits(name) {
+            return Err(Refused::new(refusal, module));
+        }
+        if now >= MOMENT_LIMIT {
+            return Err(Refused::new(Refusal::Moment, module));
+        }
+        match self.directory.prepare(name) {
+            Ok(place) => start_at(self.alloc, rt, &mut self.directory, place, module, arg, now),
+            Err(refusal) => Err(Refused::new(refusal, module)),
+        }
+    }
+
+    /// The id of the machine of a name.
+    ///
+    /// Refused with `NoSuchName` where the name is not registered.
+    ///
+    /// Manual: `server_ref()`; ours: docs/DECISIONS.md, Directories.
+    pub fn whereis(&self, name: &str) -> Result<MachineId, Refusal>
+        ensures found { IfOk result (λ id. id_of_name name.now self.now ≡ Some id) }
+
+        ensures missing { IfErr result (λ refusal. (refusal ≡ NoSuchName) × (id_of_name name.now self.now ≡ None)) }
+    {
+        self.directory.whereis(name)
+    }
+
+    /// Takes a name out. The machine stays, and is found by its id; the other names keep their order.
+    ///
+    /// Refused with `NoSuchName` where the name is not registered; then nothing changes.
+    ///
+    /// Ours: docs/DECISIONS.md, Directories.
+    pub fn unregister(&mut self, name: &str) -> Result<(), Refusal>
+        ensures unregistered { OnOk result (self.new ≡ unregistered name.now self.old) }
+
+        ensures missing { IfErr result (λ refusal. (refusal ≡ NoSuchName) × (id_of_name name.now self.old ≡ None)) }
+        ensures unchanged { OnErr result (self.new ≡ self.old) }
+    {
+        match self.directory.unregister(name) {
+            Ok(_) => Ok(()),
+            Err(refusal) => Err(refusal),
+        }
+    }
+
+    /// The machine of an id.
+    ///
+    /// Refused with `NoSuchMachine` where the id names none now, and with `NoMemory` where the machine has as many owners
+    /// as can be counted.
+    ///
+    /// Ours: docs/DECISIONS.md, Directories.
+    pub fn machine(&self, id: MachineId) -> Result<Arc<Machine<M>>, Refusal>
+        ensures found { IfOk result (λ machine. IsMachineAt id self.now (arc_value machine)) }
+
+        ensures refusals { IfErr result (λ refusal. RefusesMachine id self.now refusal) }
+    {
+        let machine = self.directory.get(id)?;
+        match Arc::try_clone(machine) {
+            Ok(machine) => Ok(machine),
+            Err(_) => Err(Refusal::NoMemory),
+        }
+    }
+
+    /// The names, each with the id of its machine, in order of registration.
+    ///
+    /// Ours: docs/DECISIONS.md, Directories.
+    pub fn names(&self) -> Iter<'_, String, MachineId>
+        ensures names { names_of_entries result ≡ self.now.names }
+        ensures runs { ShowsInOrder (deref_pair {K = String Global} {X = MachineId}) }
+    {
+        self.directory.names()
+    }
+
+    /// How many machines there are.
+    ///
+    /// Ours: docs/DECISIONS.md, Directories.
+    pub fn len(&self) -> usize
+        ensures { result ≡ length self.now.values }
+    {
+        self.directory.len()
+    }
+
+    /// Says whether there is no machine.
+    ///
+    /// Ours: docs/DECISIONS.md, Directories.
+    pub fn is_empty(&self) -> bool
+        ensures { result ≡ (length self.now.values == 0) }
+    {
+        self.directory.is_empty()
+    }
+
+    /// Removes a machine that has ended, and its name, if one is registered; the other names keep their order. Whoever has
+    /// the machine keeps it; its id names none any more, for good.
+    ///
+    /// Refused with `NoSuchMachine` where the id names none now, and with `NotStopped` where the machine has not ended;
+    /// then nothing changes.
+    ///
+    /// Ours: docs/DECISIONS.md, Directories.
+    pub fn remove_stopped<R: Wait>(&mut self, rt: &R, id: MachineId) -> Result<(), Refusal>
+        ensures removed { OnOk result (self.new ≡ removed id self.old) }
+
+        ensures refusals { IfErr result (λ refusal. RefusesRemoval id self.old refusal) }
+        ensures unchanged { OnErr result (self.new ≡ self.old) }
+    {
+        let machine = self.directory.get(id)?;
+        if !machine.removable(rt) {
+            return Err(Refusal::NotStopped);
+        }
+        match self.directory.remove(id) {
+            Ok(machine) => {
+                drop(machine);
+                Ok(())
+            }
+            Err(refusal) => Err(refusal),
+        }
+    }
+}
