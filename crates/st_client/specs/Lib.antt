@@ -1,2 +1,3 @@
--- What a call did at its port.
+-- What a call did at its port, and what asking about a collection answers.
 pub mod Called
+pub mod Checked

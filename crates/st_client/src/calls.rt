@@ -3,6 +3,7 @@ ghost use Rattle.std.specs.Prelude.{◌≡◌, IfOk, IfErr, OnErr};
 ghost use Rattle.st_client.specs.Called.{IsCall};
 
 use crate::{Called, RequestId, Wake, send_request};
+use st_collection::Request;
 use st_lock::{Collected, Machine, Module, Port, Refusal, Refused, Tag};
 use std::sync::Wait;
 

@@ -1,12 +1,12 @@
 //! A request that was sent to a machine.
-ghost use Rattle.std.specs.Prelude.{◌≡◌, ⊤};
+ghost use Rattle.std.specs.Prelude.{◌≡◌};
 ghost use Rattle.std.specs.Arc.{arc_value};
 ghost use Rattle.st_lock.specs.Machines.{id_of};
 
 use st_collection::Request;
-use st_lock::{Collected, Machine, Module, Refusal, Tag};
+use st_lock::{Machine, Module, Tag};
 use std::marker::Model;
-use std::sync::{Arc, Wait};
+use std::sync::Arc;
 
 /// A request that was sent to a machine: what its reply is asked for by. A contract sees its tag.
 ///
@@ -47,29 +47,12 @@ impl<M: Module> RequestId<M> {
     {
         &self.machine
     }
-
-    /// Its tag.
-    ///
-    /// Manual: `request_id()`.
-    pub fn tag(&self) -> Tag
-        ensures { result ≡ self.now }
-    {
-        self.tag
-    }
 }
 
-impl<M: Module + Send + Sync> Request for RequestId<M> {
-    type Content = M::Content;
-
+impl<M: Module> Request for RequestId<M> {
     ghost tag_is = { λ id. id };
-
-    ghost checks = { λ id collected. ⊤ };
 
     fn tag(&self) -> Tag {
         self.tag
-    }
-
-    fn check<R: Wait>(&self, rt: &R) -> Result<Collected<M::Content>, Refusal> {
-        self.machine.collect(rt, self.tag)
     }
 }

@@ -1,3 +1,3 @@
 -- The lemmas of collections.
 mod AddedLemmas
-mod CheckedLemmas
+mod TakenLemmas

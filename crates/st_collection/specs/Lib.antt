@@ -1,3 +1,2 @@
--- What a collection of requests is, and what asking about them answers.
-pub mod Checking
+-- What a collection of requests is.
 pub mod Collection

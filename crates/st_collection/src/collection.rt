@@ -1,17 +1,14 @@
 //! A collection of requests.
-ghost use Rattle.std.specs.Prelude.{◌≡◌, ◌<◌, ◌↔◌, [], map, length, remove, None, IsTrue, IsSome, IsOk, IfSome, IfOk, IfErr, OnOk, OnErr};
+ghost use Rattle.std.specs.Prelude.{◌≡◌, ◌<◌, ◌↔◌, [], map, length, remove, slice_get, Some, None, IsTrue, IsSome, IsOk, IfSome, IfOk, IfErr, OnOk, OnErr};
 ghost use Rattle.st_events.specs.declared.refusal.Refusal.TheVariants.{NoMemory};
 ghost use Rattle.st_collection.specs.Collection.{place_of, added, with_label, shown, HaveOwnTags};
-ghost use Rattle.st_collection.specs.Checking.{ChecksAny, FirstAnswered, IsRefusedAtOne, IsLabelAt};
+ghost use Rattle.st_collection.specs.declared.sent.Sent.{Sent};
 
-use crate::sent::Sent;
-use crate::{Checked, Request};
+use crate::{Request, Sent};
 use indexmap::IndexMap;
 use st_events::{Refusal, Refused, Tag};
-use st_requests::Collected;
 use std::alloc::Global;
 use std::marker::Model;
-use std::sync::Wait;
 
 /// Requests that were sent, with their labels, in the order in which they were added. No two have one tag.
 ///
@@ -139,56 +136,25 @@ impl<Q: Request, L: Copy> Collection<Q, L> {
         Ok(list)
     }
 
-    /// The place of the first request that does not wait for its reply, and what it is answered.
-    fn first_answered<R: Wait>(
-        &self,
-        rt: &R,
-    ) -> Result<Option<(usize, Collected<Q::Content>)>, Refusal>
-        ensures found { IfOk result (λ found. FirstAnswered Q.checks self.now found) }
-
-        ensures refusals { IfErr result (λ refusal. IsRefusedAtOne Q.checks Q.refuses self.now refusal) }
+    /// The request at a place, in the order of the requests.
+    ///
+    /// Ours: docs/DECISIONS.md, Collections.
+    pub fn get(&self, place: usize) -> &Q
+        requires { place < length self.now }
+        ensures { (sent : Sent Q L) → slice_get self.now place ≡ Some sent → result.now ≡ sent.request }
     {
-        for place in 0..self.size() {
-            match self.sent[place].request.check(rt)? {
-                Collected::Waiting => {}
-                collected => return Ok(Some((place, collected))),
-            }
-        }
-        Ok(None)
+        &self.sent[place].request
     }
 
-    /// Takes out the request at a place, and answers its label.
-    fn take(&mut self, place: usize) -> L
+    /// Takes out the request at a place, and answers its label. The others keep their order.
+    ///
+    /// Ours: docs/DECISIONS.md, Collections.
+    pub fn take(&mut self, place: usize) -> L
         requires { place < length self.old }
-        ensures label { IsLabelAt place self.old result }
+        ensures label { (sent : Sent Q L) → slice_get self.old place ≡ Some sent → result ≡ sent.label }
         ensures taken { self.new ≡ remove self.old place }
     {
         let (_, taken) = self.sent.shift_remove_index(place).unwrap();
         taken.label
-    }
-
-    /// Asks about the requests in their order, up to the first that does not wait for its reply: that one is taken out,
-    /// and what it is answered comes with its label.
-    ///
-    /// It answers `NoRequest` where there is no request, and `NoReply` where each waits. Refused as the `check` of a
-    /// request is; then nothing is taken out.
-    ///
-    /// Manual: `check_response/3`, which deletes the request; ours: docs/DECISIONS.md, Collections.
-    pub fn check_any<R: Wait>(&mut self, rt: &R) -> Result<Checked<Q::Content, L>, Refusal>
-        ensures checked { IfOk result (λ checked. ChecksAny Q.checks self.old checked self.new) }
-
-        ensures refusals { IfErr result (λ refusal. IsRefusedAtOne Q.checks Q.refuses self.old refusal) }
-        ensures unchanged { OnErr result (self.new ≡ self.old) }
-    {
-        if self.is_empty() {
-            return Ok(Checked::NoRequest);
-        }
-        match self.first_answered(rt)? {
-            Some((place, collected)) => {
-                let label = self.take(place);
-                Ok(Checked::new(collected, label))
-            }
-            None => Ok(Checked::NoReply),
-        }
     }
 }

@@ -15,9 +15,9 @@ module _ {T : Type 0} (id_is : T → MachineId) where
   id_at id value [] own there = absurd cc
   id_at id value (first ∷ later) own there = elim (cases_Bool (same_id id first.0)) [
     | inl same ↦
-      let found : Some first.1 ≡ Some value = rw same at there in
-      let is : first.1 ≡ value = cc in
-      ap id_is (sym is) ∙ (All-head (λ (entry : MachineId × T). id_is entry.1 ≡ entry.0) first later own ∙ sym (ids_same id first.0 same))
+        let found : Some first.1 ≡ Some value = rw same at there in
+        let is : first.1 ≡ value = cc in
+        ap id_is (sym is) ∙ (All-head (λ (entry : MachineId × T). id_is entry.1 ≡ entry.0) first later own ∙ sym (ids_same id first.0 same))
     | inr differs ↦ id_at id value later (All-tail (λ (entry : MachineId × T). id_is entry.1 ≡ entry.0) first later own) (rw differs at there)
   ]
 

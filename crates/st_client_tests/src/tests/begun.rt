@@ -87,7 +87,11 @@ pub fn only_door(
 }
 
 /// Opens a port. Where there is no memory, it is opened again.
-pub fn port(rt: &Host<impl Abort>, threads: &impl Wait, machine: &Arc<Machine<Door>>) -> Port<Door> {
+pub fn port(
+    rt: &Host<impl Abort>,
+    threads: &impl Wait,
+    machine: &Arc<Machine<Door>>,
+) -> Port<Door> {
     match Machine::port(machine, threads) {
         Ok(port) => port,
         Err(refusal) => {

@@ -11,11 +11,19 @@ use std::process::Abort;
 use std::sync::Wait;
 
 /// Replies that the code has 9 digits. Where there is no memory, the content comes back, and is replied again.
-fn replied(rt: &Host<impl Abort>, threads: &impl Wait, machine: &Machine<Door>, tag: Tag) -> bool {
+pub fn replied(
+    rt: &Host<impl Abort>,
+    threads: &impl Wait,
+    machine: &Machine<Door>,
+    tag: Tag,
+) -> bool {
     match reply(threads, machine, tag, DoorContent::Length(9)) {
         Ok(was_open) => was_open,
         Err(refused) => {
-            assert_eq!(rt; (refused.refusal, refused.value), (Refusal::NoMemory, DoorContent::Length(9)));
+            assert_eq!(rt;
+                (refused.refusal, refused.value),
+                (Refusal::NoMemory, DoorContent::Length(9))
+            );
             rt.retry();
             match reply(threads, machine, tag, refused.value) {
                 Ok(was_open) => was_open,
@@ -31,7 +39,10 @@ fn inform<R: Wait>(rt: &Host<impl Abort>, threads: &R, port: &mut Port<Door>, tr
     match info(threads, port, tray, DoorContent::Nothing) {
         Ok(sent) => sent.number,
         Err(refused) => {
-            assert_eq!(rt; (refused.refusal, refused.value), (Refusal::NoMemory, DoorContent::Nothing));
+            assert_eq!(rt;
+                (refused.refusal, refused.value),
+                (Refusal::NoMemory, DoorContent::Nothing)
+            );
             assert_eq!(rt; port.count(), before);
             rt.retry();
             match info(threads, port, tray, refused.value) {
@@ -53,7 +64,10 @@ fn calls<R: Wait>(
     match call(threads, port, tray, DoorContent::CodeLength) {
         Ok(called) => called,
         Err(refused) => {
-            assert_eq!(rt; (refused.refusal, refused.value), (Refusal::NoMemory, DoorContent::CodeLength));
+            assert_eq!(rt;
+                (refused.refusal, refused.value),
+                (Refusal::NoMemory, DoorContent::CodeLength)
+            );
             assert_eq!(rt; port.count(), before);
             rt.retry();
             match call(threads, port, tray, refused.value) {
@@ -78,7 +92,10 @@ fn the_first_reply_is_collected(rt: HostRuntime) {
     let tag = machine.tag(2);
     assert!(rt; replied(&rt, &threads, &machine, tag));
     assert!(rt; !replied(&rt, &threads, &machine, tag));
-    assert_eq!(rt; checked(&rt, &threads, &id), Collected::Reply(DoorContent::Length(9)));
+    assert_eq!(rt;
+        checked(&rt, &threads, &id),
+        Collected::Reply(DoorContent::Length(9))
+    );
     rt.end();
 }
 
@@ -95,6 +112,9 @@ fn a_call_that_is_not_scheduled_does_not_wait(rt: HostRuntime) {
     };
     assert_eq!(rt; left, token(1));
     serve(&rt, &threads, &machine, left);
-    assert_eq!(rt; checked(&rt, &threads, &id), Collected::Reply(DoorContent::Length(4)));
+    assert_eq!(rt;
+        checked(&rt, &threads, &id),
+        Collected::Reply(DoorContent::Length(4))
+    );
     rt.end();
 }

@@ -29,14 +29,20 @@ fn an_id_names_one_machine_for_good(rt: HostRuntime) {
     is_running(&rt, started, id(0, 1));
     let again = start(&rt, &threads, &mut registry, Some("front"), &code);
     assert_eq!(rt; again, Err(Refusal::AlreadyStarted(id(0, 1))));
-    assert_eq!(rt; registry.remove_stopped(&threads, id(0, 1)), Err(Refusal::NotStopped));
+    assert_eq!(rt;
+        registry.remove_stopped(&threads, id(0, 1)),
+        Err(Refusal::NotStopped)
+    );
     let first = stop(&rt, &threads, &registry, id(0, 1));
     assert_eq!(rt; registry.remove_stopped(&threads, id(0, 1)), Ok(()));
     assert_eq!(rt; registry.whereis("front"), Err(Refusal::NoSuchName));
     let started = start(&rt, &threads, &mut registry, Some("front"), &code);
     is_running(&rt, started, id(0, 2));
     assert!(rt; matches!(registry.machine(id(0, 1)), Err(Refusal::NoSuchMachine)));
-    assert_eq!(rt; registry.remove_stopped(&threads, id(0, 1)), Err(Refusal::NoSuchMachine));
+    assert_eq!(rt;
+        registry.remove_stopped(&threads, id(0, 1)),
+        Err(Refusal::NoSuchMachine)
+    );
     assert_eq!(rt; registry.unregister("front"), Ok(()));
     assert_eq!(rt; registry.unregister("front"), Err(Refusal::NoSuchName));
     assert_eq!(rt; registry.whereis("front"), Err(Refusal::NoSuchName));
@@ -61,8 +67,12 @@ fn names_stand_in_order(rt: HostRuntime) {
     assert_eq!(rt; registry.unregister("back"), Ok(()));
     assert_eq!(rt; registry.len(), 3);
     let mut names = registry.names();
-    assert!(rt; matches!(names.next(), Some((name, first)) if name.as_str() == "front" && *first == id(0, 1)));
-    assert!(rt; matches!(names.next(), Some((name, last)) if name.as_str() == "side" && *last == id(2, 3)));
+    assert!(rt;
+        matches!(names.next(), Some((name, first)) if name.as_str() == "front" && *first == id(0, 1))
+    );
+    assert!(rt;
+        matches!(names.next(), Some((name, last)) if name.as_str() == "side" && *last == id(2, 3))
+    );
     assert!(rt; names.next().is_none());
     rt.end();
 }

@@ -3,9 +3,7 @@ use super::begun::{code, id, only_door, port};
 use super::host::Host;
 use super::served::{checked, serve};
 use super::tray::Tray;
-use st_client::{
-    Collected, Port, Refusal, RequestId, Sent, Token, Wake, cast, send_request,
-};
+use st_client::{Collected, Port, Refusal, RequestId, Sent, Token, Wake, cast, send_request};
 use st_door::{Door, DoorContent};
 use st_registry::Registry;
 use std::process::Abort;
@@ -21,7 +19,12 @@ pub fn token(wake: u64) -> Token {
 
 /// Presses the button 1. Where there is no memory, nothing was posted, and it is pressed again; where the tray found no
 /// memory for the token, that came back, and is put there again.
-pub fn press<R: Wait>(rt: &Host<impl Abort>, threads: &R, port: &mut Port<Door>, tray: &Tray) -> Sent {
+pub fn press<R: Wait>(
+    rt: &Host<impl Abort>,
+    threads: &R,
+    port: &mut Port<Door>,
+    tray: &Tray,
+) -> Sent {
     let before = port.count();
     let sent = match cast(threads, port, tray, DoorContent::Button(1)) {
         Ok(sent) => sent,
@@ -79,7 +82,13 @@ fn a_token_is_scheduled_once(rt: HostRuntime) {
         rt.retry();
         assert_eq!(rt; tray.wake(&threads, token), Ok(()));
     }
-    assert_eq!(rt; press(&rt, &threads, &mut port, &tray), Sent { number: 2, left: None });
+    assert_eq!(rt;
+        press(&rt, &threads, &mut port, &tray),
+        Sent {
+            number: 2,
+            left: None
+        }
+    );
     assert_eq!(rt; tray.len(&threads), 1);
     assert_eq!(rt; tray.take(&threads), token(1));
     serve(&rt, &threads, &machine, token(1));
@@ -95,12 +104,21 @@ fn a_token_that_is_not_scheduled_comes_back(rt: HostRuntime) {
     let mut port = port(&rt, &threads, &machine);
     let tray = Tray::new(rt.alloc(), false);
     let sent = press(&rt, &threads, &mut port, &tray);
-    assert_eq!(rt; sent, Sent { number: 1, left: Some(token(1)) });
+    assert_eq!(rt;
+        sent,
+        Sent {
+            number: 1,
+            left: Some(token(1))
+        }
+    );
     let (id, left) = ask(&rt, &threads, &mut port, &tray);
     assert_eq!(rt; left, None);
     assert_eq!(rt; checked(&rt, &threads, &id), Collected::Waiting);
     serve(&rt, &threads, &machine, token(1));
-    assert_eq!(rt; checked(&rt, &threads, &id), Collected::Reply(DoorContent::Length(4)));
+    assert_eq!(rt;
+        checked(&rt, &threads, &id),
+        Collected::Reply(DoorContent::Length(4))
+    );
     assert_eq!(rt; checked(&rt, &threads, &id), Collected::Gone);
     rt.end();
 }

@@ -13,7 +13,10 @@ pub fn serve(rt: &Host<impl Abort>, threads: &impl Wait, machine: &Machine<Door>
             Ok(Next::Again(again)) => assert_eq!(rt; again, token),
             Ok(Next::Rest) => return,
             Err(refused) => {
-                assert_eq!(rt; (refused.refusal, refused.value), (Refusal::NoMemory, token));
+                assert_eq!(rt;
+                    (refused.refusal, refused.value),
+                    (Refusal::NoMemory, token)
+                );
                 rt.retry();
             }
         }

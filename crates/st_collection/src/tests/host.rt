@@ -29,19 +29,6 @@ impl<R: AllocGlobal> Host<R> {
     }
 }
 
-impl<R: AllocGlobal> Host<R> {
-    /// The allocation that is refused, if one is, is one made here: the test's own find memory.
-    pub fn with_memory(rt: R) -> Host<R> {
-        let host = Host::new(rt);
-        for _ in 0..10_000 {
-            if Box::new(host.alloc(), 'x').is_err() {
-                return host;
-            }
-        }
-        host
-    }
-}
-
 impl<R: Abort> Host<R> {
     /// A call found no memory, and is made again. One allocation alone is refused, so there is one such call.
     pub fn retry(&self) {
@@ -61,13 +48,6 @@ impl<R: Abort + AllocGlobal + Print> Host<R> {
                 return;
             }
         }
-    }
-}
-
-impl<R: Print> Host<R> {
-    /// Ends a test that began with memory: none of its own allocations was refused, and it says so.
-    pub fn end_with_memory(&self) {
-        let _ = println!(self.rt; "nothing was refused");
     }
 }
 

@@ -4,9 +4,7 @@ use super::begun::{just_begun, token};
 use super::did::handled;
 use super::host::Host;
 use super::played::plays;
-use super::row::{
-    Row, Sight, looks, opens, posts, refuses, removable, rests, stops, turns,
-};
+use super::row::{Row, Sight, looks, opens, posts, refuses, removable, rests, stops, turns};
 use st_core::{Entry, Kind, Refusal};
 use st_lock::Next;
 

@@ -34,7 +34,12 @@ fn is_line(rt: &Host<impl Abort>, entry: &JournalEntry<u32, u32>, line: &Line) {
 }
 
 /// Looks that a journal has the entries of the first rows, so many, and no other.
-pub fn are_lines(rt: &Host<impl Abort>, entries: &[JournalEntry<u32, u32>], rows: &[Row], done: usize) {
+pub fn are_lines(
+    rt: &Host<impl Abort>,
+    entries: &[JournalEntry<u32, u32>],
+    rows: &[Row],
+    done: usize,
+) {
     let mut left = entries.iter();
     for row in rows.iter().take(done) {
         if let Some(line) = &row.line {

@@ -226,12 +226,7 @@ fn agrees(rt: &Host<impl Abort>, answered: &Answered, rows: &[Row], done: usize)
 
 /// Makes calls one after another of a machine whose journal is empty, and looks at their answers, and at the journal
 /// behind the last one. Then the journal is cut.
-pub fn plays_shared(
-    rt: &Host<impl Abort>,
-    threads: &impl Wait,
-    shared: &mut Shared,
-    rows: &[Row],
-) {
+pub fn plays_shared(rt: &Host<impl Abort>, threads: &impl Wait, shared: &mut Shared, rows: &[Row]) {
     for (done, row) in rows.iter().enumerate() {
         let answered = tell(rt, threads, shared, row);
         agrees(rt, &answered, rows, done);

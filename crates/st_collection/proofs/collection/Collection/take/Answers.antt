@@ -1,7 +1,7 @@
 use Rattle.std.proofs.Common.{remove, ap, sym, ◌∙◌}
 use Rattle.std.specs.Map.{values_of}
 use Rattle.indexmap.proofs.SetLemmas.{map-remove}
-use Rattle.st_collection.proofs.CheckedLemmas.{value_at, tags_without}
+use Rattle.st_collection.proofs.TakenLemmas.{value_at, tags_without}
 use Rattle.st_collection.proofs.collection.Collection.take.Goals as goal
 
 -- the keys are the tags again

@@ -1,9 +1,6 @@
 //! What a caller gets who asks about a collection.
-ghost use Rattle.std.specs.Prelude.{◌≡◌};
-ghost use Rattle.st_collection.specs.Checking.{labelled};
 
-use st_events::Reason;
-use st_requests::Collected;
+use st_lock::Reason;
 
 /// What asking about the requests of a collection answers.
 ///
@@ -20,18 +17,4 @@ pub enum Checked<C, L> {
     Stopped(Reason, L),
     /// Nothing is held for a request: it was never opened, or it was collected. With the request's label.
     Gone(L),
-}
-
-impl<C, L: Copy> Checked<C, L> {
-    /// What a request was answered, with its label. Where it waits, there is no reply.
-    pub(crate) fn new(collected: Collected<C>, label: L) -> Checked<C, L>
-        ensures { result ≡ labelled collected label }
-    {
-        match collected {
-            Collected::Waiting => Checked::NoReply,
-            Collected::Reply(content) => Checked::Response(content, label),
-            Collected::Stopped(reason) => Checked::Stopped(reason, label),
-            Collected::Gone => Checked::Gone(label),
-        }
-    }
 }

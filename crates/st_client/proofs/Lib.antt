@@ -1,0 +1,2 @@
+-- Lemmas on collections.
+pub mod CheckedLemmas
