@@ -7,7 +7,7 @@ use super::begun::{ID, machine};
 use super::host::Host;
 use super::plain::Plain;
 use super::played::{are_lines, is_sight};
-use super::row::{Row, Wanted};
+use super::row::{Row, Wanted, answers};
 use st_lock::{Entry, Journal, Look, Machine, MachineId, MachineRoom, Port, Refusal};
 use std::alloc::Global;
 use std::process::Abort;
@@ -20,10 +20,9 @@ pub struct Shared {
     ports: Vec<Port<Plain>>,
 }
 
-/// What can be read of a machine of at most two ports.
+/// What can be read of a machine of at most two ports, but its journal.
 #[derive(Debug, PartialEq, Eq, Drop)]
 struct Reading {
-    journal: Journal<u32, u32>,
     looks: [Option<Look<u32, u32>>; 2],
     removable: bool,
 }
@@ -158,17 +157,16 @@ impl Shared {
         }
     }
 
-    /// All that can be read, or that there is no memory for it.
+    /// All that can be read but the journal, or that there is no memory for it.
     fn try_read(&mut self, threads: &impl Wait) -> Result<Reading, Refusal> {
         Ok(Reading {
-            journal: self.machine.journal(threads, "front")?,
             looks: [self.try_look(threads, 0)?, self.try_look(threads, 1)?],
             removable: self.machine.removable(threads),
         })
     }
 }
 
-/// All that can be read. Where memory was refused, it is asked for again.
+/// All that can be read but the journal. Where memory was refused, it is asked for again.
 fn read(rt: &Host<impl Abort>, threads: &impl Wait, shared: &mut Shared) -> Reading {
     match shared.try_read(threads) {
         Ok(reading) => reading,
@@ -182,9 +180,37 @@ fn read(rt: &Host<impl Abort>, threads: &impl Wait, shared: &mut Shared) -> Read
     }
 }
 
-/// Makes one call. A refusal changes nothing that can be read. Where the call finds no memory, what it was given comes
-/// back, and the same call is made again.
-fn tell(rt: &Host<impl Abort>, threads: &impl Wait, shared: &mut Shared, row: &Row) -> Answered {
+/// The journal. Where memory was refused, it is asked for again.
+fn journal(rt: &Host<impl Abort>, threads: &impl Wait, shared: &Shared) -> Journal<u32, u32> {
+    match shared.machine.journal(threads, "front") {
+        Ok(journal) => journal,
+        Err(refusal) => {
+            assert_eq!(rt; refusal, Refusal::NoMemory);
+            rt.retry();
+            shared
+                .machine
+                .journal(threads, "front")
+                .expect(rt, "one allocation alone is refused")
+        }
+    }
+}
+
+/// Looks that the journal has the entries of the first rows, so many, and no other.
+fn is_kept(rt: &Host<impl Abort>, threads: &impl Wait, shared: &Shared, rows: &[Row], done: usize) {
+    let journal = journal(rt, threads, shared);
+    are_lines(rt, journal.entries.as_slice(), rows, done);
+}
+
+/// Makes one call, behind the rows that were done. A refusal changes nothing that can be read. Where the call finds no
+/// memory, what it was given comes back, and the same call is made again.
+fn tell(
+    rt: &Host<impl Abort>,
+    threads: &impl Wait,
+    shared: &mut Shared,
+    row: &Row,
+    rows: &[Row],
+    done: usize,
+) -> Answered {
     let before = read(rt, threads, shared);
     let answered = shared.ask(threads, row.asked);
     let Some(refusal) = answered.refusal() else {
@@ -195,6 +221,7 @@ fn tell(rt: &Host<impl Abort>, threads: &impl Wait, shared: &mut Shared, row: &R
         "{:?} changes nothing",
         row.asked
     );
+    is_kept(rt, threads, shared, rows, done);
     if refusal != Refusal::NoMemory {
         return answered;
     }
@@ -228,23 +255,12 @@ fn agrees(rt: &Host<impl Abort>, answered: &Answered, rows: &[Row], done: usize)
 /// behind the last one. Then the journal is cut.
 pub fn plays_shared(rt: &Host<impl Abort>, threads: &impl Wait, shared: &mut Shared, rows: &[Row]) {
     for (done, row) in rows.iter().enumerate() {
-        let answered = tell(rt, threads, shared, row);
+        let answered = tell(rt, threads, shared, row, rows, done);
         agrees(rt, &answered, rows, done);
     }
-    let journal = read(rt, threads, shared).journal;
-    are_lines(rt, journal.entries.as_slice(), rows, rows.len());
-    let cut = Row {
-        asked: Asked::Cut,
-        wanted: Wanted::Answer(Answered::Cut(Ok(()))),
-        line: None,
-    };
-    let answered = tell(rt, threads, shared, &cut);
+    is_kept(rt, threads, shared, rows, rows.len());
+    let cut = answers(Asked::Cut, Answered::Cut(Ok(())));
+    let answered = tell(rt, threads, shared, &cut, rows, rows.len());
     assert!(rt; answered == Answered::Cut(Ok(())), "{answered:?}");
-    assert!(rt;
-        read(rt, threads, shared)
-            .journal
-            .entries
-            .as_slice()
-            .is_empty()
-    );
+    is_kept(rt, threads, shared, rows, 0);
 }
