@@ -234,9 +234,9 @@ fn tell(
     shared.ask(threads, row.asked)
 }
 
-/// Looks that an answer is the one that is wanted, of the row behind so many others.
-fn agrees(rt: &Host<impl Abort>, answered: &Answered, rows: &[Row], done: usize) {
-    match (answered, &rows[done].wanted) {
+/// Looks that an answer is the one that is wanted of a row, behind so many others.
+fn agrees(rt: &Host<impl Abort>, answered: &Answered, row: &Row, rows: &[Row], done: usize) {
+    match (answered, &row.wanted) {
         (_, Wanted::Answer(other)) => {
             assert!(rt; *answered == *other, "{answered:?} in place of {other:?}");
         }
@@ -256,7 +256,7 @@ fn agrees(rt: &Host<impl Abort>, answered: &Answered, rows: &[Row], done: usize)
 pub fn plays_shared(rt: &Host<impl Abort>, threads: &impl Wait, shared: &mut Shared, rows: &[Row]) {
     for (done, row) in rows.iter().enumerate() {
         let answered = tell(rt, threads, shared, row, rows, done);
-        agrees(rt, &answered, rows, done);
+        agrees(rt, &answered, row, rows, done);
     }
     is_kept(rt, threads, shared, rows, rows.len());
     let cut = answers(Asked::Cut, Answered::Cut(Ok(())));
