@@ -23,22 +23,22 @@ pub fn code(rt: &Host<impl Abort>, alloc: Global) -> Digits {
     }
 }
 
-/// What can be read of a registry with no memory: how many machines and names there are, and whose these names are.
+/// What can be read of a registry with no memory: how many machines there are, and whose these names are.
 #[derive(Clone, Copy, Debug, PartialEq, Eq)]
 pub struct Seen {
     machines: usize,
-    names: usize,
     front: Result<MachineId, Refusal>,
     back: Result<MachineId, Refusal>,
+    side: Result<MachineId, Refusal>,
 }
 
 /// Reads a registry.
 pub fn see(registry: &Registry<Door>) -> Seen {
     Seen {
         machines: registry.len(),
-        names: registry.names().count(),
         front: registry.whereis("front"),
         back: registry.whereis("back"),
+        side: registry.whereis("side"),
     }
 }
 
