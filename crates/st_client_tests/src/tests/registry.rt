@@ -58,11 +58,9 @@ fn names_stand_in_order(rt: HostRuntime) {
     let mut registry = Registry::new(rt.alloc());
     assert!(rt; registry.is_empty());
     let code = code(&rt, rt.alloc());
-    let mut serial = 0;
-    for name in ["front", "back", "side"] {
+    for (name, its) in [("front", id(0, 1)), ("back", id(1, 2)), ("side", id(2, 3))] {
         let started = start(&rt, &threads, &mut registry, Some(name), &code);
-        is_running(&rt, started, id(serial, serial as u64 + 1));
-        serial += 1;
+        is_running(&rt, started, its);
     }
     assert_eq!(rt; registry.unregister("back"), Ok(()));
     assert_eq!(rt; registry.len(), 3);
