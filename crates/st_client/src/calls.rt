@@ -62,6 +62,8 @@ pub fn reply<M: Module, R: Wait>(
     machine: &Machine<M>,
     tag: Tag,
     content: M::Content,
-) -> Result<bool, Refused<M::Content>> {
+) -> Result<bool, Refused<M::Content>>
+    ensures returned { IfErr result (λ refused. refused.value ≡ content) }
+{
     machine.reply(rt, tag, content)
 }

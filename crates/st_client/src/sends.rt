@@ -60,7 +60,7 @@ pub fn cast<M: Module, W: Wake, R: Wait>(
     send(rt, port, wake, Entry::Cast, content)
 }
 
-/// Posts an event that is no request of gen_statem's, as `cast` does.
+/// Posts a message that is neither a cast nor a call, as `cast` does.
 ///
 /// Refused as `cast` is.
 ///

@@ -241,6 +241,7 @@ impl<M: Module> Desk<M> {
         ensures same { self.new.ends ≡ self.old.ends }
 
         ensures unchanged { OnErr result (self.new.cell ≡ self.old.cell) }
+        ensures returned { IfErr result (λ refused. refused.value ≡ content) }
     {
         self.cell.reply(tag, content)
     }

@@ -326,7 +326,7 @@ impl<M: Module> Machine<M> {
 
     /// Answers a request, as `Cell::reply` does, and says whether it was open. Who waits in `wait_collect` is woken.
     ///
-    /// Refused as `Cell::reply` is: with `Exhausted` and `NoMemory`. A refusal changes nothing.
+    /// Refused as `Cell::reply` is: with `Exhausted` and `NoMemory`. A refusal changes nothing and gives the content back.
     ///
     /// Manual: `reply/2`; ours: docs/DECISIONS.md, Requests.
     pub fn reply<R: Wait>(
@@ -334,7 +334,9 @@ impl<M: Module> Machine<M> {
         rt: &R,
         tag: Tag,
         content: M::Content,
-    ) -> Result<bool, Refused<M::Content>> {
+    ) -> Result<bool, Refused<M::Content>>
+        ensures returned { IfErr result (λ refused. refused.value ≡ content) }
+    {
         let (taken, mut desk, mut holder) = self.arrive(rt);
         let answer = desk.reply(tag, content);
         drop(give_back(taken, &mut holder, desk));

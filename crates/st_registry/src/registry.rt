@@ -7,14 +7,15 @@ ghost use Rattle.st_core.specs.Callbacks.{callbacks_of};
 ghost use Rattle.st_core.specs.Start.{start_of};
 ghost use Rattle.st_directory.specs.DirectoryState.{found, id_of_name, state_of, unregistered, removed};
 ghost use Rattle.st_directory.specs.Entries.{names_of_entries};
+ghost use Rattle.st_directory.specs.InOrder.{IsDirectory};
 ghost use Rattle.st_lock.specs.Machines.{id_of};
-ghost use Rattle.st_registry.specs.Registry.{StartsUnder, start_due, IsMachineAt, RefusesMachine, RefusesRemoval};
+ghost use Rattle.st_registry.specs.Registry.{HasIds, StartsUnder, start_due, IsMachineAt, RefusesMachine, RefusesRemoval};
 
 use crate::Started;
 use crate::starts::start_at;
 use indexmap::map::Iter;
 use st_core::MOMENT_LIMIT;
-use st_directory::Directory;
+use st_directory::{Directory, a_directory_is_in_order};
 use st_lock::{Machine, MachineId, Module, Refusal, Refused};
 use std::alloc::Global;
 use std::marker::Model;
@@ -188,4 +189,16 @@ impl<M: Module> Registry<M> {
             Err(refusal) => Err(refusal),
         }
     }
+}
+
+/// In each registry a name stands once and names a machine that is there, no two names name one machine, each machine has a
+/// serial of its own, one of those that were given, and is there under its own id. It is shown once, and calling it does
+/// nothing.
+///
+/// Ours: docs/DECISIONS.md, Directories.
+pub fn a_registry_is_in_order<M: Module>(registry: &Registry<M>)
+    ensures order { IsDirectory registry.now }
+    ensures own { HasIds registry.now }
+{
+    a_directory_is_in_order(&registry.directory);
 }
