@@ -265,6 +265,15 @@ impl<M: Module> Cell<M> {
         journaled.into_core()
     }
 
+    /// How many commands the machine took: the last entry's number, also where that entry is cut away.
+    ///
+    /// Ours: docs/DECISIONS.md, Journals.
+    pub fn count(&self) -> u64
+        ensures { result ≡ self.now.scheduled.count }
+    {
+        self.journaled.scheduled.count()
+    }
+
     /// The machine's outstanding token.
     ///
     /// Ours: docs/DECISIONS.md, Tokens.

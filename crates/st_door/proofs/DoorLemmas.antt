@@ -2,11 +2,12 @@
 use Rattle.std.proofs.Common.{◌≡◌, ℕ, zero, suc, ◌+◌, ◌<◌, ◌≤◌, Bool, nat_lt, List, [], ◌∷◌, ◌++◌, length, get_or, set, map, slice_get, Option, Some, None, Result, Ok, Err, IfOk, OnOk, OnErr, IfSome, IfNone, refl, ap, arith, inl, inr, bytes_eq, string_bytes}
 use Rattle.std.specs.List.{position, position_or_len, find}
 use Rattle.std.specs.Prelude.{String}
+use Rattle.std.specs.Map.{remove_entry}
 use Rattle.std.specs.String.{string_eq}
 use Rattle.std.proofs.lemmas.Bool.{cases_Bool, ltb-true, ltb-false}
 use Rattle.indexmap.specs.IndexMap.{set_value_at, insert_entry}
-use Rattle.st_door.specs.Doors.{NamedDoor, DoorMachine, door_named, IsFirst, has_name, door_of, change_first}
-use Rattle.st_door.specs.Entries.{DoorCore, door_of_entry, doors_of_entries}
+use Rattle.st_door.specs.Doors.{NamedDoor, DoorMachine, door_named, IsFirst, has_name, door_of, without_door, change_first}
+use Rattle.st_door.specs.Entries.{door_of_entry, doors_of_entries}
 
 -- ---- the first element that passes
 one_more : (n : ℕ) → 1 + n ≡ suc n
@@ -77,7 +78,7 @@ find-map f test (x ∷ xs) h = elim (cases_Bool (test (f x))) [
 -- ---- the entries of the map
 module _ {A : Type 0} where
   -- the door at a place is changed, where its machine was written
-  pub doors-written : (es : List (String A × DoorCore)) (place : ℕ) (key : String A) (core new : DoorCore) (change : NamedDoor → NamedDoor) (d : NamedDoor)
+  pub doors-written : (es : List (String A × DoorMachine)) (place : ℕ) (key : String A) (core new : DoorMachine) (change : NamedDoor → NamedDoor) (d : NamedDoor)
       → slice_get es place ≡ Some (key, core)
       → door_of_entry (key, new) ≡ change (door_of_entry (key, core))
       → doors_of_entries (set_value_at es place new) ≡ set (doors_of_entries es) place (change (get_or (doors_of_entries es) place d))
@@ -89,7 +90,7 @@ module _ {A : Type 0} where
       ap (λ t. door_of_entry e ∷ t) (doors-written es place key core new change d at same)
 
   -- the doors stay, where the same machine was written
-  pub doors-rewritten : (es : List (String A × DoorCore)) (place : ℕ) (key : String A) (core new : DoorCore)
+  pub doors-rewritten : (es : List (String A × DoorMachine)) (place : ℕ) (key : String A) (core new : DoorMachine)
       → slice_get es place ≡ Some (key, core) → new ≡ core
       → doors_of_entries (set_value_at es place new) ≡ doors_of_entries es
   doors-rewritten [] place key core new at same = refl
@@ -100,20 +101,29 @@ module _ {A : Type 0} where
       ap (λ t. door_of_entry e ∷ t) (doors-rewritten es place key core new at same)
 
   -- the door at the place of an entry
-  pub doors-at : (es : List (String A × DoorCore)) (place : ℕ) (key : String A) (core : DoorCore) (d : NamedDoor)
+  pub doors-at : (es : List (String A × DoorMachine)) (place : ℕ) (key : String A) (core : DoorMachine) (d : NamedDoor)
       → slice_get es place ≡ Some (key, core) → get_or (doors_of_entries es) place d ≡ door_of_entry (key, core)
   doors-at [] place key core d at = cc
   doors-at (e ∷ es) zero key core d at = let here : e ≡ (key, core) = cc in ap door_of_entry here
   doors-at (e ∷ es) (suc place) key core d at = doors-at es place key core d at
 
   -- an entry of a new name goes last
-  pub entries-new : (es : List (String A × DoorCore)) (key : String A) (core : DoorCore)
+  pub entries-new : (es : List (String A × DoorMachine)) (key : String A) (core : DoorMachine)
       → door_of (string_bytes key) (doors_of_entries es) ≡ None
       → insert_entry string_eq es key core ≡ es ++ (key, core) ∷ []
   entries-new [] key core none = refl
   entries-new (e ∷ es) key core none = elim (cases_Bool (string_eq key e.0)) [
     | inl passes ↦ let some = rw passes at none in cc
     | inr fails ↦ let rest = rw fails at none in rw fails (ap (λ t. e ∷ t) (entries-new es key core rest))
+  ]
+
+  -- the doors without one
+  pub doors-removed : (name : List ℕ) (es : List (String A × DoorMachine))
+      → doors_of_entries (remove_entry (λ key. bytes_eq name (string_bytes key)) es) ≡ without_door name (doors_of_entries es)
+  doors-removed name [] = refl
+  doors-removed name (e ∷ es) = elim (cases_Bool (bytes_eq name (string_bytes e.0))) [
+    | inl passes ↦ rw passes refl
+    | inr fails ↦ rw fails (ap (λ t. door_of_entry e ∷ t) (doors-removed name es))
   ]
 
 -- ---- facts under a result
@@ -148,11 +158,11 @@ find-of_map f test (x ∷ xs) h = elim (cases_Bool (test (f x))) [
   | inr fails ↦ let rest = rw fails at h in rw fails (find-of_map f test xs rest)
 ]
 
-module _ {A : Type 0} (name : List ℕ) (es : List (String A × DoorCore)) where
+module _ {A : Type 0} (name : List ℕ) (es : List (String A × DoorMachine)) where
   abbrev is_key : String A → Bool
   is_key key = bytes_eq name (string_bytes key)
 
-  abbrev key_of : String A × DoorCore → String A
+  abbrev key_of : String A × DoorMachine → String A
   key_of entry = entry.0
 
   -- the place of a key is that of the door

@@ -3,7 +3,9 @@ pub mod PieceLemmas
 pub mod StreamLemmas
 pub mod WordLemmas
 pub mod DoorLemmas
+pub mod SlotLemmas
 pub mod ToldLemmas
+pub mod CellLemmas
 pub mod PrintingLemmas
 pub mod ScriptStateLemmas
 pub mod IdleLemmas

@@ -1,14 +1,14 @@
 -- What a script keeps of its doors, and what a line makes of them.
-use Rattle.std.proofs.Common.{◌≡◌, ℕ, zero, suc, ◌+◌, ◌<◌, ◌≤◌, ◌^◌, ◌≢◌, nat_eq, Bool, true, false, nat_lt, List, [], ◌∷◌, ◌++◌, length, get_or, set, Option, Some, None, Result, Ok, Err, refl, ap, sym, ◌∙◌, arith, inl, inr, bytes_eq, length-append, lt-ltb}
-use Rattle.std.specs.List.{list_any, find}
+use Rattle.std.proofs.Common.{◌≡◌, ℕ, zero, suc, ◌+◌, ◌<◌, ◌≤◌, ◌^◌, ◌≢◌, nat_eq, Bool, true, false, nat_lt, List, [], ◌∷◌, ◌++◌, length, get_or, set, Option, Some, None, Result, Ok, Err, refl, ap, sym, ◌∙◌, arith, inl, inr, bytes_eq, length-append, lt-ltb, if◌then◌else◌}
+use Rattle.std.specs.Prelude.{is_some}
+use Rattle.std.specs.List.{find}
 use Rattle.std.proofs.lemmas.Bool.{cases_Bool, cases_lt}
-use Rattle.std.proofs.lemmas.Bool.Decides.{eqb_tells}
-use Rattle.std.proofs.lemmas.List.{set-get_or, length-set, map-append, get_or-set_other, get_or_append_left}
+use Rattle.std.proofs.lemmas.List.{length-map, set-get_or, length-set, map-append, get_or-set_other, get_or_append_left}
 use Rattle.std.proofs.Math.Seq.{get_or-append_seam}
 use Rattle.std.proofs.lemmas.Slice.Eq.{bytes_eq-Decides}
 use Rattle.st_events.specs.declared.machine_id.MachineId.{MachineId}
 use Rattle.st_events.specs.declared.refusal.Refusal.{Refusal}
-use Rattle.st_events.specs.declared.refusal.Refusal.TheVariants.{AlreadyStarted}
+use Rattle.st_events.specs.declared.refusal.Refusal.TheVariants.{AlreadyStarted, NotStopped}
 use Rattle.st_events.specs.declared.tag.Tag.{Tag}
 use Rattle.st_core.specs.declared.answer.Answer.TheVariants as answer
 use Rattle.st_core.specs.declared.command.Command.{Command}
@@ -25,45 +25,26 @@ use Rattle.st_door.specs.declared.door_state.DoorState.TheVariants.{Locked}
 use Rattle.st_door.specs.declared.line.Line.TheVariants as line
 use Rattle.st_door.specs.declared.effect.Effect.{Effect}
 use Rattle.st_door.specs.declared.effect.Effect.TheVariants.{Printed, Refuses}
-use Rattle.st_door.specs.Doors.{NamedDoor, DoorMachine, IsFirst, IsKept, SameLabels, asks, door_callbacks, door_limit, door_named, door_of, free_slot_of, has_name, is_ready_door, least_from, length_in, next_tag_of, refusal_in, slots_of, told_door, told_of, upward}
-use Rattle.st_door.specs.Printing.{length_text, status_of}
-use Rattle.st_door.specs.Script.{ScriptState, commanded_of, door_start_of, effect_of, length_collected, length_finished, named_status_of, next_id_of, printing, rested_of, status_finished, step_of, the_door, told_script, with_start}
+use Rattle.st_door.specs.Doors.{NamedDoor, DoorMachine, IsFirst, IsKept, SameLabels, asks, door_callbacks, door_limit, door_named, door_of, free_slot_of, has_name, is_ready_door, least_from, length_in, next_tag_of, refusal_in, slots_of, told_door, told_of, without_door}
+use Rattle.st_door.specs.Printing.{length_text, removed_text, status_of}
+use Rattle.st_door.specs.Slots.{occurrences, AreMarked, HaveSameMarks, IsLeastFree}
+use Rattle.st_door.specs.Script.{ScriptState, commanded_of, door_start_of, effect_of, length_collected, length_finished, named_status_of, next_id_of, printing, removed_by, removed_door, rested_of, status_finished, step_of, the_door, told_script, with_start, without_named}
 use Rattle.st_door.proofs.DoorLemmas.{IsFirst-within, IsFirst-changed, IsFirst-found, IsFirst-map, IsFirst-of_map}
 use Rattle.st_door.proofs.IdleLemmas.{no_door, labels-set, labels-told, labels-more}
+use Rattle.st_door.proofs.SlotLemmas.{least-free, marked-taken, marked-same, marked-freed, freed-within}
 use Rattle.st_door.proofs.ToldLemmas.{told-refused, tagged-next}
 
--- ---- the least free place
-any-upward : (more first slot : ℕ) → first ≤ slot → slot < first + more → list_any (λ taken. nat_eq taken slot) (upward first more) ≡ true
-any-upward zero first slot low high = absurd (omega arith)
-any-upward (suc more) first slot low high = elim (eqb_tells first slot) [
-  | inl same ↦ rw same.0 refl
-  | inr other ↦
-      let ne : first ≢ slot = other.1 in
-      rw other.0 (any-upward more (first + 1) slot (omega arith) (omega arith))
-]
-
-least-upward : (more slot n : ℕ) → slot + more ≡ n → least_from more slot (upward 0 n) ≡ n
-least-upward zero slot n same = omega arith
-least-upward (suc more) slot n same =
-    rw (any-upward n 0 slot (omega arith) (omega arith)) (least-upward more (slot + 1) n (omega arith))
-
--- where each door has its place in the list, the least free place is behind them
-pub free-slot : (doors : List NamedDoor) → slots_of doors ≡ upward 0 (length doors) → free_slot_of doors ≡ length doors
-free-slot doors numbered = rw numbered (least-upward (length doors) 0 (length doors) (omega arith))
-
-upward-more : (more first last : ℕ) → last ≡ first + more → upward first more ++ last ∷ [] ≡ upward first (suc more)
-upward-more zero first last same = let here : last ≡ first = omega arith in ap (λ (n : ℕ). n ∷ []) here
-upward-more (suc more) first last same = ap (λ (t : List ℕ). first ∷ t) (upward-more more (first + 1) last (omega arith))
-
 -- ---- what is kept of the doors
--- a door that rests goes to the end
-pub kept-pushed : (doors : List NamedDoor) (from until : ℕ) (door : NamedDoor) → IsKept doors from until
-    → length doors < door_limit → door.machine.id.slot ≡ length doors → is_ready_door door ≡ false → IsKept (doors ++ door ∷ []) from until
-kept-pushed doors from until door kept reserved slot rests = record {
+-- a door that rests goes to the end, and takes its place in the table
+pub kept-pushed : (doors : List NamedDoor) (marks : List Bool) (from until : ℕ) (door : NamedDoor) (slot : ℕ) → IsKept doors marks from until
+    → length doors < door_limit → IsLeastFree marks slot → door.machine.id.slot ≡ slot → is_ready_door door ≡ false
+    → IsKept (doors ++ door ∷ []) (set marks slot true) from until
+kept-pushed doors marks from until door slot kept reserved least same rests = record {
   ordered = kept.ordered;
   within = rw length-append (omega (arith, kept.within));
   few = rw length-append (omega arith);
-  numbered = slots-pushed ∙ ap (upward 0) longer;
+  marked = rw (map-append (λ (d : NamedDoor). d.machine.id.slot) doors (door ∷ []), same)
+      (marked-taken marks (slots_of doors) slot kept.marked least.within least.free);
   resting = λ k d less outside. elim (cases_lt k (length doors)) [
     | inl before ↦ rw get_or_append_left (kept.resting k d before outside)
     | inr after ↦
@@ -71,24 +52,27 @@ kept-pushed doors from until door kept reserved slot rests = record {
         rw (here, get_or-append_seam) rests
   ];
 }
-  where
-    longer : suc (length doors) ≡ length (doors ++ door ∷ [])
-    longer = rw length-append (omega arith)
 
-    slots-pushed : slots_of (doors ++ door ∷ []) ≡ upward 0 (suc (length doors))
-    slots-pushed = map-append (λ (d : NamedDoor). d.machine.id.slot) doors (door ∷ [])
-        ∙ (ap (λ (t : List ℕ). t ++ door.machine.id.slot ∷ []) kept.numbered ∙ upward-more (length doors) 0 door.machine.id.slot (omega (arith, slot)))
+-- the same places are marked
+pub kept-marked : (doors : List NamedDoor) (old new : List Bool) (from until : ℕ) → HaveSameMarks old new → IsKept doors old from until → IsKept doors new from until
+kept-marked doors old new from until same kept = record {
+  ordered = kept.ordered;
+  within = kept.within;
+  few = kept.few;
+  marked = marked-same old new (slots_of doors) same kept.marked;
+  resting = kept.resting;
+}
 
 -- a door gets another machine of the same id, and may be ready
-pub kept-set : (doors : List NamedDoor) (from until place low high : ℕ) (machine : DoorMachine) → IsKept doors from until → place < length doors
+pub kept-set : (doors : List NamedDoor) (marks : List Bool) (from until place low high : ℕ) (machine : DoorMachine) → IsKept doors marks from until → place < length doors
     → machine.id ≡ (get_or doors place no_door).machine.id
     → low ≤ place → place < high → high ≤ length doors → (from < until → (low ≤ from) × (until ≤ high))
-    → IsKept (set doors place (door_named (get_or doors place no_door).name machine)) low high
-kept-set doors from until place low high machine kept within same below above bounded wider = record {
+    → IsKept (set doors place (door_named (get_or doors place no_door).name machine)) marks low high
+kept-set doors marks from until place low high machine kept within same below above bounded wider = record {
   ordered = omega arith;
   within = rw length-set bounded;
   few = rw length-set kept.few;
-  numbered = (labels-set doors place no_door machine within same).slots ∙ (kept.numbered ∙ ap (upward 0) (sym (length-set doors place _)));
+  marked = rw (labels-set doors place no_door machine within same).slots kept.marked;
   resting = λ k d less outside.
       let other : k ≢ place = elim outside [ inl before ↦ omega arith | inr after ↦ omega arith ] in
       let there : k < length doors = omega (arith, less, length-set {A = NamedDoor}) in
@@ -97,6 +81,48 @@ kept-set doors from until place low high machine kept within same below above bo
         | inr none ↦ elim (cases_lt k from) [ inl before ↦ inl before | inr after ↦ inr (omega arith) ]
       ]));
 }
+
+-- ---- a door less
+-- the place of a door that is gone occurs once less
+occurrences-without : (name : List ℕ) (doors : List NamedDoor) (place : ℕ) (d : NamedDoor) → IsFirst (has_name name) doors place
+    → (slot : ℕ) → occurrences slot (slots_of doors)
+    ≡ occurrences slot (slots_of (without_door name doors)) + (if nat_eq (get_or doors place d).machine.id.slot slot then 1 else 0)
+occurrences-without name [] place d first slot = absurd first
+occurrences-without name (door ∷ doors) zero d first slot = rw first (omega arith)
+occurrences-without name (door ∷ doors) (suc place) d first slot =
+    let rest = occurrences-without name doors place d first.1 slot in
+    rw first.0 (omega (arith, rest))
+
+length-without : (name : List ℕ) (doors : List NamedDoor) (place : ℕ) → IsFirst (has_name name) doors place
+    → length doors ≡ length (without_door name doors) + 1
+length-without name [] place first = absurd first
+length-without name (door ∷ doors) zero first = rw first (omega arith)
+length-without name (door ∷ doors) (suc place) first =
+    let rest : length doors ≡ length (without_door name doors) + 1 = length-without name doors place first.1 in
+    rw first.0 (omega (arith, rest))
+
+length-slots : (doors : List NamedDoor) → length (slots_of doors) ≡ length doors
+length-slots doors = length-map doors (λ (door : NamedDoor). door.machine.id.slot)
+
+-- the place of a door has a mark
+pub slot-marked : (doors : List NamedDoor) (marks : List Bool) (name : List ℕ) (place : ℕ) (d : NamedDoor) → AreMarked marks (slots_of doors) → IsFirst (has_name name) doors place
+    → (get_or doors place d).machine.id.slot < length marks
+slot-marked doors marks name place d marked first =
+    freed-within marks (slots_of doors) (slots_of (without_door name doors)) (get_or doors place d).machine.id.slot marked (occurrences-without name doors place d first)
+
+-- a door is gone, and its place in the table is free; any other may be ready
+pub kept-without : (doors : List NamedDoor) (marks : List Bool) (from until : ℕ) (name : List ℕ) (place : ℕ) → IsKept doors marks from until → IsFirst (has_name name) doors place
+    → IsKept (without_door name doors) (set marks (get_or doors place no_door).machine.id.slot false) 0 (length (without_door name doors))
+kept-without doors marks from until name place kept first =
+    let fewer : length doors ≡ length (without_door name doors) + 1 = length-without name doors place first in
+    record {
+      ordered = omega arith;
+      within = omega arith;
+      few = omega (arith, fewer, kept.few);
+      marked = marked-freed marks (slots_of doors) (slots_of (without_door name doors)) (get_or doors place no_door).machine.id.slot kept.marked
+          (occurrences-without name doors place no_door first) (length-slots doors ∙ (fewer ∙ ap (λ (n : ℕ). n + 1) (sym (length-slots (without_door name doors)))));
+      resting = λ k d less outside. absurd (elim outside [ inl before ↦ omega arith | inr after ↦ omega arith ]);
+    }
 
 -- ---- the place of a name
 -- the place is found by the names alone
@@ -245,28 +271,55 @@ started-state script code core report started = elim (cases_Bool (nat_lt script.
   | inr late ↦ let went = rw late at started in cc
 ]
 
--- the id that a start is given is the next one
-pub given-id : (script : ScriptState) (code : List ℕ) (id : MachineId) → slots_of script.doors ≡ upward 0 (length script.doors) → script.started ≡ length script.doors
-    → id ≡ record { slot = length script.doors; serial = length script.doors + 1 }
-    → start_of door_callbacks the_door id (init_of code) script.moment 1 ≡ door_start_of script code
-given-id script code id numbered counted same =
-    let next : id ≡ next_id_of script = rw (same, free-slot script.doors numbered, counted) refl in
+-- the place that a start is given is the next one
+pub next-slot : (doors : List NamedDoor) (marks : List Bool) (slot : ℕ) → AreMarked marks (slots_of doors) → IsLeastFree marks slot → free_slot_of doors ≡ slot
+next-slot doors marks slot marked least =
+    ap (λ (n : ℕ). least_from n 0 (slots_of doors)) (sym (length-slots doors)) ∙ least-free marks (slots_of doors) slot marked least
+
+-- and so is the id
+pub given-id : (script : ScriptState) (code : List ℕ) (slot serial : ℕ) → free_slot_of script.doors ≡ slot → serial ≡ script.started + 1
+    → start_of door_callbacks the_door (record { slot = slot; serial = serial }) (init_of code) script.moment 1 ≡ door_start_of script code
+given-id script code slot serial free counted =
+    let next : record { slot = slot; serial = serial } ≡ next_id_of script = rw (free, counted) refl in
     ap (λ (id : MachineId). start_of door_callbacks the_door id (init_of code) script.moment 1) next
 
--- the script with a door that runs
-pub started-script : (script : ScriptState) (name code : List ℕ) (core : DoorCore) (report : Report DoorState) (after : List NamedDoor)
-    → Ok (Running core report) ≡ door_start_of script code → script.started ≡ length script.doors
-    → after ≡ script.doors ++ door_named name core.machine ∷ []
-    → with_start script name (door_start_of script code) ≡ Ok (record { doors = after; moment = script.moment; started = length after })
-started-script script name code core report after started counted pushed =
-    let longer : script.started + 1 ≡ length after = rw (pushed, length-append, counted) (omega arith) in
-    rw (← started, ← longer, pushed) refl
+-- a door that starts has the place that it was given
+pub started-slot : (script : ScriptState) (code : List ℕ) (core : DoorCore) (report : Report DoorState) (slot : ℕ) → free_slot_of script.doors ≡ slot
+    → Ok (Running core report) ≡ door_start_of script code → core.machine.id.slot ≡ slot
+started-slot script code core report slot free started =
+    ap (λ (id : MachineId). id.slot) (started-state script code core report started).0 ∙ free
 
--- a door that starts gets the place in the table that it has in the list
-pub started-slot : (script : ScriptState) (code : List ℕ) (core : DoorCore) (report : Report DoorState) → slots_of script.doors ≡ upward 0 (length script.doors)
-    → Ok (Running core report) ≡ door_start_of script code → core.machine.id.slot ≡ length script.doors
-started-slot script code core report numbered started =
-    ap (λ (id : MachineId). id.slot) (started-state script code core report started).0 ∙ free-slot script.doors numbered
+-- the script with a door that runs
+pub started-script : (script : ScriptState) (name code : List ℕ) (core : DoorCore) (report : Report DoorState) (after : List NamedDoor) (serial : ℕ)
+    → Ok (Running core report) ≡ door_start_of script code → serial ≡ script.started + 1
+    → after ≡ script.doors ++ door_named name core.machine ∷ []
+    → with_start script name (door_start_of script code) ≡ Ok (record { doors = after; moment = script.moment; started = serial })
+started-script script name code core report after serial started counted pushed = rw (← started, counted, pushed) refl
+
+-- ---- removals
+-- a door that has not ended stays
+pub remove-refused : (script : ScriptState) (name : List ℕ) (place : ℕ) → IsFirst (has_name name) script.doors place
+    → is_some (get_or script.doors place no_door).machine.ended ≡ false
+    → step_of script (line.Remove name) ≡ (Refuses NotStopped, script)
+remove-refused script name place first runs =
+    ap (λ (found : Option NamedDoor). effect_of script (λ s. (removed_text name, s)) (removed_door script name found)) (IsFirst-found (has_name name) script.doors place no_door first)
+    ∙ ap (λ (acted : Result ScriptState Refusal). effect_of script (λ s. (removed_text name, s)) acted) (removed-not script name (get_or script.doors place no_door).machine.ended runs)
+  where
+    removed-not : (script : ScriptState) (name : List ℕ) (ended : Option (ℕ × ℕ)) → is_some ended ≡ false → removed_by script name ended ≡ Err NotStopped
+    removed-not script name None runs = refl
+    removed-not script name (Some end) runs = cc
+
+-- and one that has goes
+pub remove-done : (script : ScriptState) (name : List ℕ) (place : ℕ) → IsFirst (has_name name) script.doors place
+    → is_some (get_or script.doors place no_door).machine.ended ≡ true
+    → step_of script (line.Remove name) ≡ (Printed (removed_text name), rested_of (without_named script name))
+remove-done script name place first ends =
+    ap (λ (found : Option NamedDoor). effect_of script (λ s. (removed_text name, s)) (removed_door script name found)) (IsFirst-found (has_name name) script.doors place no_door first)
+    ∙ ap (λ (acted : Result ScriptState Refusal). effect_of script (λ s. (removed_text name, s)) acted) (removed-it script name (get_or script.doors place no_door).machine.ended ends)
+  where
+    removed-it : (script : ScriptState) (name : List ℕ) (ended : Option (ℕ × ℕ)) → is_some ended ≡ true → removed_by script name ended ≡ Ok (without_named script name)
+    removed-it script name None ends = cc
+    removed-it script name (Some end) ends = refl
 
 -- ---- the reply once the doors rest
 pub idle-effect : (script idle : ScriptState) (name : List ℕ) (place : ℕ) (said : Effect × ScriptState) (effect : Effect)

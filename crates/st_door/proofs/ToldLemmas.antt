@@ -1,5 +1,5 @@
 -- A door is told a command: what it answers, and what stays as it was.
-use Rattle.std.proofs.Common.{◌≡◌, ◌≢◌, ℕ, ◌^◌, true, nat_lt, Option, Some, None, refl, ap, ◌∙◌, inl, inr, ◌⊎◌}
+use Rattle.std.proofs.Common.{◌≡◌, ℕ, ◌^◌, nat_lt, Option, Some, None, refl, ap, inl, inr, ◌⊎◌}
 use Rattle.std.specs.Prelude.{Result, Ok, Err}
 use Rattle.std.proofs.Math.Path.{fun_ext}
 use Rattle.std.proofs.lemmas.Bool.{cases_Bool}
@@ -10,14 +10,13 @@ use Rattle.st_core.specs.declared.command.Command.{Command}
 use Rattle.st_core.specs.declared.command.Command.TheVariants as command
 use Rattle.st_core.specs.declared.entry.Entry.{Entry}
 use Rattle.st_core.specs.Post.{next_tag, post_running}
-use Rattle.st_core.specs.Run.{Does, step_of, takes_memory, without_memory}
+use Rattle.st_core.specs.Run.{step_of}
 use Rattle.st_core.specs.Stop.{stop_running, unless_ended}
 use Rattle.st_core.specs.Tick.{tick_running}
 use Rattle.st_core.specs.Transition.{turn_running, transition_of, with_moment, concluded, left_by, went_on, has_numbers}
 use Rattle.st_events.specs.declared.event.Event.{Event}
 use Rattle.st_events.specs.declared.machine_id.MachineId.{MachineId}
 use Rattle.st_events.specs.declared.refusal.Refusal.{Refusal}
-use Rattle.st_events.specs.declared.refusal.Refusal.TheVariants.{NoMemory}
 use Rattle.st_events.specs.declared.tag.Tag.{Tag}
 use Rattle.st_door.specs.contracts.door.DoorModule.TheImpl.{ghosts}
 use Rattle.st_door.specs.contracts.door_state.DoorStatePartialEq.TheImpl.{eq-value}
@@ -27,10 +26,9 @@ use Rattle.st_door.specs.declared.door_data.DoorData.{DoorData}
 use Rattle.st_door.specs.declared.door_state.DoorState.{DoorState}
 use Rattle.st_door.specs.declared.door_state.DoorState.TheVariants.{Locked, Open}
 use Rattle.st_door.specs.Door.{is_same_state}
-use Rattle.st_door.specs.Entries.{DoorCore}
-use Rattle.st_door.specs.Doors.{DoorAnswer, DoorMachine, asks, door_callbacks, refusal_in, refusal_by, post_refusal_by}
+use Rattle.st_door.specs.Doors.{DoorMachine, asks, door_callbacks, refusal_in, refusal_by, post_refusal_by}
 
--- ---- what a core answers is what the definition says
+-- ---- a door's callbacks are those of the definition
 -- states are compared as the definition compares them
 same-states : (one other : DoorState) → eq-value.it one other ≡ is_same_state one other
 same-states Locked Locked = refl
@@ -39,32 +37,8 @@ same-states Open Locked = refl
 same-states Open Open = refl
 
 -- the callbacks that the bound gives for a door are those of the definition
-given-callbacks : (door : Door) → callbacks_of ghosts eq-value.it door ≡ door_callbacks
+pub given-callbacks : (door : Door) → callbacks_of ghosts eq-value.it door ≡ door_callbacks
 given-callbacks door = ap (λ same_state. record door_callbacks { same_state = same_state }) (fun_ext (λ one. fun_ext (λ other. same-states one other)))
-
--- where a command takes memory, the answer that it found none says so
-says-none : (machine : DoorMachine) (command : Command DoorContent) → takes_memory (step_of door_callbacks machine command).0 ≡ true
-    → refusal_in (without_memory command) ≡ Some NoMemory
-says-none machine (command.Post entry content) takes = refl
-says-none machine (command.Tick moment) takes = refl
-says-none machine (command.Turn moment) takes = refl
-says-none machine (command.Reply tag content) takes = cc
-says-none machine (command.Collect tag) takes = cc
-says-none machine (command.Stop reason) takes = refl
-
--- an answer that does not say so is the definition's, and so is the machine after it
-pub told-ok : (old new : DoorCore) (command : Command DoorContent) (answer : DoorAnswer) → refusal_in answer ≢ Some NoMemory
-    → Does (callbacks_of ghosts eq-value.it) old command answer new
-    → (answer ≡ (step_of door_callbacks old.machine command).0) × (new.machine ≡ (step_of door_callbacks old.machine command).1)
-told-ok old new command answer found does = elim does [
-  | inl done ↦ (
-    done.0 ∙ ap (λ callbacks. (step_of callbacks old.machine command).0) (given-callbacks old.module_),
-    ap (λ (core : DoorCore). core.machine) done.1 ∙ ap (λ callbacks. (step_of callbacks old.machine command).1) (given-callbacks old.module_),
-  )
-  | inr none ↦
-      let takes = rw (given-callbacks old.module_) at none.0 in
-      absurd (found (ap refusal_in none.1 ∙ says-none old.machine command takes))
-]
 
 -- ---- what a call keeps
 -- a machine runs, or it has ended

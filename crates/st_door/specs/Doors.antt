@@ -20,6 +20,7 @@ use Rattle.st_events.specs.declared.tag.Tag.{Tag}
 use Rattle.st_door.specs.declared.door_content.DoorContent.{DoorContent}
 use Rattle.st_door.specs.declared.door_data.DoorData.{DoorData}
 use Rattle.st_door.specs.declared.door_state.DoorState.{DoorState}
+use Rattle.st_door.specs.Slots.{AreMarked}
 use Rattle.st_door.specs.Door.{handle_of, enters, enter_of, terminate_of, is_same_state}
 
 -- the machine state of a door
@@ -196,11 +197,6 @@ least_from (suc more) slot slots = if list_any (λ taken. taken == slot) slots t
 abbrev pub free_slot_of : List NamedDoor → ℕ
 free_slot_of doors = least_from (length doors) 0 (slots_of doors)
 
--- so many numbers, from one on
-abbrev pub upward : ℕ → ℕ → List ℕ
-upward first zero = []
-upward first (suc more) = first ∷ upward (first + 1) more
-
 -- the doors have the names and the places in the table that they had
 pub record SameLabels (old new : List NamedDoor) : Type 0 where
   pub names : names_of new ≡ names_of old
@@ -210,11 +206,16 @@ pub record SameLabels (old new : List NamedDoor) : Type 0 where
 abbrev pub door_limit : ℕ
 door_limit = 65536
 
--- what a script keeps of its doors: they are not too many, each has the place in the table that it
--- has in the list, and all rest but those from one place up to another
-pub record IsKept (doors : List NamedDoor) (from until : ℕ) : Type 0 where
+-- the doors without the first one that has this name
+abbrev pub without_door : List ℕ → List NamedDoor → List NamedDoor
+without_door name [] = []
+without_door name (door ∷ doors) = if has_name name door then doors else door ∷ without_door name doors
+
+-- what a script keeps of its doors: they are not too many, the places that they take in the table are marked, and all
+-- rest but those from one place in the list up to another
+pub record IsKept (doors : List NamedDoor) (marks : List Bool) (from until : ℕ) : Type 0 where
   pub ordered : from ≤ until
   pub within : until ≤ length doors
   pub few : length doors ≤ door_limit
-  pub numbered : slots_of doors ≡ upward 0 (length doors)
+  pub marked : AreMarked marks (slots_of doors)
   pub resting : RestsOutside from until doors

@@ -1,7 +1,7 @@
 -- What a line says.
 use Rattle.std.specs.Prelude.{ℕ, Bool, false, ◌&&◌, ◌==◌, ◌-◌, nat_lt, List, [], ◌∷◌, length, if◌then◌else◌, bytes_eq, codes}
 use Rattle.st_door.specs.declared.line.Line.{Line}
-use Rattle.st_door.specs.declared.line.Line.TheVariants.{Blank, Malformed, New, Button, Show, At, Stop, Length, Names}
+use Rattle.st_door.specs.declared.line.Line.TheVariants.{Blank, Malformed, New, Button, Show, At, Stop, Remove, Length, Names}
 use Rattle.st_door.specs.Lines.{words}
 use Rattle.st_door.specs.WordForms.{digit_zero, is_name, is_digits, digits_of, is_number, number_of}
 
@@ -61,6 +61,11 @@ stop_of (name ∷ reason ∷ []) =
     if is_name name && is_number reason_limit greatest_reason reason then Stop name (number_of reason) else Malformed
 stop_of _ = Malformed
 
+-- `remove`, after which a name stands
+abbrev pub remove_of : List (List ℕ) → Line
+remove_of (name ∷ []) = if is_name name then Remove name else Malformed
+remove_of _ = Malformed
+
 -- `length`, after which a name stands
 abbrev pub length_of : List (List ℕ) → Line
 length_of (name ∷ []) = if is_name name then Length name else Malformed
@@ -85,9 +90,10 @@ command_of verb args =
     else (if bytes_eq verb (codes "show") then show_of args
     else (if bytes_eq verb (codes "at") then at_of args
     else (if bytes_eq verb (codes "stop") then stop_of args
+    else (if bytes_eq verb (codes "remove") then remove_of args
     else (if bytes_eq verb (codes "length") then length_of args
     else (if bytes_eq verb (codes "names") then names_of args
-    else Malformed)))))))
+    else Malformed))))))))
 
 -- what the words of a line say
 abbrev pub line_of_words : List (List ℕ) → Line

@@ -7,5 +7,6 @@ pub mod Lines
 pub mod Printing
 pub mod Script
 pub mod ScriptFault
+pub mod Slots
 pub mod Streams
 pub mod WordForms

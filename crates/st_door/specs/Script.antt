@@ -5,7 +5,7 @@ use Rattle.std.specs.Option.{option_map_or}
 use Rattle.st_events.specs.Refusal.{number_of}
 use Rattle.st_events.specs.declared.machine_id.MachineId.{MachineId}
 use Rattle.st_events.specs.declared.refusal.Refusal.{Refusal}
-use Rattle.st_events.specs.declared.refusal.Refusal.TheVariants.{AlreadyStarted, Moment, NoSuchName, Full}
+use Rattle.st_events.specs.declared.refusal.Refusal.TheVariants.{AlreadyStarted, Moment, NoSuchName, NotStopped, Full}
 use Rattle.st_events.specs.declared.refused.Refused.{Refused}
 use Rattle.st_events.specs.declared.tag.Tag.{Tag}
 use Rattle.st_core.specs.declared.command.Command.{Command}
@@ -22,10 +22,10 @@ use Rattle.st_door.specs.declared.line.Line.TheVariants as line
 use Rattle.st_door.specs.declared.effect.Effect.{Effect}
 use Rattle.st_door.specs.declared.effect.Effect.TheVariants.{Silent, Printed, Refuses, Malformed}
 use Rattle.st_door.specs.Door.{init_of}
-use Rattle.st_door.specs.Doors.{NamedDoor, DoorMachine, door_callbacks, door_limit, door_of, with_machine, free_slot_of, run_until_idle, told_of, presses, asks, refusal_in, length_in, next_tag_of, all_expired_of, ticked_doors}
+use Rattle.st_door.specs.Doors.{NamedDoor, DoorMachine, door_callbacks, door_limit, door_of, with_machine, without_door, free_slot_of, run_until_idle, told_of, presses, asks, refusal_in, length_in, next_tag_of, all_expired_of, ticked_doors}
 use Rattle.st_door.specs.Grammar.{line_of}
 use Rattle.st_door.specs.Lines.{lines}
-use Rattle.st_door.specs.Printing.{status_of, names_text, expired_text, length_text, refused_text, malformed_text}
+use Rattle.st_door.specs.Printing.{status_of, names_text, removed_text, expired_text, length_text, refused_text, malformed_text}
 
 -- the doors in order of registration, the script's moment, and how many starts have succeeded
 pub record ScriptState : Type 0 where
@@ -91,6 +91,20 @@ abbrev pub shown_door : ScriptState → Option NamedDoor → Result ScriptState 
 shown_door script None = Err NoSuchName
 shown_door script (Some door) = Ok script
 
+-- the script without the door of a name
+abbrev pub without_named : ScriptState → List ℕ → ScriptState
+without_named script name = record script { doors = without_door name script.doors }
+
+-- `remove` of a door that has ended, or has not
+abbrev pub removed_by : ScriptState → List ℕ → Option (ℕ × ℕ) → Result ScriptState Refusal
+removed_by script name None = Err NotStopped
+removed_by script name (Some end) = Ok (without_named script name)
+
+-- `remove`: a name that is not registered is refused, then a door that has not ended
+abbrev pub removed_door : ScriptState → List ℕ → Option NamedDoor → Result ScriptState Refusal
+removed_door script name None = Err NoSuchName
+removed_door script name (Some door) = removed_by script name door.machine.ended
+
 -- the script at a moment, at which its doors were ticked
 abbrev pub ticked_script : ScriptState → ℕ → ScriptState
 ticked_script script moment = record script { doors = ticked_doors moment script.doors; moment = moment }
@@ -109,6 +123,7 @@ acted_of script (line.Button name digit) = told_script script name (presses digi
 acted_of script (line.Show name) = shown_door script (door_of name script.doors)
 acted_of script (line.At moment) = passed_to script moment
 acted_of script (line.Stop name reason) = told_script script name (command.Stop reason) (door_of name script.doors)
+acted_of script (line.Remove name) = removed_door script name (door_of name script.doors)
 acted_of script (line.Length name) = told_script script name asks (door_of name script.doors)
 acted_of script line.Names = Ok script
 
@@ -148,6 +163,7 @@ finished_of before (line.Button name digit) = status_finished name
 finished_of before (line.Show name) = status_finished name
 finished_of before (line.At moment) = λ script. (expired_text script.moment (all_expired_of script.moment before.doors), script)
 finished_of before (line.Stop name reason) = status_finished name
+finished_of before (line.Remove name) = λ script. (removed_text name, script)
 finished_of before (line.Length name) = length_finished name (door_of name before.doors)
 finished_of before line.Names = λ script. (names_text script.doors, script)
 
@@ -173,6 +189,7 @@ step_of script (line.Button name digit) = effect_of script (finished_of script (
 step_of script (line.Show name) = effect_of script (finished_of script (line.Show name)) (acted_of script (line.Show name))
 step_of script (line.At moment) = effect_of script (finished_of script (line.At moment)) (acted_of script (line.At moment))
 step_of script (line.Stop name reason) = effect_of script (finished_of script (line.Stop name reason)) (acted_of script (line.Stop name reason))
+step_of script (line.Remove name) = effect_of script (finished_of script (line.Remove name)) (acted_of script (line.Remove name))
 step_of script (line.Length name) = effect_of script (finished_of script (line.Length name)) (acted_of script (line.Length name))
 step_of script line.Names = effect_of script (finished_of script line.Names) (acted_of script line.Names)
 

@@ -1,22 +1,24 @@
 //! The doors of a script, by name, in order of registration.
-ghost use Rattle.std.specs.Prelude.{◌≡◌, ◌<◌, ◌≤◌, [], ◌∷◌, ◌++◌, None, IfOk, OnOk, OnErr, IfSome, IfNone, length, slice_set, slice_index_or, string_bytes};
-ghost use Rattle.st_core.specs.Run.{step_of};
-ghost use Rattle.st_door.specs.Doors.{NamedDoor, door_named, IsFirst, has_name, door_of, is_ready_door, told_of, told_door, door_callbacks, all_expired_of, ticked_doors, SameLabels, door_limit};
+ghost use Rattle.std.specs.Prelude.{◌≡◌, ◌<◌, ◌≤◌, true, false, [], ◌∷◌, ◌++◌, None, is_some, IfOk, OnOk, OnErr, IfSome, IfNone, length, slice_set, slice_index_or, string_bytes};
+ghost use Rattle.st_core.specs.declared.command.Command.TheVariants as command;
+ghost use Rattle.st_scheduled.specs.Serving.{is_turn};
+ghost use Rattle.st_door.specs.Doors.{NamedDoor, door_named, IsFirst, has_name, door_of, without_door, is_ready_door, told_of, told_door, all_expired_of, ticked_doors, SameLabels, door_limit};
 ghost use Rattle.st_door.specs.Printing.{status_of, names_text};
 
-use crate::answers::{DoorAnswer, count_in, refusal_in};
+use crate::DoorContent;
+use crate::answers::{DoorAnswer, count_in};
+use crate::door_cell::DoorCell;
 use crate::printing::{ended_status, status};
-use crate::{Door, DoorContent};
 use indexmap::IndexMap;
-use st_core::{Command, Core};
-use st_events::{MachineId, Refusal};
+use st_core::Command;
+use st_events::MachineId;
 use std::alloc::{AllocError, Global};
 use std::marker::Model;
 
 /// The doors of a script. Contracts see the list of the doors with their names.
 #[derive(Drop)]
 pub(crate) struct Doors {
-    entries: IndexMap<String, Core<Door>>,
+    entries: IndexMap<String, DoorCell>,
 }
 
 impl Model for Doors {
@@ -56,21 +58,28 @@ impl Doors {
     }
 
     /// Registers a door under a name that is not taken.
-    pub(crate) fn push(&mut self, name: String, core: Core<Door>) -> Result<(), AllocError>
+    pub(crate) fn push(&mut self, name: String, door: DoorCell) -> Result<(), AllocError>
         requires { door_of (string_bytes name) self.old ≡ None }
-        ensures pushed { OnOk result (self.new ≡ self.old ++ door_named (string_bytes name) core.machine ∷ []) }
+        ensures pushed { OnOk result (self.new ≡ self.old ++ door_named (string_bytes name) door ∷ []) }
 
         ensures unchanged { OnErr result (self.new ≡ self.old) }
     {
-        self.entries.insert(name, core)?;
+        self.entries.insert(name, door)?;
         Ok(())
     }
 
+    /// Takes out the door of a name. The others keep their order.
+    pub(crate) fn remove(&mut self, name: &str)
+        ensures { self.new ≡ without_door name.now self.old }
+    {
+        drop(self.entries.shift_remove(name));
+    }
+
     /// The name and the door at a place.
-    fn entry_at(&self, place: usize) -> (&String, &Core<Door>)
+    fn entry_at(&self, place: usize) -> (&String, &DoorCell)
         requires { place < length self.now }
         ensures name { (d : NamedDoor) → string_bytes result.0.now ≡ (slice_index_or self.now place d).name }
-        ensures machine { (d : NamedDoor) → result.1.now.machine ≡ (slice_index_or self.now place d).machine }
+        ensures machine { (d : NamedDoor) → result.1.now ≡ (slice_index_or self.now place d).machine }
     {
         self.entries.get_index(place).unwrap()
     }
@@ -80,7 +89,7 @@ impl Doors {
         requires { place < length self.now }
         ensures { (d : NamedDoor) → result ≡ (slice_index_or self.now place d).machine.id }
     {
-        self.entry_at(place).1.id()
+        self.entry_at(place).1.core().id()
     }
 
     /// Says whether the door at a place is ready.
@@ -88,24 +97,45 @@ impl Doors {
         requires { place < length self.now }
         ensures { (d : NamedDoor) → result ≡ is_ready_door (slice_index_or self.now place d) }
     {
-        self.entry_at(place).1.is_ready()
+        self.entry_at(place).1.core().is_ready()
     }
 
-    /// Tells the door at a place a command, and answers its answer. Where memory is wanted and there is
+    /// Says whether the door at a place has ended.
+    pub(crate) fn has_ended_at(&self, place: usize) -> bool
+        requires { place < length self.now }
+        ensures { (d : NamedDoor) → result ≡ is_some (slice_index_or self.now place d).machine.ended }
+    {
+        self.entry_at(place).1.core().ended().is_some()
+    }
+
+    /// Tells the door at a place a command that is no turn, and answers its answer. Where memory is wanted and there is
     /// none, the doors stay.
     pub(crate) fn tell_at(
         &mut self,
         place: usize,
         command: Command<DoorContent>,
     ) -> Result<DoorAnswer, AllocError>
-        requires { place < length self.old }
+        requires place { place < length self.old }
+        requires no_turn { is_turn command ≡ false }
         ensures answer { IfOk result (λ answer. (d : NamedDoor) → answer ≡ (told_of command (slice_index_or self.old place d)).0) }
         ensures told { OnOk result ((d : NamedDoor) → self.new ≡ slice_set self.old place (told_door command (slice_index_or self.old place d))) }
 
         ensures unchanged { OnErr result (self.new ≡ self.old) }
     {
-        let (_, core) = self.entries.pair_mut(place);
-        tell(core, command)
+        let (_, door) = self.entries.pair_mut(place);
+        door.tell(command)
+    }
+
+    /// Gives the door at a place, which is ready, a turn. Where memory is wanted and there is none, the doors stay.
+    pub(crate) fn turn_at(&mut self, place: usize, moment: u64) -> Result<(), AllocError>
+        requires place { place < length self.old }
+        requires work { (d : NamedDoor) → is_ready_door (slice_index_or self.old place d) ≡ true }
+        ensures told { OnOk result ((d : NamedDoor) → self.new ≡ slice_set self.old place (told_door (command.Turn moment) (slice_index_or self.old place d))) }
+
+        ensures unchanged { OnErr result (self.new ≡ self.old) }
+    {
+        let (_, door) = self.entries.pair_mut(place);
+        door.turn(moment)
     }
 
     /// Ticks each door, in order of registration, and answers how many time-outs expire.
@@ -144,7 +174,8 @@ impl Doors {
         requires { place < length self.now }
         ensures { IfOk result (λ text. (d : NamedDoor) → string_bytes text ≡ status_of (slice_index_or self.now place d)) }
     {
-        let (name, core) = self.entry_at(place);
+        let (name, door) = self.entry_at(place);
+        let core = door.core();
         if let Some((reason, word)) = core.ended() {
             return ended_status(alloc, name.as_str(), reason, word);
         }
@@ -155,20 +186,5 @@ impl Doors {
             core.data().buttons.len(),
             core.waiting(),
         )
-    }
-}
-
-/// Tells a door a command, and answers its answer. Where memory is wanted and there is none, the door
-/// stays.
-fn tell(core: &mut Core<Door>, command: Command<DoorContent>) -> Result<DoorAnswer, AllocError>
-    ensures answer { IfOk result (λ answer. answer ≡ (step_of door_callbacks core.old.machine command).0) }
-    ensures told { OnOk result (core.new.machine ≡ (step_of door_callbacks core.old.machine command).1) }
-
-    ensures unchanged { OnErr result (core.new ≡ core.old) }
-{
-    let answer = core.step(command);
-    match refusal_in(&answer) {
-        Some(Refusal::NoMemory) => Err(AllocError),
-        _ => Ok(answer),
     }
 }

@@ -3,9 +3,11 @@
 #![tactic(auto)]
 
 mod answers;
+mod cells;
 mod counted;
 mod digits;
 mod door;
+mod door_cell;
 mod door_content;
 mod door_data;
 mod door_state;
@@ -23,6 +25,7 @@ mod run;
 mod script;
 mod script_fault;
 mod sink;
+mod slots;
 mod source;
 mod text;
 mod until_idle;

@@ -2,7 +2,7 @@
 ghost use Rattle.std.specs.Prelude.{◌≡◌, IfOk, map, Some, None, if◌then◌else◌};
 ghost use Rattle.st_door.specs.WordForms.{is_name};
 ghost use Rattle.st_door.specs.Grammar.{line_of, command_of, is_comment};
-ghost use Rattle.st_door.specs.Grammar.{new_of, button_of, show_of, at_of, stop_of, length_of, names_of};
+ghost use Rattle.st_door.specs.Grammar.{new_of, button_of, show_of, at_of, stop_of, remove_of, length_of, names_of};
 
 use crate::digits::Digits;
 use crate::lines::words;
@@ -41,6 +41,8 @@ pub enum Line {
     At { moment: u64 },
     /// Stop a door.
     Stop { name: Text, reason: Reason },
+    /// Take out a door that has ended.
+    Remove { name: Text },
     /// Ask a door how long its code is.
     Length { name: Text },
     /// Print the names of the doors.
@@ -138,6 +140,18 @@ fn stop_line(alloc: Global, args: &[&[u8]]) -> Result<Line, AllocError>
     })
 }
 
+fn remove_line(alloc: Global, args: &[&[u8]]) -> Result<Line, AllocError>
+    ensures { IfOk result (λ line. line ≡ remove_of (map (λ arg. arg.now) args.now)) }
+{
+    let [word] = args else {
+        return Ok(Line::Malformed);
+    };
+    let Some(name) = name_of(alloc, word)? else {
+        return Ok(Line::Malformed);
+    };
+    Ok(Line::Remove { name })
+}
+
 fn length_line(alloc: Global, args: &[&[u8]]) -> Result<Line, AllocError>
     ensures { IfOk result (λ line. line ≡ length_of (map (λ arg. arg.now) args.now)) }
 {
@@ -174,6 +188,8 @@ fn command(alloc: Global, verb: &[u8], args: &[&[u8]]) -> Result<Line, AllocErro
         Ok(at_line(args))
     } else if verb == b"stop".as_slice() {
         stop_line(alloc, args)
+    } else if verb == b"remove".as_slice() {
+        remove_line(alloc, args)
     } else if verb == b"length".as_slice() {
         length_line(alloc, args)
     } else if verb == b"names".as_slice() {

@@ -1,6 +1,6 @@
 //! What is printed.
 ghost use Rattle.std.specs.Prelude.{◌≡◌, IfOk, string_bytes};
-ghost use Rattle.st_door.specs.Printing.{state_name_of, status_text, ended_text, expired_text, length_text};
+ghost use Rattle.st_door.specs.Printing.{state_name_of, status_text, ended_text, removed_text, expired_text, length_text};
 ghost use Rattle.st_door.specs.Script.{printed_of};
 
 use crate::DoorState;
@@ -43,6 +43,13 @@ pub(crate) fn ended_status(
     ensures { IfOk result (λ text. string_bytes text ≡ ended_text name.now reason word) }
 {
     format!(in alloc; "{name} stopped {reason} word {word}\n")
+}
+
+/// That the door of a name was removed.
+pub(crate) fn removed(alloc: Global, name: &str) -> Result<String, AllocError>
+    ensures { IfOk result (λ text. string_bytes text ≡ removed_text name.now) }
+{
+    format!(in alloc; "{name} removed\n")
 }
 
 /// Which moment it is, and how many time-outs expired.

@@ -1,16 +1,19 @@
 //! A script between two of its lines.
-ghost use Rattle.std.specs.Prelude.{◌≡◌, ◌≤◌, ◌<◌, ℕ, None, Ok, Err, IfOk, OnOk, IfNone, IfSome, length, slice_index_or, slice_set};
-ghost use Rattle.st_door.specs.Doors.{NamedDoor, SameLabels, door_limit, door_of, told_of, told_door, all_expired_of};
+ghost use Rattle.std.specs.Prelude.{◌≡◌, ◌≤◌, ◌<◌, ℕ, false, None, Ok, Err, IfOk, OnOk, IfNone, IfSome, length, slice_index_or, slice_set};
+ghost use Rattle.st_scheduled.specs.Serving.{is_turn};
+ghost use Rattle.st_door.specs.Doors.{NamedDoor, IsFirst, SameLabels, door_limit, door_of, has_name, told_of, told_door, all_expired_of};
 ghost use Rattle.st_door.specs.Printing.{status_of};
-ghost use Rattle.st_door.specs.Script.{first_script_state, step_of, commanded_of, with_start, door_start_of, ticked_script, rested_of};
+ghost use Rattle.st_door.specs.Script.{first_script_state, step_of, commanded_of, with_start, without_named, door_start_of, ticked_script, rested_of};
 ghost use Rattle.st_door.specs.declared.effect.Effect.TheVariants.{Printed};
 ghost use Rattle.st_door.specs.declared.line.Line.TheVariants as line;
 
 use crate::answers::{DoorAnswer, length_in, refusal_in};
+use crate::door_cell::DoorCell;
 use crate::doors::Doors;
 use crate::effect::Effect;
 use crate::line::Line;
-use crate::printing::{code_length, expired};
+use crate::printing::{code_length, expired, removed};
+use crate::slots::Slots;
 use crate::text::Text;
 use crate::until_idle::run_until_idle;
 use crate::{Digits, Door, DoorContent};
@@ -22,27 +25,29 @@ use std::marker::Model;
 /// How many doors there may be.
 const DOOR_LIMIT: usize = 65_536;
 
-/// A script between two of its lines: its doors, its moment in milliseconds, and from which place up
-/// to which other a door may be ready. Between lines no other is.
+/// A script between two of its lines: its doors, the places that they take in the table, its moment in milliseconds, how
+/// many starts have succeeded, and from which place in the list up to which other a door may be ready. Between lines no
+/// other is.
 #[derive(Drop)]
 pub(crate) struct Script {
     alloc: Global,
     doors: Doors,
+    slots: Slots,
     moment: u64,
+    started: u64,
     from: usize,
     until: usize,
 }
 
 impl Model for Script {
-    ghost use Rattle.std.specs.Prelude.{length};
     ghost use Rattle.st_door.specs.Doors.{IsKept};
     ghost use Rattle.st_door.specs.Script.{ScriptState};
 
     ghost Value = { ScriptState };
 
-    ghost view = { λ script. record { doors = script.doors; moment = script.moment; started = length script.doors } };
+    ghost view = { λ script. record { doors = script.doors; moment = script.moment; started = script.started } };
 
-    ghost invariant = { λ script. IsKept script.doors script.from script.until };
+    ghost invariant = { λ script. IsKept script.doors script.slots script.from script.until };
 }
 
 impl Script {
@@ -53,7 +58,9 @@ impl Script {
         Script {
             alloc,
             doors: Doors::new(alloc),
+            slots: Slots::new(alloc),
             moment: 0,
+            started: 0,
             from: 0,
             until: 0,
         }
@@ -77,6 +84,7 @@ impl Script {
             Line::Stop { name, reason } => {
                 self.obey_command(name.as_str(), Command::Stop(reason))
             }
+            Line::Remove { name } => self.obey_remove(name.as_str()),
             Line::Length { name } => self.obey_length(name.as_str()),
             Line::Names => self.obey_names(),
         }
@@ -102,12 +110,13 @@ impl Script {
         self.status_effect(place)
     }
 
-    /// Tells the door of a name a command, and answers its status.
+    /// Tells the door of a name a command that is no turn, and answers its status.
     fn obey_command(
         &mut self,
         name: &str,
         command: Command<DoorContent>,
     ) -> Result<Effect, AllocError>
+        requires { is_turn command ≡ false }
         ensures effect { IfOk result (λ effect. effect ≡ (commanded_of self.old name.now command).0) }
         ensures script { OnOk result (self.new ≡ (commanded_of self.old name.now command).1) }
     {
@@ -146,6 +155,23 @@ impl Script {
         let count = self.tick(self.moment.max(moment))?;
         self.run_until_idle()?;
         let text = expired(self.alloc, self.moment, count)?;
+        Ok(Effect::Printed(Text::from(text)))
+    }
+
+    /// Takes out the door of a name, which has ended.
+    fn obey_remove(&mut self, name: &str) -> Result<Effect, AllocError>
+        ensures effect { IfOk result (λ effect. effect ≡ (step_of self.old (line.Remove name.now)).0) }
+        ensures script { OnOk result (self.new ≡ (step_of self.old (line.Remove name.now)).1) }
+    {
+        let Some(place) = self.doors.place_of(name) else {
+            return Ok(Effect::Refuses(Refusal::NoSuchName));
+        };
+        if !self.doors.has_ended_at(place) {
+            return Ok(Effect::Refuses(Refusal::NotStopped));
+        }
+        self.remove_door(name, place);
+        self.run_until_idle()?;
+        let text = removed(self.alloc, name)?;
         Ok(Effect::Printed(Text::from(text)))
     }
 
@@ -189,14 +215,17 @@ impl Script {
         ensures started { IfOk result (λ refusal. IfNone refusal (with_start self.old name (door_start_of self.old code) ≡ Ok self.new)) }
         ensures refused { IfOk result (λ refusal. IfSome refusal (λ refusal. (with_start self.old name (door_start_of self.old code) ≡ Err refusal) × (self.new ≡ self.old))) }
     {
-        let count = self.doors.len();
-        let id = MachineId {
-            slot: count,
-            serial: count as u64 + 1,
+        let slot = self.slots.least_free()?;
+        let Some(serial) = self.started.checked_add(1) else {
+            return Err(AllocError);
         };
+        let id = MachineId { slot, serial };
         match Core::start(self.alloc, Door, id, &code, self.moment) {
             Ok(Start::Running(core, _report)) => {
-                self.doors.push(name.into_string(), core)?;
+                let door = DoorCell::new(self.alloc, core)?;
+                self.doors.push(name.into_string(), door)?;
+                self.slots.take(slot);
+                self.started = serial;
                 Ok(None)
             }
             Ok(Start::Ignored) => unreachable!(),
@@ -208,13 +237,26 @@ impl Script {
         }
     }
 
-    /// Tells the door at a place a command, and answers its answer. From then on the door may be ready.
+    /// Takes out the door of a name, which is at this place. From then on any door may be ready.
+    fn remove_door(&mut self, name: &str, place: usize)
+        requires { IsFirst (has_name name.now) self.old.doors place }
+        ensures { self.new ≡ without_named self.old name.now }
+    {
+        let slot = self.doors.id_at(place).slot;
+        self.doors.remove(name);
+        self.slots.free(slot);
+        self.from = 0;
+        self.until = self.doors.len();
+    }
+
+    /// Tells the door at a place a command that is no turn, and answers its answer. From then on the door may be ready.
     fn tell(
         &mut self,
         place: usize,
         command: Command<DoorContent>,
     ) -> Result<DoorAnswer, AllocError>
-        requires { place < length self.old.doors }
+        requires place { place < length self.old.doors }
+        requires no_turn { is_turn command ≡ false }
         ensures answer { IfOk result (λ answer. (d : NamedDoor) → answer ≡ (told_of command (slice_index_or self.old.doors place d)).0) }
         ensures told { OnOk result ((d : NamedDoor) → self.new ≡ record self.old { doors = slice_set self.old.doors place (told_door command (slice_index_or self.old.doors place d)) }) }
     {

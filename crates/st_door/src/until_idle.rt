@@ -4,7 +4,6 @@ ghost use Rattle.st_door.specs.Doors.{RestsOutside, SameLabels, run_until_idle};
 ghost use Rattle.st_door.specs.Script.{turn_limit};
 
 use crate::doors::Doors;
-use st_core::Command;
 use std::alloc::AllocError;
 
 /// How many turns are made for one line.
@@ -33,7 +32,7 @@ pub(crate) fn run_until_idle(
     let mut turns = 0;
     while first < until && turns < TURN_LIMIT {
         if doors.is_ready_at(first) {
-            doors.tell_at(first, Command::Turn(moment))?;
+            doors.turn_at(first, moment)?;
             turns += 1;
         } else {
             first += 1;

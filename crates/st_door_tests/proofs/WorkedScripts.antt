@@ -2,7 +2,7 @@
 use Rattle.std.proofs.Common.{◌≡◌, ℕ, List, [], ◌∷◌, ◌++◌, refl}
 use Rattle.std.specs.Prelude.{codes}
 use Rattle.std.specs.Fmt.{digits}
-use Rattle.st_door.specs.Doors.{run_until_idle}
+use Rattle.st_door.specs.Doors.{least_from, run_until_idle}
 use Rattle.st_door.specs.Lines.{line_feed}
 use Rattle.st_door.specs.Script.{output_of, status_of_script}
 
@@ -332,3 +332,43 @@ reasons_are_numbers = refl
 reasons_status : status_of_script reasons ≡ 1
 unfolding run_until_idle
 reasons_status = refl
+
+-- a door that has ended is removed, and its name is free; the numbers of the refusals
+abbrev refusals : List ℕ
+refusals = text_of_lines (
+    codes "button back 1"
+    ∷ codes "new front 12"
+    ∷ codes "new front 34"
+    ∷ codes "at 9223372036854775808"
+    ∷ codes "press front 1"
+    ∷ codes "remove front"
+    ∷ codes "stop front 7"
+    ∷ codes "button front 1"
+    ∷ codes "new front 34"
+    ∷ codes "remove front"
+    ∷ codes "names"
+    ∷ codes "new front 34" ∷ [])
+
+a_door_is_removed : output_of refusals
+    ≡ text_of_lines (
+    codes "line 1 refused 8"
+    ∷ codes "front locked buttons 0 waiting 0"
+    ∷ codes "line 3 refused 7"
+    ∷ codes "line 4 refused 4"
+    ∷ codes "line 5 malformed"
+    ∷ codes "line 6 refused 10"
+    ∷ codes "front stopped 7 word 0"
+    ∷ codes "line 8 refused 2"
+    ∷ codes "line 9 refused 7"
+    ∷ codes "front removed"
+    ∷ codes "names"
+    ∷ codes "front locked buttons 0 waiting 0" ∷ [])
+unfolding run_until_idle digits
+a_door_is_removed = refl
+
+-- a new door gets the least place that no door has, and a serial that none had
+the_least_place_is_taken : least_from 3 0 (2 ∷ 0 ∷ 3 ∷ []) ≡ 1
+the_least_place_is_taken = refl
+
+a_door_after_all_places : least_from 2 0 (1 ∷ 0 ∷ []) ≡ 2
+a_door_after_all_places = refl

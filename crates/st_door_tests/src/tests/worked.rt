@@ -262,9 +262,55 @@ const REFUSALS: Worked = Worked {
          front stopped 7 word 0\n\
          line 7 refused 2\n\
          line 8 refused 7\n\
+         front removed\n\
+         names\n\
+         front locked buttons 0 waiting 0\n",
+    status: 1,
+};
+
+/// A door that has ended is removed; its name is free then, and the others keep their order, their moments and what they
+/// were.
+const REMOVING: Worked = Worked {
+    script: b"new a 1\n\
+        new b 2\n\
+        new c 3\n\
+        remove a\n\
+        stop b 5\n\
+        remove b\n\
+        names\n\
+        remove b\n\
+        remove\n\
+        remove b c\n\
+        remove B\n\
+        new b 4\n\
+        names\n\
+        button c 3\n\
+        stop a 1\n\
+        remove a\n\
+        show c\n\
+        at 10000\n\
+        show c\n\
+        names\n",
+    output: "a locked buttons 0 waiting 0\n\
+         b locked buttons 0 waiting 0\n\
+         c locked buttons 0 waiting 0\n\
+         line 4 refused 10\n\
+         b stopped 5 word 0\n\
+         b removed\n\
+         names a c\n\
+         line 8 refused 8\n\
          line 9 malformed\n\
-         names front\n\
-         line 11 refused 7\n",
+         line 10 malformed\n\
+         line 11 malformed\n\
+         b locked buttons 0 waiting 0\n\
+         names a c b\n\
+         c open buttons 0 waiting 0\n\
+         a stopped 1 word 0\n\
+         a removed\n\
+         c open buttons 0 waiting 0\n\
+         at 10000 expired 1\n\
+         c locked buttons 0 waiting 0\n\
+         names c b\n",
     status: 1,
 };
 
@@ -286,6 +332,7 @@ pub const ALL: &[Worked] = &[
     ASKING,
     LENGTHS,
     REFUSALS,
+    REMOVING,
 ];
 
 /// A test of one of them.
@@ -387,4 +434,10 @@ fn each_door_says_how_long_its_code_is(rt: HostRuntime) {
 fn each_refusal_has_its_number(rt: HostRuntime) {
     let rt = Host::new(rt);
     shows_its_output(&rt, REFUSALS);
+}
+
+#[test]
+fn a_door_that_has_ended_is_removed(rt: HostRuntime) {
+    let rt = Host::new(rt);
+    shows_its_output(&rt, REMOVING);
 }

@@ -17,6 +17,7 @@ pub struct Seen {
     pub token: Option<Token>,
     pub ports: usize,
     pub removable: bool,
+    pub count: u64,
 }
 
 /// A cell. What is done with any cell is proved with no contract of the cell at hand, which makes these proofs short.
@@ -113,6 +114,7 @@ impl Kept for Cell<Plain> {
             token: self.token(),
             ports: self.ports(),
             removable: self.removable(),
+            count: self.count(),
         }
     }
 

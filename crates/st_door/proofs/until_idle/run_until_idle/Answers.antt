@@ -6,13 +6,17 @@ use Rattle.st_door.specs.Script.{turn_limit}
 use Rattle.st_door.proofs.IdleLemmas.{no_door, labels-more, labels-told, rests-set, run-turned, run-rested, run-none}
 use Rattle.st_door.proofs.until_idle.run_until_idle.Goals as goal
 
+-- it is one of the doors
+pub turn_at-requires-clause-place : goal.turn_at-requires-clause-place
+turn_at-requires-clause-place c = omega (arith, c.loop-first.invariant.within)
+
 -- the first door that may be ready was, and had a turn
 pub loop-first-preserved-then-is_ready_at : goal.loop-first-preserved-then-is_ready_at
 loop-first-preserved-then-is_ready_at c =
     let first : ℕ = c.loop-first.first in
     let doors = c.loop-first.doors in
     let invariant = c.loop-first.invariant in
-    let turned : c.tell_at.new.self ≡ set doors first (told_door (command.Turn c.args.moment) (get_or doors first no_door)) = c.in_ok-tell_at.ensures.told no_door in
+    let turned : c.turn_at.new.self ≡ set doors first (told_door (command.Turn c.args.moment) (get_or doors first no_door)) = c.in_ok-turn_at.ensures.told no_door in
     let ready : is_ready_door (get_or doors first no_door) ≡ true = sym (c.is_ready_at.ensures no_door) ∙ c.if-is_ready_at.true in
     let low : first < c.args.until = omega arith in
     let within : first < length doors = omega (arith, invariant.within) in

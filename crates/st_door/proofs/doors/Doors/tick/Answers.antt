@@ -4,8 +4,8 @@ use Rattle.st_door.proofs.IdleLemmas.{no_door}
 use Rattle.st_door.proofs.TickingLemmas.{labels-so_far, within-so_far, ticked-more, expired-more, ticked-all, expired-all}
 use Rattle.st_door.proofs.doors.Doors.tick.Goals as goal
 
-pub tell_at-requires : goal.tell_at-requires
-tell_at-requires c = within-so_far c.args.moment c.loop-place.place c.args.self.now c.loop-place.self c.loop-place.invariant.ticked (omega arith)
+pub tell_at-requires-clause-place : goal.tell_at-requires-clause-place
+tell_at-requires-clause-place c = within-so_far c.args.moment c.loop-place.place c.args.self.now c.loop-place.self c.loop-place.invariant.ticked (omega arith)
 
 -- a tick found no memory, and left the doors as they were
 pub returns-in_err-answer-clause-same_labels : goal.returns-in_err-answer-clause-same_labels

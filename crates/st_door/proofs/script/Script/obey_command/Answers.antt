@@ -8,8 +8,8 @@ use Rattle.st_door.proofs.ScriptStateLemmas.{first-told, command-refused, comman
 use Rattle.st_door.proofs.script.Script.obey_command.Goals as goal
 
 -- the place is that of the name
-pub tell-requires : goal.tell-requires
-tell-requires c =
+pub tell-requires-clause-place : goal.tell-requires-clause-place
+tell-requires-clause-place c =
     let doors : c.self.inside.doors ≡ c.args.self.now.doors = ap (λ (script : ScriptState). script.doors) c.self.view_is in
     rw (← doors) (IsFirst-within (has_name c.args.name.now) c.self.inside.doors c.in-Some.place c.in-Some.ensures.place)
 

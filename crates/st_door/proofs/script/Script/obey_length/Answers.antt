@@ -16,8 +16,8 @@ use Rattle.st_door.proofs.script.Script.obey_length.Goals as goal
 pub id_at-machine-requires : goal.id_at-machine-requires
 id_at-machine-requires c = IsFirst-within (has_name c.args.name.now) c.self.inside.doors c.in-Some.place c.in-Some.ensures.place
 
-pub tell-requires : goal.tell-requires
-tell-requires c =
+pub tell-requires-clause-place : goal.tell-requires-clause-place
+tell-requires-clause-place c =
     let doors : c.self.inside.doors ≡ c.args.self.now.doors = ap (λ (script : ScriptState). script.doors) c.self.view_is in
     rw (← doors) (IsFirst-within (has_name c.args.name.now) c.self.inside.doors c.in-Some.place c.in-Some.ensures.place)
 
@@ -46,8 +46,8 @@ returns-in-Err-clause-script c =
     (length_finished c.args.name.now (door_of c.args.name.now c.args.self.now.doors)))))
 
 -- the name has its place still, once the doors rest
-pub tell-requires-2 : goal.tell-requires-2
-tell-requires-2 c =
+pub tell-requires-2-clause-place : goal.tell-requires-2-clause-place
+tell-requires-2-clause-place c =
     let doors : c.self.inside.doors ≡ c.args.self.now.doors = ap (λ (script : ScriptState). script.doors) c.self.view_is in
     let first : IsFirst (has_name c.args.name.now) c.args.self.now.doors c.in-Some.place = rw (← doors) c.in-Some.ensures.place in
     IsFirst-within _ _ _ (first-told c.args.self.now c.tell.new.self c.run_until_idle.new.self c.args.name.now asks c.in-Some.place first

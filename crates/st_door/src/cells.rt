@@ -1,0 +1,169 @@
+//! What is done with the cell of a door, through its one port.
+ghost use Rattle.std.specs.Prelude.{◌≡◌, ◌≤◌, true, false, max, length, IfOk, OnOk, OnErr};
+ghost use Rattle.st_core.specs.Choice.{is_ready_of, waiting_of};
+ghost use Rattle.st_core.specs.Run.{step_of};
+ghost use Rattle.st_core.specs.declared.command.Command.TheVariants as command;
+ghost use Rattle.st_scheduled.specs.Serving.{is_full};
+ghost use Rattle.st_cell.specs.Cell.{IsOpen};
+ghost use Rattle.st_door.specs.Doors.{door_callbacks};
+ghost use Rattle.st_door.specs.Entries.{machine_in};
+
+use crate::answers::DoorAnswer;
+use crate::{Door, DoorContent};
+use st_cell::{Cell, a_cell_has_a_token_for_work};
+use st_core::{Answer, Entry};
+use st_events::{Reason, Refusal, Tag};
+use std::alloc::AllocError;
+
+/// The port of a door: the first one.
+pub(crate) const PORT: u64 = 1;
+
+/// How many entries the journal of a door may have. It may have more where more events wait.
+const JOURNAL_LIMIT: usize = 4;
+
+/// How many commands a door takes. No script has as many: it has at most 2^20 lines, with 2^21 commands at most for one
+/// door.
+const COMMAND_LIMIT: u64 = 1 << 62;
+
+/// Makes a cell ready for one command more. A journal that is long, and longer than what waits, is cut: nothing reads it.
+/// So what a door takes of memory does not grow with what was done.
+pub(crate) fn make_ready(cell: &mut Cell<Door>) -> Result<(), AllocError>
+    ensures ready { OnOk result (is_full cell.new.scheduled ≡ false) }
+    ensures short { OnOk result (length cell.new.journal ≤ max JOURNAL_LIMIT (waiting_of (machine_in cell.new))) }
+
+    // Whatever the answer is.
+    ensures same { cell.new.scheduled ≡ cell.old.scheduled }
+    ensures ports { cell.new.ports ≡ cell.old.ports }
+{
+    let entries = cell.entries().len();
+    if entries > JOURNAL_LIMIT && entries > cell.core().waiting() && cell.cut().is_err() {
+        return Err(AllocError);
+    }
+    if cell.count() >= COMMAND_LIMIT {
+        return Err(AllocError);
+    }
+    Ok(())
+}
+
+/// Posts an event.
+pub(crate) fn post(
+    cell: &mut Cell<Door>,
+    entry: Entry,
+    content: DoorContent,
+) -> Result<DoorAnswer, AllocError>
+    requires open { IsOpen PORT cell.old }
+    requires ready { is_full cell.old.scheduled ≡ false }
+    ensures answer { IfOk result (λ answer. answer ≡ (step_of door_callbacks (machine_in cell.old) (command.Post entry content)).0) }
+    ensures told { OnOk result (machine_in cell.new ≡ (step_of door_callbacks (machine_in cell.old) (command.Post entry content)).1) }
+
+    ensures unchanged { OnErr result (cell.new ≡ cell.old) }
+
+    // Whatever the answer is.
+    ensures ports { length cell.new.ports ≡ length cell.old.ports }
+{
+    match cell.post(PORT, entry, content) {
+        Ok(posted) => Ok(Answer::Post(Ok(posted.number))),
+        Err(refused) => match refused.refusal {
+            Refusal::NoMemory => Err(AllocError),
+            _ => Ok(Answer::Post(Err(refused))),
+        },
+    }
+}
+
+/// Tells a door the moment.
+pub(crate) fn tick(cell: &mut Cell<Door>, moment: u64) -> Result<DoorAnswer, AllocError>
+    requires ready { is_full cell.old.scheduled ≡ false }
+    ensures answer { IfOk result (λ answer. answer ≡ (step_of door_callbacks (machine_in cell.old) (command.Tick moment)).0) }
+    ensures told { OnOk result (machine_in cell.new ≡ (step_of door_callbacks (machine_in cell.old) (command.Tick moment)).1) }
+
+    ensures unchanged { OnErr result (cell.new ≡ cell.old) }
+
+    // Whatever the answer is.
+    ensures ports { length cell.new.ports ≡ length cell.old.ports }
+{
+    match cell.tick(moment) {
+        Ok(ticked) => Ok(Answer::Tick(Ok(ticked.expired))),
+        Err(Refusal::NoMemory) => Err(AllocError),
+        Err(refusal) => Ok(Answer::Tick(Err(refusal))),
+    }
+}
+
+/// Ends a door.
+pub(crate) fn stop(cell: &mut Cell<Door>, reason: Reason) -> Result<DoorAnswer, AllocError>
+    requires ready { is_full cell.old.scheduled ≡ false }
+    ensures answer { IfOk result (λ answer. answer ≡ (step_of door_callbacks (machine_in cell.old) (command.Stop reason)).0) }
+    ensures told { OnOk result (machine_in cell.new ≡ (step_of door_callbacks (machine_in cell.old) (command.Stop reason)).1) }
+
+    ensures unchanged { OnErr result (cell.new ≡ cell.old) }
+
+    // Whatever the answer is.
+    ensures ports { length cell.new.ports ≡ length cell.old.ports }
+{
+    match cell.stop(reason) {
+        Ok(word) => Ok(Answer::Stop(Ok(word))),
+        Err(Refusal::NoMemory) => Err(AllocError),
+        Err(refusal) => Ok(Answer::Stop(Err(refusal))),
+    }
+}
+
+/// Answers a request.
+pub(crate) fn reply(
+    cell: &mut Cell<Door>,
+    tag: Tag,
+    content: DoorContent,
+) -> Result<DoorAnswer, AllocError>
+    requires ready { is_full cell.old.scheduled ≡ false }
+    ensures answer { IfOk result (λ answer. answer ≡ (step_of door_callbacks (machine_in cell.old) (command.Reply tag content)).0) }
+    ensures told { OnOk result (machine_in cell.new ≡ (step_of door_callbacks (machine_in cell.old) (command.Reply tag content)).1) }
+
+    ensures unchanged { OnErr result (cell.new ≡ cell.old) }
+
+    // Whatever the answer is.
+    ensures ports { length cell.new.ports ≡ length cell.old.ports }
+{
+    match cell.reply(tag, content) {
+        Ok(taken) => Ok(Answer::Reply(taken)),
+        Err(_) => Err(AllocError),
+    }
+}
+
+/// Hands out what is kept for a request.
+pub(crate) fn collect(cell: &mut Cell<Door>, tag: Tag) -> Result<DoorAnswer, AllocError>
+    requires ready { is_full cell.old.scheduled ≡ false }
+    ensures answer { IfOk result (λ answer. answer ≡ (step_of door_callbacks (machine_in cell.old) (command.Collect tag)).0) }
+    ensures told { OnOk result (machine_in cell.new ≡ (step_of door_callbacks (machine_in cell.old) (command.Collect tag)).1) }
+
+    ensures unchanged { OnErr result (cell.new ≡ cell.old) }
+
+    // Whatever the answer is.
+    ensures ports { length cell.new.ports ≡ length cell.old.ports }
+{
+    match cell.collect(tag) {
+        Ok(collected) => Ok(Answer::Collect(collected)),
+        Err(_) => Err(AllocError),
+    }
+}
+
+/// Serves a door that is ready, by its token.
+pub(crate) fn turn(cell: &mut Cell<Door>, moment: u64) -> Result<(), AllocError>
+    requires ready { is_full cell.old.scheduled ≡ false }
+    requires work { is_ready_of (machine_in cell.old) ≡ true }
+    ensures told { OnOk result (machine_in cell.new ≡ (step_of door_callbacks (machine_in cell.old) (command.Turn moment)).1) }
+
+    ensures unchanged { OnErr result (cell.new ≡ cell.old) }
+
+    // Whatever the answer is.
+    ensures ports { length cell.new.ports ≡ length cell.old.ports }
+{
+    a_cell_has_a_token_for_work(cell);
+    let Some(token) = cell.token() else {
+        unreachable!()
+    };
+    match cell.turn(token, moment) {
+        Ok(_next) => Ok(()),
+        Err(refused) => match refused.refusal {
+            Refusal::NoMemory => Err(AllocError),
+            _ => Ok(()),
+        },
+    }
+}
