@@ -1,0 +1,76 @@
+-- What an entry of a journal tells: which command it is, a moment, a number, and what its turn did.
+use Rattle.std.specs.Prelude.{ℕ, max, Option, Some, None, Ok, Err, List, codes}
+use Rattle.st_core.specs.declared.answer.Answer.{Answer}
+use Rattle.st_core.specs.declared.answer.Answer.TheVariants as answer
+use Rattle.st_core.specs.declared.command.Command.{Command}
+use Rattle.st_core.specs.declared.command.Command.TheVariants as command
+use Rattle.st_core.specs.declared.report.Report.{Report}
+use Rattle.st_core.specs.declared.turned.Turned.TheVariants.{Reported, Idle}
+use Rattle.st_cell.specs.declared.journal_entry.JournalEntry.{JournalEntry}
+
+module _ {C : Type 0} where
+  -- the word of a command
+  abbrev pub word_of : Command C → List ℕ
+  word_of (command.Post entry content) = codes "post"
+  word_of (command.Tick now) = codes "tick"
+  word_of (command.Turn now) = codes "turn"
+  word_of (command.Reply tag content) = codes "reply"
+  word_of (command.Collect tag) = codes "collect"
+  word_of (command.Stop reason) = codes "stop"
+
+  -- the latest moment that a machine has seen after a command, by the latest before it: ticks and turns are handed one
+  abbrev pub latest_after : ℕ → Command C → ℕ
+  latest_after latest (command.Post entry content) = latest
+  latest_after latest (command.Tick now) = max latest now
+  latest_after latest (command.Turn now) = max latest now
+  latest_after latest (command.Reply tag content) = latest
+  latest_after latest (command.Collect tag) = latest
+  latest_after latest (command.Stop reason) = latest
+
+  -- the moment that stands in the line of a command: the latest after it, for ticks and turns alone
+  abbrev pub moment_of : ℕ → Command C → Option ℕ
+  moment_of latest (command.Post entry content) = None
+  moment_of latest (command.Tick now) = Some latest
+  moment_of latest (command.Turn now) = Some latest
+  moment_of latest (command.Reply tag content) = None
+  moment_of latest (command.Collect tag) = None
+  moment_of latest (command.Stop reason) = None
+
+module _ {S C : Type 0} where
+  -- what an answer says that a turn did
+  abbrev pub report_as : Answer S C → Option (Report S)
+  report_as (answer.Post posted) = None
+  report_as (answer.Tick ticked) = None
+  report_as (answer.Turn (Ok (Reported report))) = Some report
+  report_as (answer.Turn (Ok Idle)) = None
+  report_as (answer.Turn (Err refusal)) = None
+  report_as (answer.Reply taken) = None
+  report_as (answer.Collect collected) = None
+  report_as (answer.Stop stopped) = None
+
+  -- the number that an answer tells: of a post that of its event, of a tick how many time-outs expired, of a turn that of the
+  -- event that it handled
+  abbrev pub number_as : Answer S C → Option ℕ
+  number_as (answer.Post (Ok number)) = Some number
+  number_as (answer.Post (Err refused)) = None
+  number_as (answer.Tick (Ok expired)) = Some expired
+  number_as (answer.Tick (Err refusal)) = None
+  number_as (answer.Turn (Ok (Reported report))) = report.event
+  number_as (answer.Turn (Ok Idle)) = None
+  number_as (answer.Turn (Err refusal)) = None
+  number_as (answer.Reply taken) = None
+  number_as (answer.Collect collected) = None
+  number_as (answer.Stop stopped) = None
+
+  -- the number that stands in the line of a command that was answered so
+  abbrev pub number_by : Command C → Answer S C → Option ℕ
+  number_by (command.Post entry content) answered = number_as answered
+  number_by (command.Tick now) answered = number_as answered
+  number_by (command.Turn now) answered = number_as answered
+  number_by (command.Reply tag content) answered = Some tag.request
+  number_by (command.Collect tag) answered = Some tag.request
+  number_by (command.Stop reason) answered = Some reason
+
+  -- the number that stands in an entry's line
+  abbrev pub number_of : JournalEntry S C → Option ℕ
+  number_of entry = number_by entry.command entry.answer

@@ -1,0 +1,67 @@
+//! What an entry of a journal tells: which command it is, a moment, and a number.
+ghost use Rattle.std.specs.Prelude.{◌≡◌};
+ghost use Rattle.st_trace.specs.Columns.{IsPlain};
+ghost use Rattle.st_trace.specs.Entries.{word_of, latest_after, moment_of, number_as, number_of};
+
+use st_cell::{Answer, Command, JournalEntry, Turned};
+
+/// The word of a command.
+pub(crate) fn word<C>(command: &Command<C>) -> &'static str
+    ensures word { result.now ≡ word_of command.now }
+    ensures plain { IsPlain result.now }
+{
+    match command {
+        Command::Post(_, _) => "post",
+        Command::Tick(_) => "tick",
+        Command::Turn(_) => "turn",
+        Command::Reply(_, _) => "reply",
+        Command::Collect(_) => "collect",
+        Command::Stop(_) => "stop",
+    }
+}
+
+/// The latest moment after a command, by the latest before it.
+pub(crate) fn latest_after<C>(latest: u64, command: &Command<C>) -> u64
+    ensures { result ≡ latest_after latest command.now }
+{
+    match command {
+        Command::Tick(now) => latest.max(*now),
+        Command::Turn(now) => latest.max(*now),
+        _ => latest,
+    }
+}
+
+/// The moment that stands in the line of a command, by the latest after it.
+pub(crate) fn moment<C>(latest: u64, command: &Command<C>) -> Option<u64>
+    ensures { result ≡ moment_of latest command.now }
+{
+    match command {
+        Command::Tick(_) => Some(latest),
+        Command::Turn(_) => Some(latest),
+        _ => None,
+    }
+}
+
+/// The number that an answer tells.
+fn answered_number<S, C>(answer: &Answer<S, C>) -> Option<u64>
+    ensures { result ≡ number_as answer.now }
+{
+    match answer {
+        Answer::Post(Ok(number)) => Some(*number),
+        Answer::Tick(Ok(expired)) => Some(*expired),
+        Answer::Turn(Ok(Turned::Reported(report))) => report.event,
+        _ => None,
+    }
+}
+
+/// The number that stands in an entry's line.
+pub(crate) fn number<S, C>(entry: &JournalEntry<S, C>) -> Option<u64>
+    ensures { result ≡ number_of entry.now }
+{
+    match &entry.command {
+        Command::Reply(tag, _) => Some(tag.request),
+        Command::Collect(tag) => Some(tag.request),
+        Command::Stop(reason) => Some(u64::from(*reason)),
+        _ => answered_number(&entry.answer),
+    }
+}
