@@ -8,7 +8,6 @@ mod collection;
 mod request_id;
 mod sends;
 mod sent;
-mod wake;
 
 pub use called::Called;
 pub use calls::{call, check, reply};
@@ -21,4 +20,4 @@ pub use st_collection::Request;
 pub use st_lock::{
     Collected, Entry, Machine, MachineId, Module, Port, Reason, Refusal, Refused, Tag, Token,
 };
-pub use wake::Wake;
+pub use st_wake::Wake;

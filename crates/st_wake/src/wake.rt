@@ -1,7 +1,7 @@
 //! Who schedules tokens.
 ghost use Rattle.std.specs.Prelude.{◌≡◌, IfErr};
 
-use st_lock::Token;
+use st_events::Token;
 use std::sync::Wait;
 
 /// Who is handed a token that was issued, and sees to it that its machine is served.

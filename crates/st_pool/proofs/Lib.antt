@@ -1,0 +1,3 @@
+-- Lemmas on workers.
+pub mod RoundLemmas
+pub mod ThreadLemmas

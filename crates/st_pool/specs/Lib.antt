@@ -1,0 +1,4 @@
+-- What workers and pools do.
+pub mod Pool
+pub mod Round
+pub mod Thread

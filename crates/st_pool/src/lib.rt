@@ -1,0 +1,30 @@
+//! The workers: each takes a token and serves it, which is one turn of its machine. A pool runs them in threads.
+//! It knows nothing of what a turn does, and of a machine nothing but its token.
+#![tactic(auto)]
+
+mod berth;
+mod found;
+mod gate;
+mod intake;
+mod machines;
+mod pool;
+mod pool_end;
+mod pool_state;
+mod runtime;
+mod scheduler;
+mod served;
+mod serving;
+mod work;
+mod worker;
+
+pub use gate::Gate;
+pub use machines::Machines;
+pub use pool::Pool;
+pub use pool_end::PoolEnd;
+pub use runtime::Runtime;
+pub use scheduler::Scheduler;
+pub use serving::serve_one;
+pub use st_events::{MachineId, Token};
+pub use st_runq::PutRefused;
+pub use st_wake::Wake;
+pub use worker::Worker;

@@ -1,0 +1,12 @@
+//! What came of a token that was served.
+
+/// Where a token is after its turn.
+#[derive(Clone, Copy, PartialEq, Eq)]
+pub enum Served {
+    /// On its worker's own run queue, to be served again.
+    Requeued,
+    /// With its worker, to be served again: the run queue refused it.
+    Held,
+    /// Nowhere: its machine rests.
+    Rested,
+}

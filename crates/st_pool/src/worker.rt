@@ -1,0 +1,205 @@
+//! A worker, which takes tokens and serves them.
+ghost use Rattle.std.specs.Prelude.{◌≡◌, ℕ, None, IfSome, IfNone, map, true, false};
+ghost use Rattle.st_runq.specs.Ends.{put_of, robbed_of, stolen_of};
+ghost use Rattle.st_pool.specs.Round.{taken_lists, TakesOne, HasSameQueues, Holds, Serves, FindsNone};
+
+use crate::found::{Found, Source};
+use crate::served::Served;
+use crate::{Gate, Machines, serve_one};
+use st_events::Token;
+use st_runq::{Lane, Seats, Shared, Thief};
+use std::sync::Wait;
+
+/// Of so many tokens that a worker takes, it looks for one on the shared run queue first.
+const SHARED_FIRST: u8 = 61;
+
+/// A worker: its number, what it has of the run queues, and the token that it has.
+///
+/// Ours: docs/DECISIONS.md, Workers.
+#[derive(Drop)]
+pub struct Worker {
+    /// Its number, from 0 on.
+    pub number: usize,
+    /// Its own end of its own run queue.
+    pub lane: Lane,
+    /// A thief of each other worker's run queue: first of those after its own number, and then from 0 on.
+    pub thieves: Vec<Thief>,
+    /// A taker of the shared run queue.
+    pub shared: Shared,
+    /// The token that it has, and serves before it takes another.
+    pub hand: Option<Token>,
+    until_shared: u8,
+}
+
+impl Worker {
+    ghost use Rattle.st_runq.specs.declared.seats.Seats.{Seats};
+
+    /// A worker of this number without a token.
+    ///
+    /// Ours: docs/DECISIONS.md, Workers.
+    pub fn new(number: usize, seats: Seats) -> Worker
+        ensures number { result.number ≡ number }
+        ensures queues { record { lane = result.lane; thieves = result.thieves; shared = result.shared } ≡ seats }
+        ensures hand { result.hand ≡ None }
+    {
+        let Seats {
+            lane,
+            thieves,
+            shared,
+        } = seats;
+        Worker {
+            number,
+            lane,
+            thieves,
+            shared,
+            hand: None,
+            until_shared: SHARED_FIRST - 1,
+        }
+    }
+
+    /// Takes a token, where it has none, and serves nothing. `false`: there was none.
+    ///
+    /// It asks its own run queue, then the shared one, then the others' in the order of its thieves. Each 61st time it
+    /// asks the shared one first, so that tokens which always come back do not keep it from the others. It may wait for
+    /// one that is in the midst of a step on the shared run queue.
+    ///
+    /// Ours: docs/DECISIONS.md, Workers.
+    pub fn look<R: Wait>(&mut self, rt: &R) -> bool
+        ensures same { HasSameQueues self.old self.new × (put_of self.new.lane ≡ put_of self.old.lane) }
+        ensures found { result ≡ true → Holds self.old self.new }
+
+        ensures none { result ≡ false → FindsNone self.old self.new }
+    {
+        self.pick_up(rt).is_some()
+    }
+
+    /// The same, which says where the token is from.
+    pub(crate) fn pick_up<R: Wait>(&mut self, rt: &R) -> Option<Source>
+        ensures same { HasSameQueues self.old self.new × (put_of self.new.lane ≡ put_of self.old.lane) }
+        ensures found { IfSome result (λ _. Holds self.old self.new) }
+
+        ensures none { IfNone result (FindsNone self.old self.new) }
+    {
+        if self.hand.is_some() {
+            return Some(Source::Hand);
+        }
+        match self.find(rt) {
+            Some(found) => {
+                self.hand = Some(found.token);
+                Some(found.source)
+            }
+            None => None,
+        }
+    }
+
+    /// Serves the token that it has, or else one that it takes as `look` does. `false`: there was none.
+    ///
+    /// A token that is to be served again goes on its own run queue; where that refuses it, for want of memory, it stays
+    /// with the worker, which serves it next.
+    ///
+    /// Ours: docs/DECISIONS.md, Workers.
+    pub fn round<R: Wait, M: Machines, G: Gate>(&mut self, rt: &R, machines: &M, gate: &G) -> bool
+        ensures same { HasSameQueues self.old self.new }
+        ensures served { result ≡ true → Serves M.served self.old self.new }
+
+        ensures none { result ≡ false → FindsNone self.old self.new }
+    {
+        self.serve_next(rt, machines, gate).is_some()
+    }
+
+    /// The same, which says what came of the token.
+    pub(crate) fn serve_next<R: Wait, M: Machines, G: Gate>(
+        &mut self,
+        rt: &R,
+        machines: &M,
+        gate: &G,
+    ) -> Option<Served>
+        ensures same { HasSameQueues self.old self.new }
+        ensures served { IfSome result (λ _. Serves M.served self.old self.new) }
+
+        ensures none { IfNone result (FindsNone self.old self.new) }
+    {
+        let token = match self.hand {
+            Some(token) => token,
+            None => match self.find(rt) {
+                Some(found) => found.token,
+                None => return None,
+            },
+        };
+        gate.before(self.number, token);
+        let answer = serve_one(machines, token, gate.now());
+        gate.after(self.number, token);
+        self.hand = None;
+        let Some(token) = answer else {
+            return Some(Served::Rested);
+        };
+        match self.lane.put_local(token) {
+            Ok(()) => Some(Served::Requeued),
+            Err(refused) => {
+                self.hand = Some(refused.0);
+                Some(Served::Held)
+            }
+        }
+    }
+
+    /// A token of some run queue.
+    fn find<R: Wait>(&mut self, rt: &R) -> Option<Found>
+        ensures same { HasSameQueues self.old self.new × (self.new.hand ≡ self.old.hand) × (put_of self.new.lane ≡ put_of self.old.lane) }
+        ensures some { IfSome result (λ found. TakesOne (taken_lists self.old) found.token (taken_lists self.new)) }
+
+        ensures none { IfNone result (taken_lists self.new ≡ taken_lists self.old) }
+    {
+        if let Some(token) = self.find_shared_first(rt) {
+            return Some(Found {
+                token,
+                source: Source::Shared,
+            });
+        }
+        if let Some(token) = self.lane.take_local() {
+            return Some(Found {
+                token,
+                source: Source::Own,
+            });
+        }
+        if let Some(token) = self.shared.take_shared(rt) {
+            return Some(Found {
+                token,
+                source: Source::Shared,
+            });
+        }
+        steal_first(&mut self.thieves)
+    }
+
+    /// A token of the shared run queue, where it is the time to ask that one first.
+    fn find_shared_first<R: Wait>(&mut self, rt: &R) -> Option<Token>
+        ensures same { HasSameQueues self.old self.new × (self.new.hand ≡ self.old.hand) × (put_of self.new.lane ≡ put_of self.old.lane) }
+        ensures some { IfSome result (λ token. TakesOne (taken_lists self.old) token (taken_lists self.new)) }
+
+        ensures none { IfNone result (taken_lists self.new ≡ taken_lists self.old) }
+    {
+        if self.until_shared > 0 {
+            self.until_shared -= 1;
+            return None;
+        }
+        self.until_shared = SHARED_FIRST - 1;
+        self.shared.take_shared(rt)
+    }
+}
+
+/// A token of another's run queue.
+fn steal_first(thieves: &mut Vec<Thief>) -> Option<Found>
+    ensures same { map robbed_of thieves.new.items ≡ map robbed_of thieves.old.items }
+    ensures some { IfSome result (λ found. TakesOne (map stolen_of thieves.old.items) found.token (map stolen_of thieves.new.items)) }
+
+    ensures none { IfNone result (map stolen_of thieves.new.items ≡ map stolen_of thieves.old.items) }
+{
+    for place in 0..thieves.len() {
+        if let Some(token) = thieves[place].steal() {
+            return Some(Found {
+                token,
+                source: Source::Other(place),
+            });
+        }
+    }
+    None
+}

@@ -1,0 +1,61 @@
+//! Pools of a test, and what is asked of them.
+ghost use Rattle.std.specs.Prelude.{◌≤◌};
+
+use super::counted::{Counted, token};
+use super::host::Host;
+use st_pool::{Gate, Pool, PoolEnd, PutRefused, Runtime, Token};
+use std::alloc::Global;
+use std::process::Abort;
+use std::sync::Arc;
+
+/// A pool of so many workers. Where it finds no memory, it is started again.
+pub fn started<R: Runtime, G: Gate + Drop + Send + Sync + 'static>(
+    rt: &Host<impl Abort + AllocGlobal>,
+    threads: R,
+    workers: usize,
+    machines: &Arc<Counted>,
+    gate: &Arc<G>,
+) -> Pool<R>
+    requires { (1 ≤ workers) × (workers ≤ 16) }
+{
+    match Pool::start(threads, rt.alloc(), workers, machines, gate) {
+        Ok(pool) => pool,
+        Err(_) => {
+            rt.retry();
+            Pool::start(threads, rt.alloc(), workers, machines, gate).expect(
+                rt,
+                "one allocation alone is refused",
+            )
+        }
+    }
+}
+
+/// Schedules the token of each slot from one up to another. One that finds no memory comes back, and is scheduled again.
+pub fn schedules<R: Runtime>(rt: &Host<impl Abort>, pool: &Pool<R>, first: usize, end: usize) {
+    for slot in first..end {
+        if let Err(refused) = pool.schedule(token(slot)) {
+            assert_eq!(rt; refused, PutRefused(token(slot)));
+            rt.retry();
+            assert_eq!(rt; pool.schedule(refused.0), Ok(()));
+        }
+    }
+}
+
+/// Closes a pool. Where it finds no memory, it is closed again.
+pub fn closes<R: Runtime>(rt: &Host<impl Abort>, pool: &mut Pool<R>) -> PoolEnd {
+    match pool.close() {
+        Ok(end) => end,
+        Err(_) => {
+            rt.retry();
+            match pool.close() {
+                Ok(end) => end,
+                Err(_) => panic!(rt; "one allocation alone is refused"),
+            }
+        }
+    }
+}
+
+/// How often a token stands in a list.
+pub fn times(tokens: &[Token], token: Token) -> usize {
+    tokens.iter().filter(|other| **other == token).count()
+}

@@ -1,0 +1,7 @@
+//! Who schedules machines. Clients hand tokens to it and know no pool; a pool takes them and knows no client.
+#![tactic(auto)]
+
+mod wake;
+
+pub use st_events::Token;
+pub use wake::Wake;
