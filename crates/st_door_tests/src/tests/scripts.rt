@@ -93,7 +93,7 @@ fn what_has_no_form_is_malformed(rt: HostRuntime) {
           at\n\
           stop a +7\n\
           length a b\n\
-          remove a\n\
+          remove a b\n\
           show a\r\r\n\
           button a 12\n\
           show A\n\
