@@ -9,14 +9,14 @@ use std::thread;
 /// How often one looks before one gives up waiting.
 const LOOKS: u32 = 10_000_000;
 
-/// Waits until a number is not zero. `false`: it gave up. Who is patient lets other threads run more often, so that on a
-/// busy machine it does not give up before those had their time.
+/// Waits until a number is not zero. `false`: it gave up. Who is patient lets other threads run after each look, so that
+/// on a busy machine it does not give up before those had their time.
 pub fn waits_for(number: &AtomicU64, is_patient: bool) -> bool {
     for look in 0..LOOKS {
         if number.load(Ordering::SeqCst) != 0 {
             return true;
         }
-        if look % 10_000 == 9_999 || (is_patient && look % 100 == 99) {
+        if is_patient || look % 10_000 == 9_999 {
             thread::yield_now();
         }
     }
