@@ -64,6 +64,9 @@ struct Past<'a> {
 fn is_kept<T: Kept>(rt: &Host<impl Abort>, cell: &T, past: &Past<'_>) {
     are_lines(rt, cell.read_entries(), past.rows, past.done);
     assert!(rt; *cell.read_base() == *past.base, "the base");
+    if let Some(last) = cell.read_entries().last() {
+        assert_eq!(rt; cell.see().count, last.number);
+    }
 }
 
 /// Makes one call. A refusal changes nothing that can be read. Where the call finds no memory, what it was given comes

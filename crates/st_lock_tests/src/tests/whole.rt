@@ -29,12 +29,8 @@ fn look<T: Kept>(rt: &Host<impl Abort>, cell: &T, port: u64) -> Option<Look<u32,
 pub fn read_all<T: Kept>(rt: &Host<impl Abort>, cell: &T) -> Whole {
     let seen = cell.see();
     assert!(rt; seen.ports <= 2);
-    let first = look(rt, cell, 1);
-    if let Some(first) = &first {
-        assert_eq!(rt; first.entries, seen.count);
-    }
     Whole {
         seen,
-        looks: [first, look(rt, cell, 2)],
+        looks: [look(rt, cell, 1), look(rt, cell, 2)],
     }
 }
