@@ -1,0 +1,5 @@
+use Rattle.st_hall.proofs.hall.Hall.start.Goals as goal
+
+-- the registry under the lock is the one that the machine starts at
+pub returns-clause-starts : goal.returns-clause-starts
+returns-clause-starts g c = (c.deref_mut.result.now, c.start.new.self, c.start.ensures.starts)

@@ -1,0 +1,22 @@
+-- A registry that threads share is seen by nobody but in its calls: each call's answer is that of some registry, at that moment.
+use Rattle.std.specs.Prelude.{◌≡◌, ℕ, Option, Some, List, Result}
+use Rattle.st_events.specs.declared.machine_id.MachineId.{MachineId}
+use Rattle.st_events.specs.declared.refused.Refused.{Refused}
+use Rattle.st_core.specs.declared.start.Start.{Start}
+use Rattle.st_directory.specs.DirectoryState.{Named, id_of_name}
+use Rattle.st_directory.specs.InOrder.{IsDirectory}
+use Rattle.st_registry.specs.declared.started.Started.{Started}
+use Rattle.st_registry.specs.Registry.{RegistryState, HasIds, StartsUnder, start_due}
+
+-- this is what a start under a name answers, at some registry, where the machine's own start is this
+abbrev pub StartsSomewhere : {M S D C A : Type 0} → M → (MachineId → Result (Start M S D C A) (Refused M)) → Option (List ℕ) → ℕ → Result Started (Refused M) → Type 0
+StartsSomewhere {M} {S} {D} {C} {A} module_ own name now answer =
+    (old : RegistryState M S D C A) × (new : RegistryState M S D C A) × StartsUnder module_ own (start_due name now old) name old answer new
+
+-- some registry that is in order has this name for this id
+abbrev pub IsNamedSomewhere : Type 0 → Type 0 → Type 0 → Type 0 → Type 0 → List ℕ → MachineId → Type 0
+IsNamedSomewhere M S D C A name id = (registry : RegistryState M S D C A) × IsDirectory registry × HasIds registry × (id_of_name name registry ≡ Some id)
+
+-- some registry that is in order has these names, the first registered first
+abbrev pub AreNamesSomewhere : Type 0 → Type 0 → Type 0 → Type 0 → Type 0 → List Named → Type 0
+AreNamesSomewhere M S D C A names = (registry : RegistryState M S D C A) × IsDirectory registry × HasIds registry × (registry.names ≡ names)

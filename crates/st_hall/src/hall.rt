@@ -1,0 +1,161 @@
+//! A registry that threads share.
+ghost use Rattle.std.specs.Prelude.{◌≡◌, ◌⊎◌, IfOk, IfErr, IfSome, option_copied};
+ghost use Rattle.std.specs.Arc.{arc_value};
+ghost use Rattle.st_events.specs.declared.refusal.Refusal.TheVariants.{NoMemory, NoSuchName, NoSuchMachine, NotStopped};
+ghost use Rattle.st_core.specs.Callbacks.{callbacks_of};
+ghost use Rattle.st_core.specs.Start.{start_of};
+ghost use Rattle.st_lock.specs.Machines.{id_of};
+ghost use Rattle.st_directory.specs.Entries.{names_of_entries};
+ghost use Rattle.st_hall.specs.Hall.{StartsSomewhere, IsNamedSomewhere, AreNamesSomewhere};
+
+use crate::copies::copied;
+use crate::kept::{keeps, kept_after};
+use st_registry::{
+    Machine, MachineId, Module, Refusal, Refused, Registry, Started, Token, a_registry_is_in_order,
+};
+use std::alloc::{AllocError, Global};
+use std::sync::{Arc, RwLock, Wait};
+
+/// A registry under a lock, which many threads may have at once to read. It keeps the handle that its locks need.
+///
+/// No call has this lock while a turn is made: a machine is found first, and its own lock is taken after this one was let
+/// go. `remove_stopped` alone has both. So the machine that was found may have been removed in between; it is served all
+/// the same, by whoever has it.
+///
+/// A call may wait for a lock. No contract says that it gets it.
+///
+/// Ours: docs/DECISIONS.md, Halls, Directories.
+#[derive(Drop)]
+pub struct Hall<M: Module, R: Wait + Drop> {
+    registry: RwLock<Registry<M>>,
+    rt: R,
+}
+
+impl<M: Module, R: Wait + Drop> Hall<M, R> {
+    /// Shares a registry.
+    ///
+    /// Ours: docs/DECISIONS.md, Halls.
+    pub fn new(rt: R, registry: Registry<M>) -> Hall<M, R> {
+        Hall {
+            registry: RwLock::new(registry),
+            rt,
+        }
+    }
+
+    /// Starts a machine, as `Registry::start` does. The module's `init` and first enter call run while nobody else has the
+    /// registry.
+    ///
+    /// Refused as `Registry::start` is; then nothing has changed, and the module comes back.
+    ///
+    /// Manual: `start/3`, `start/4`, `start_ret()`; ours: docs/DECISIONS.md, Halls.
+    pub fn start(
+        &self,
+        name: Option<&str>,
+        module: M,
+        arg: &M::Arg,
+        now: u64,
+    ) -> Result<Started, Refused<M>>
+        ensures starts { StartsSomewhere {A = M.Arg} «module» (λ id. start_of (callbacks_of M.Module M.State.eq «module») «module» id (M.init_is «module» arg.now) now 1) (option_copied name.entry) now result }
+
+        ensures returned { IfErr result (λ refused. refused.value ≡ «module») }
+    {
+        self.registry
+            .write(&self.rt)
+            .start(&self.rt, name, module, arg, now)
+    }
+
+    /// The id of the machine of a name.
+    ///
+    /// Refused with `NoSuchName` where the name is not registered.
+    ///
+    /// Manual: `server_ref()`; ours: docs/DECISIONS.md, Halls.
+    pub fn whereis(&self, name: &str) -> Result<MachineId, Refusal>
+        ensures found { IfOk result (λ id. IsNamedSomewhere M M.State M.Data M.Content M.Arg name.now id) }
+
+        ensures refusals { IfErr result (λ refusal. refusal ≡ NoSuchName) }
+    {
+        let registry = self.registry.read(&self.rt);
+        a_registry_is_in_order(&registry);
+        registry.whereis(name)
+    }
+
+    /// Takes a name out. The machine stays, and is found by its id; the other names keep their order.
+    ///
+    /// Refused with `NoSuchName` where the name is not registered; then nothing changes.
+    ///
+    /// Ours: docs/DECISIONS.md, Halls.
+    pub fn unregister(&self, name: &str) -> Result<(), Refusal>
+        ensures refusals { IfErr result (λ refusal. refusal ≡ NoSuchName) }
+    {
+        self.registry.write(&self.rt).unregister(name)
+    }
+
+    /// The machine of an id. The registry's lock is let go before it is answered.
+    ///
+    /// Refused with `NoSuchMachine` where the id names none now, and with `NoMemory` where the machine has as many owners
+    /// as can be counted.
+    ///
+    /// Ours: docs/DECISIONS.md, Halls.
+    pub fn machine(&self, id: MachineId) -> Result<Arc<Machine<M>>, Refusal>
+        ensures id { IfOk result (λ machine. id_of (arc_value machine) ≡ id) }
+
+        ensures refusals { IfErr result (λ refusal. (refusal ≡ NoSuchMachine) ⊎ (refusal ≡ NoMemory)) }
+    {
+        self.registry.read(&self.rt).machine(id)
+    }
+
+    /// A copy of the names, each with the id of its machine, in order of registration.
+    ///
+    /// Refused with `AllocError` where memory is wanted and there is none; then nothing changes.
+    ///
+    /// Ours: docs/DECISIONS.md, Halls.
+    pub fn names(&self, alloc: Global) -> Result<Vec<(String, MachineId)>, AllocError>
+        ensures names { IfOk result (λ names. AreNamesSomewhere M M.State M.Data M.Content M.Arg (names_of_entries names.items)) }
+    {
+        let registry = self.registry.read(&self.rt);
+        a_registry_is_in_order(&registry);
+        copied(alloc, registry.names())
+    }
+
+    /// How many machines there are.
+    ///
+    /// Ours: docs/DECISIONS.md, Halls.
+    pub fn len(&self) -> usize {
+        self.registry.read(&self.rt).len()
+    }
+
+    /// Says whether there is no machine.
+    ///
+    /// Ours: docs/DECISIONS.md, Halls.
+    pub fn is_empty(&self) -> bool {
+        self.registry.read(&self.rt).is_empty()
+    }
+
+    /// Removes a machine that has ended, as `Registry::remove_stopped` does. It has the registry's lock while it looks at
+    /// the machine under that one's lock.
+    ///
+    /// Refused with `NoSuchMachine` where the id names none now, and with `NotStopped` where the machine has not ended;
+    /// then nothing changes.
+    ///
+    /// Ours: docs/DECISIONS.md, Halls.
+    pub fn remove_stopped(&self, id: MachineId) -> Result<(), Refusal>
+        ensures refusals { IfErr result (λ refusal. (refusal ≡ NoSuchMachine) ⊎ (refusal ≡ NotStopped)) }
+    {
+        self.registry.write(&self.rt).remove_stopped(&self.rt, id)
+    }
+
+    /// Serves the machine of a token: one turn at a moment, in milliseconds. The token comes back where the machine is to
+    /// be served by it again: it has work still, or it refused the turn and kept the token.
+    ///
+    /// `None`: the machine rests or has ended, was removed, or has another token outstanding.
+    ///
+    /// Manual: `Module:handle_event/4`; ours: docs/DECISIONS.md, Halls, Tokens.
+    pub fn turn(&self, token: Token, now: u64) -> Option<Token>
+        ensures returned { IfSome result (λ back. back ≡ token) }
+    {
+        match self.machine(token.machine) {
+            Ok(machine) => kept_after(token, machine.turn(&self.rt, token, now)),
+            Err(refusal) => { if keeps(refusal) { Some(token) } else { None } }
+        }
+    }
+}

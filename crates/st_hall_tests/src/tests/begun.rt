@@ -1,0 +1,106 @@
+//! How halls, their machines and pools begin and end. All find memory.
+ghost use Rattle.std.specs.Prelude.{◌≤◌};
+
+use super::host::Host;
+use super::mark::Mark;
+use super::plain::Plain;
+use super::plains::Plains;
+use st_hall::{Hall, Machine, MachineId, Port, Registry, Started};
+use st_pool::{Gate, Pool, PoolEnd, Runtime};
+use std::process::Abort;
+use std::sync::{Arc, Wait};
+
+/// The id of this place and serial.
+pub fn id(slot: usize, serial: u64) -> MachineId {
+    MachineId { slot, serial }
+}
+
+/// A mark.
+pub fn mark(rt: &Host<impl Abort + AllocGlobal>, is_patient: bool) -> Arc<Mark> {
+    Mark::new(rt.alloc(), is_patient).expect(rt, "a mark")
+}
+
+/// A hall with no machine.
+pub fn hall<R: Wait + Drop>(rt: &Host<impl AllocGlobal>, threads: R) -> Plains<R> {
+    Plains {
+        hall: Hall::new(threads, Registry::new(rt.alloc())),
+    }
+}
+
+/// A hall with so many machines, from the slot 0 on, each with a serial one above its slot.
+pub fn filled<R: Wait + Drop>(
+    rt: &Host<impl Abort + AllocGlobal>,
+    threads: R,
+    mark: &Arc<Mark>,
+    count: usize,
+) -> Arc<Plains<R>> {
+    let plains = hall(rt, threads);
+    for _ in 0..count {
+        start(rt, &plains, mark, None);
+    }
+    Arc::new(rt.alloc(), plains).expect(rt, "a hall")
+}
+
+/// Starts a machine under a name, or under none, and answers its id.
+pub fn start<R: Wait + Drop>(
+    rt: &Host<impl Abort>,
+    plains: &Plains<R>,
+    mark: &Arc<Mark>,
+    name: Option<&str>,
+) -> MachineId {
+    let plain = Plain::new(mark).expect(rt, "an owner");
+    match plains.hall.start(name, plain, &(), 0) {
+        Ok(Started::Running { id, wake: None }) => id,
+        _ => panic!(rt; "it runs, and has no work"),
+    }
+}
+
+/// A port of the machine of an id.
+pub fn port<R: Wait + Drop>(
+    rt: &Host<impl Abort>,
+    threads: &impl Wait,
+    plains: &Plains<R>,
+    id: MachineId,
+) -> Port<Plain> {
+    let machine = plains.hall.machine(id).expect(rt, "it is there");
+    Machine::port(&machine, threads).expect(rt, "a port")
+}
+
+/// A port of each of so many machines of a hall that was filled.
+pub fn ports<R: Runtime>(
+    rt: &Host<impl Abort + AllocGlobal>,
+    threads: R,
+    plains: &Plains<R>,
+    count: usize,
+) -> Vec<Port<Plain>> {
+    let mut ports = Vec::new(rt.alloc());
+    for slot in 0..count {
+        let serial = (slot as u64).saturating_add(1);
+        let port = port(rt, &threads, plains, id(slot, serial));
+        if ports.push(port).is_err() {
+            panic!(rt; "a place");
+        }
+    }
+    ports
+}
+
+/// A pool of so many workers.
+pub fn started<R: Runtime, G: Gate + Drop + Send + Sync + 'static>(
+    rt: &Host<impl Abort + AllocGlobal>,
+    threads: R,
+    workers: usize,
+    plains: &Arc<Plains<R>>,
+    gate: &Arc<G>,
+) -> Pool<R>
+    requires { (1 ≤ workers) × (workers ≤ 16) }
+{
+    Pool::start(threads, rt.alloc(), workers, plains, gate).expect(rt, "a pool")
+}
+
+/// Closes a pool.
+pub fn closes<R: Runtime>(rt: &Host<impl Abort>, pool: &mut Pool<R>) -> PoolEnd {
+    match pool.close() {
+        Ok(end) => end,
+        Err(_) => panic!(rt; "there is memory"),
+    }
+}

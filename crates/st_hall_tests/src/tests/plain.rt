@@ -1,0 +1,106 @@
+//! A module whose machines share a mark.
+ghost use Rattle.std.specs.Prelude.{◌≡◌, ◌==◌, if◌then◌else◌, false, [], ◌∷◌};
+ghost use Rattle.std.proofs.Common.{rules};
+ghost use Rattle.st_events.specs.declared.action.Action.TheVariants.{NextEvent};
+ghost use Rattle.st_events.specs.declared.enter_outcome.EnterOutcome.TheVariants as enter_outcome;
+ghost use Rattle.st_events.specs.declared.init.Init.TheVariants as init;
+ghost use Rattle.st_events.specs.declared.kind.Kind.TheVariants.{Internal};
+ghost use Rattle.st_events.specs.declared.outcome.Outcome.TheVariants.{KeepStateAndData};
+
+use super::mark::Mark;
+use st_core::{Action, Actions, EnterActions, EnterOutcome, Init, Kind, Module, Outcome, Reason};
+use std::alloc::{AllocError, Global};
+use std::sync::Arc;
+
+/// States, data and contents are numbers. The state is 0 and the data 7, and `terminate` answers the data.
+///
+/// | Content | What is done |
+/// |---|---|
+/// | 2 | inserts 0 as internal |
+/// | 3 | waits for the mark, and keeps both |
+/// | 4 | makes the mark, and keeps both |
+/// | other | keeps both |
+#[derive(Drop)]
+pub struct Plain {
+    mark: Arc<Mark>,
+}
+
+impl Plain {
+    /// A module of this mark.
+    pub fn new(mark: &Arc<Mark>) -> Result<Plain, AllocError> {
+        let mark = Arc::try_clone(mark)?;
+        Ok(Plain { mark })
+    }
+}
+
+impl Module for Plain {
+    type State = u32;
+
+    type Data = u32;
+
+    type Content = u32;
+
+    type Arg = ();
+
+    ghost init_is = { λ plain arg. init.Ok 0 7 [] };
+
+    ghost handle_is = { λ plain kind content state held.
+        if content == 2 then KeepStateAndData (NextEvent Internal 0 ∷ [])
+        else KeepStateAndData [] };
+
+    ghost enters_is = { λ plain. false };
+
+    ghost enter_is = { λ plain old state held. enter_outcome.KeepStateAndData [] };
+
+    ghost terminate_is = { λ plain reason state held. held };
+
+    fn init(&self, alloc: Global, _arg: &()) -> Result<Init<u32, u32, u32>, AllocError> {
+        Ok(Init::Ok(0, 7, Actions::new(alloc)))
+    }
+
+    fn handle(
+        &self,
+        alloc: Global,
+        _kind: Kind,
+        content: &u32,
+        _state: u32,
+        _held: &u32,
+    ) -> Result<Outcome<u32, u32, u32>, AllocError> {
+        let mut actions = Actions::new(alloc);
+        match *content {
+            2 => actions.push(Action::NextEvent(Kind::Internal, 0))?,
+            3 => self.mark.wait(),
+            4 => self.mark.make(),
+            _ => {}
+        }
+        Ok(Outcome::KeepStateAndData(actions))
+    }
+
+    fn enters(&self) -> bool {
+        false
+    }
+
+    fn enter(
+        &self,
+        alloc: Global,
+        _old: u32,
+        _state: u32,
+        _held: &u32,
+    ) -> Result<EnterOutcome<u32, u32>, AllocError> {
+        Ok(EnterOutcome::KeepStateAndData(EnterActions::new(alloc)))
+    }
+
+    fn terminate(&self, _reason: Reason, _state: u32, held: &u32) -> u32 {
+        *held
+    }
+
+    fn copy_content(&self, _alloc: Global, content: &u32) -> Result<u32, AllocError> {
+        Ok(*content)
+    }
+
+    fn copy_data(&self, _alloc: Global, held: &u32) -> Result<u32, AllocError> {
+        Ok(*held)
+    }
+
+    ghost lawful = { Prim.search rules };
+}
