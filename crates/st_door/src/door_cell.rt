@@ -14,10 +14,11 @@ use st_core::{Command, Core};
 use std::alloc::{AllocError, Global};
 use std::marker::Model;
 
-/// A door of a script: its machine in a cell, with one port. Contracts see the machine.
+/// A door of a script: its machine in a cell, with one port. Contracts see the machine. The cell lies in a box, since doors
+/// move up where one before them is removed.
 #[derive(Drop)]
 pub(crate) struct DoorCell {
-    cell: Cell<Door>,
+    cell: Box<Cell<Door>>,
 }
 
 impl Model for DoorCell {
@@ -27,9 +28,9 @@ impl Model for DoorCell {
 
     ghost Value = { DoorMachine };
 
-    ghost view = { λ door. machine_in door.cell };
+    ghost view = { λ door. machine_in door.cell.value };
 
-    ghost invariant = { λ door. IsOpen 1 door.cell };
+    ghost invariant = { λ door. IsOpen 1 door.cell.value };
 }
 
 impl DoorCell {
@@ -43,7 +44,9 @@ impl DoorCell {
         if cell.port().is_err() {
             return Err(AllocError);
         }
-        Ok(DoorCell { cell })
+        Ok(DoorCell {
+            cell: Box::new(alloc, cell)?,
+        })
     }
 
     /// The machine, to be read.
@@ -62,14 +65,14 @@ impl DoorCell {
 
         ensures unchanged { OnErr result (self.new ≡ self.old) }
     {
-        make_ready(&mut self.cell)?;
+        make_ready(&mut *self.cell)?;
         match command {
-            Command::Post(entry, content) => post(&mut self.cell, entry, content),
-            Command::Tick(moment) => tick(&mut self.cell, moment),
+            Command::Post(entry, content) => post(&mut *self.cell, entry, content),
+            Command::Tick(moment) => tick(&mut *self.cell, moment),
             Command::Turn(_) => unreachable!(),
-            Command::Reply(tag, content) => reply(&mut self.cell, tag, content),
-            Command::Collect(tag) => collect(&mut self.cell, tag),
-            Command::Stop(reason) => stop(&mut self.cell, reason),
+            Command::Reply(tag, content) => reply(&mut *self.cell, tag, content),
+            Command::Collect(tag) => collect(&mut *self.cell, tag),
+            Command::Stop(reason) => stop(&mut *self.cell, reason),
         }
     }
 
@@ -80,7 +83,7 @@ impl DoorCell {
 
         ensures unchanged { OnErr result (self.new ≡ self.old) }
     {
-        make_ready(&mut self.cell)?;
-        turn(&mut self.cell, moment)
+        make_ready(&mut *self.cell)?;
+        turn(&mut *self.cell, moment)
     }
 }
