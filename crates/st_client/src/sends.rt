@@ -5,17 +5,8 @@ ghost use Rattle.st_lock.specs.Ports.{posted};
 
 use crate::{RequestId, Sent, Wake};
 use st_lock::{Entry, Module, Port, Refusal, Refused, Token};
+use st_wake::schedule;
 use std::sync::{Arc, Wait};
-
-/// Schedules a machine by its token, if it was issued one, and answers the token where it could not be scheduled.
-fn schedule<W: Wake, R: Wait>(rt: &R, wake: &W, token: Option<Token>) -> Option<Token>
-    ensures { IfSome result (λ left. token ≡ Some left) }
-{
-    match wake.wake(rt, token?) {
-        Ok(()) => None,
-        Err(left) => Some(left),
-    }
-}
 
 /// Posts an event, and schedules the machine.
 fn send<M: Module, W: Wake, R: Wait>(

@@ -1,9 +1,9 @@
 -- What the cell of a door answers, and what its calls leave of the door's machine: what the definition says.
 use Rattle.std.proofs.Common.{◌≡◌, ◌≢◌, ℕ, Bool, true, false, ◌&&◌, Option, Some, None, refl, ap, sym, ◌∙◌, inl, inr}
-use Rattle.std.specs.Prelude.{Result, Ok, Err, is_some, is_none}
+use Rattle.std.specs.Prelude.{Result, Ok, Err, is_some}
 use Rattle.std.specs.Option.{option_map}
 use Rattle.std.proofs.lemmas.Bool.{cases_Bool}
-use Rattle.st_core.specs.Choice.{is_ready_of, next_event_of}
+use Rattle.st_core.specs.Choice.{is_ready_of}
 use Rattle.st_core.specs.Callbacks.{callbacks_of}
 use Rattle.st_core.specs.Run.{step_of}
 use Rattle.st_core.specs.declared.answer.Answer.TheVariants as answer
@@ -17,7 +17,7 @@ use Rattle.st_events.specs.declared.refused.Refused.{Refused}
 use Rattle.st_events.specs.declared.token.Token.{Token}
 use Rattle.st_scheduled.specs.declared.outstanding.Outstanding.{Outstanding}
 use Rattle.st_scheduled.specs.declared.step_answer.StepAnswer.{StepAnswer}
-use Rattle.st_scheduled.specs.ScheduledMachine.{id_of, token_of, is_token_of, same_id, has_wake, HasTokenForWork}
+use Rattle.st_scheduled.specs.ScheduledMachine.{id_of, token_of, is_token_of, same_id, has_wake}
 use Rattle.st_scheduled.specs.Serving.{content_of, refused_with, hands_out, is_full, told_as, told_on}
 use Rattle.st_events.proofs.ComparedLemmas.{same_number}
 use Rattle.st_scheduled.proofs.TokensCompared.{some_is, same_id_self}
@@ -115,16 +115,7 @@ own-of id (Some outstanding) token same =
 own-token : (scheduled : ScheduledDoor) (token : Token) → token_of scheduled ≡ Some token → is_token_of token scheduled ≡ true
 own-token scheduled token same = own-of (id_of scheduled) scheduled.token token same
 
--- a door that is ready has not ended
-ready-runs : (ended : Option (ℕ × ℕ)) (more : Bool) → (is_none ended && more) ≡ true → ended ≡ None
-ready-runs None more ready = refl
-ready-runs (Some end) more ready = cc
-
--- so it has a token
-pub ready-token : (scheduled : ScheduledDoor) → HasTokenForWork scheduled → is_ready_of scheduled.core.machine ≡ true → is_some scheduled.token ≡ true
-ready-token scheduled has ready = has (ready-runs scheduled.core.machine.ended (is_some (next_event_of scheduled.core.machine)) ready) ∙ ready
-
--- and its turn leaves the definition's machine
+-- the turn of a door that is ready leaves the definition's machine
 pub turned : (cell new : DoorCellState) (token : Token) (moment : ℕ) (result : Result Next (Refused Token))
     → is_full cell.scheduled ≡ false → is_ready_of (machine_in cell) ≡ true → token_of cell.scheduled ≡ Some token
     → turn_refusal result ≢ Some NoMemory
