@@ -1,5 +1,5 @@
 //! Events are sent through a port, and the machine is scheduled.
-ghost use Rattle.std.specs.Prelude.{◌≡◌, Some, IfOk, IfErr, IfSome, OnErr};
+ghost use Rattle.std.specs.Prelude.{◌≡◌, IfOk, IfErr, OnErr};
 ghost use Rattle.st_core.specs.declared.entry.Entry.TheVariants.{Call, Cast, Info};
 ghost use Rattle.st_lock.specs.Ports.{posted};
 
