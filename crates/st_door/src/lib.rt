@@ -37,11 +37,16 @@ pub use door::Door;
 pub use door_content::DoorContent;
 pub use door_data::DoorData;
 pub use door_state::DoorState;
+pub use effect::Effect;
 pub use failed::Failed;
 pub use failures::Failures;
-pub use input::INPUT_LIMIT;
+pub use input::{INPUT_LIMIT, InputFault, read_input};
+pub use line::{LINE_LIMIT, Line, read_line};
+pub use lines::{split_lines, without_return};
 pub use mode::Mode;
-pub use run::run_script;
+pub use output::write_output;
+pub use printing::{code_length, ended_status, expired, printed, removed, status};
+pub use run::{is_fault, run_script};
 pub use script_fault::ScriptFault;
 pub use sink::Sink;
 pub use source::Source;
@@ -49,3 +54,4 @@ pub use st_events::{
     Action, Actions, EnterAction, EnterActions, EnterOutcome, Init, Kind, MachineId, Module,
     Outcome, PlainList, Reason, Refusal, Refused, Replies, SmallList, Tag, Time, Timer,
 };
+pub use text::Text;

@@ -20,7 +20,7 @@ fn state_name(state: DoorState) -> &'static str
 }
 
 /// The status of a door that runs, by its parts.
-pub(crate) fn status(
+pub fn status(
     alloc: Global,
     name: &str,
     state: DoorState,
@@ -34,7 +34,7 @@ pub(crate) fn status(
 }
 
 /// The status of a door that has ended, by its parts.
-pub(crate) fn ended_status(
+pub fn ended_status(
     alloc: Global,
     name: &str,
     reason: Reason,
@@ -46,21 +46,21 @@ pub(crate) fn ended_status(
 }
 
 /// That the door of a name was removed.
-pub(crate) fn removed(alloc: Global, name: &str) -> Result<String, AllocError>
+pub fn removed(alloc: Global, name: &str) -> Result<String, AllocError>
     ensures { IfOk result (λ text. string_bytes text ≡ removed_text name.now) }
 {
     format!(in alloc; "{name} removed\n")
 }
 
 /// Which moment it is, and how many time-outs expired.
-pub(crate) fn expired(alloc: Global, moment: u64, count: u128) -> Result<String, AllocError>
+pub fn expired(alloc: Global, moment: u64, count: u128) -> Result<String, AllocError>
     ensures { IfOk result (λ text. string_bytes text ≡ expired_text moment count) }
 {
     format!(in alloc; "at {moment} expired {count}\n")
 }
 
 /// How long the code of the door of a name is, or a hyphen where that was not said.
-pub(crate) fn code_length(
+pub fn code_length(
     alloc: Global,
     name: &str,
     digits: Option<usize>,
@@ -74,7 +74,7 @@ pub(crate) fn code_length(
 }
 
 /// What the line of a number prints.
-pub(crate) fn printed(alloc: Global, number: u64, effect: Effect) -> Result<Text, AllocError>
+pub fn printed(alloc: Global, number: u64, effect: Effect) -> Result<Text, AllocError>
     ensures { IfOk result (λ text. text ≡ printed_of number effect) }
 {
     match effect {

@@ -15,8 +15,8 @@ use crate::script::Script;
 use crate::{Mode, ScriptFault, Sink, Source};
 use std::alloc::Global;
 
-/// Whether a reply makes the script's status 1.
-fn is_fault(effect: &Effect) -> bool
+/// Whether what a line brings about makes the script's status 1.
+pub fn is_fault(effect: &Effect) -> bool
     ensures { result ≡ is_fault effect.now }
 {
     matches!(effect, Effect::Refuses(_) | Effect::Malformed)

@@ -4,7 +4,7 @@ use Rattle.st_core.proofs.laws.a_state_change_is_a_change_of_value.Goals as goal
 
 pub returns-clause-changed : goal.returns-clause-changed
 returns-clause-changed g c module_ machine event =
-    let compared = g.met.M.State.Eq g.world.𝓛 g.world.𝓜 g.world.𝓡 ((λ s x. x), (λ x. x), (λ x. x), λ x. x) in
+    let compared = g.met.M.State.Eq in
     changed_is_another (callbacks_of g.M.Module g.M.State.PartialEq.eq module_) machine event compared.laws.refl
 
 pub returns-clause-unchanged : goal.returns-clause-unchanged

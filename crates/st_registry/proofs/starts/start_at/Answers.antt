@@ -6,7 +6,7 @@ use Rattle.st_registry.proofs.starts.start_at.Goals as goal
 
 -- the machine has the id of its place
 pub keep-requires-clause-core : goal.keep-requires-clause-core
-keep-requires-clause-core g c κs within =
+keep-requires-clause-core g c =
     (started_at (callbacks_of g.M.Module g.M.State.PartialEq.eq c.args.module) c.args.module c.id-2.result c.args.place.id (g.M.Module.init_is c.args.module c.args.arg.now)
     c.args.now 1 c.in-Ok-Running.field-0 c.in-Ok-Running.core c.in-Ok-Running.report c.id-2.ensures c.in-Ok-Running.field-0-is c.in-Ok-Running.ensures.start).1.of_id
 

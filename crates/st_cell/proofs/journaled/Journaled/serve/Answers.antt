@@ -15,7 +15,7 @@ returns-then-is_err-clause-served g c =
     (refused_with NoMemory None, inr (c.takes_turn.ensures.turn c.if-not-takes_turn.false, refl, c.make_room.ensures.same), refl)
 
 -- there are two places, one for this entry
-pub write-requires-after_bounds : goal.write-requires-after_bounds
+pub write-requires : goal.write-requires
 write-requires-after_bounds g c =
     let got = got_places _ c.make_room.result (sym c.is_err.ensures.value ∙ c.if-is_err.false) c.make_room.ensures.room in
     let before = ap (λ cell. length cell.journal) c.make_room.ensures.same in

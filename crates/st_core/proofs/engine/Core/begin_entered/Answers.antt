@@ -6,30 +6,6 @@ use Rattle.st_core.specs.Start.{first_state}
 use Rattle.st_core.proofs.StartLemmas.{begun_takes_memory, begins, ends, starts_same}
 use Rattle.st_core.proofs.engine.Core.begin_entered.Goals as goal
 
-pub run_from-requires-send-M-State : goal.run_from-requires-send-M-State
-run_from-requires-send-M-State g c κs within = c.type_bounds.send-M-State
-
-pub run_from-requires-send-M-Data : goal.run_from-requires-send-M-Data
-run_from-requires-send-M-Data g c κs within = c.type_bounds.send-M-Data
-
-pub run_from-requires-send-M-Content : goal.run_from-requires-send-M-Content
-run_from-requires-send-M-Content g c κs within = c.type_bounds.send-M-Content
-
-pub run_from-requires-send-M-Arg : goal.run_from-requires-send-M-Arg
-run_from-requires-send-M-Arg g c κs within = c.type_bounds.send-M-Arg
-
-pub end_at-requires-send-M-State : goal.end_at-requires-send-M-State
-end_at-requires-send-M-State g c κs within = c.type_bounds.send-M-State
-
-pub end_at-requires-send-M-Data : goal.end_at-requires-send-M-Data
-end_at-requires-send-M-Data g c κs within = c.type_bounds.send-M-Data
-
-pub end_at-requires-send-M-Content : goal.end_at-requires-send-M-Content
-end_at-requires-send-M-Content g c κs within = c.type_bounds.send-M-Content
-
-pub end_at-requires-send-M-Arg : goal.end_at-requires-send-M-Arg
-end_at-requires-send-M-Arg g c κs within = c.type_bounds.send-M-Arg
-
 -- each call that finds no memory comes after `init`
 pub returns-in_default-enter : goal.returns-in_default-enter
 returns-in_default-enter g c = record {

@@ -7,18 +7,6 @@ use Rattle.st_core.specs.Transition.{with_moment}
 use Rattle.st_core.proofs.TransitionLemmas.{concluded_takes_memory, goes_on, meets_same}
 use Rattle.st_core.proofs.engine.Core.conclude_one.Goals as goal
 
-pub go_on_with_one-requires-send-M-State : goal.go_on_with_one-requires-send-M-State
-go_on_with_one-requires-send-M-State g c κs within = c.type_bounds.send-M-State
-
-pub go_on_with_one-requires-send-M-Data : goal.go_on_with_one-requires-send-M-Data
-go_on_with_one-requires-send-M-Data g c κs within = c.type_bounds.send-M-Data
-
-pub go_on_with_one-requires-send-M-Content : goal.go_on_with_one-requires-send-M-Content
-go_on_with_one-requires-send-M-Content g c κs within = c.type_bounds.send-M-Content
-
-pub go_on_with_one-requires-send-M-Arg : goal.go_on_with_one-requires-send-M-Arg
-go_on_with_one-requires-send-M-Arg g c κs within = c.type_bounds.send-M-Arg
-
 -- the list of the call finds no memory before anything changes
 pub returns-in_err-calls-clause-step : goal.returns-in_err-calls-clause-step
 returns-in_err-calls-clause-step g c called called_is =

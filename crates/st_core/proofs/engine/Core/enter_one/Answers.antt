@@ -11,30 +11,6 @@ use Rattle.st_core.specs.Transition.{with_moment}
 use Rattle.st_core.proofs.TransitionLemmas.{concluded_takes_memory, goes_on, stops, meets_same, or_old_twice}
 use Rattle.st_core.proofs.engine.Core.enter_one.Goals as goal
 
-pub go_on-requires-send-M-State : goal.go_on-requires-send-M-State
-go_on-requires-send-M-State g c κs within = c.type_bounds.send-M-State
-
-pub go_on-requires-send-M-Data : goal.go_on-requires-send-M-Data
-go_on-requires-send-M-Data g c κs within = c.type_bounds.send-M-Data
-
-pub go_on-requires-send-M-Content : goal.go_on-requires-send-M-Content
-go_on-requires-send-M-Content g c κs within = c.type_bounds.send-M-Content
-
-pub go_on-requires-send-M-Arg : goal.go_on-requires-send-M-Arg
-go_on-requires-send-M-Arg g c κs within = c.type_bounds.send-M-Arg
-
-pub stop_at-requires-send-M-State : goal.stop_at-requires-send-M-State
-stop_at-requires-send-M-State g c κs within = c.type_bounds.send-M-State
-
-pub stop_at-requires-send-M-Data : goal.stop_at-requires-send-M-Data
-stop_at-requires-send-M-Data g c κs within = c.type_bounds.send-M-Data
-
-pub stop_at-requires-send-M-Content : goal.stop_at-requires-send-M-Content
-stop_at-requires-send-M-Content g c κs within = c.type_bounds.send-M-Content
-
-pub stop_at-requires-send-M-Arg : goal.stop_at-requires-send-M-Arg
-stop_at-requires-send-M-Arg g c κs within = c.type_bounds.send-M-Arg
-
 -- each call that finds no memory comes before anything changes
 pub returns-in_err-calls-clause-step : goal.returns-in_err-calls-clause-step
 returns-in_err-calls-clause-step g c called called_is =

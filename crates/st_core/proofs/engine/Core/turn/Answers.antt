@@ -9,89 +9,29 @@ use Rattle.st_core.proofs.LawfulLemmas.{lawful_moment}
 use Rattle.st_core.proofs.TransitionLemmas.{machine_of, number_named, event_is, turn_wants_memory, turn_concludes, turn_enters, turn_does, meets_same}
 use Rattle.st_core.proofs.engine.Core.turn.Goals as goal
 
-pub is_entered-requires-send-M-State : goal.is_entered-requires-send-M-State
-is_entered-requires-send-M-State g c κs within = c.type_bounds.send-M-State
-
-pub is_entered-requires-send-M-Data : goal.is_entered-requires-send-M-Data
-is_entered-requires-send-M-Data g c κs within = c.type_bounds.send-M-Data
-
-pub is_entered-requires-send-M-Content : goal.is_entered-requires-send-M-Content
-is_entered-requires-send-M-Content g c κs within = c.type_bounds.send-M-Content
-
-pub is_entered-requires-send-M-Arg : goal.is_entered-requires-send-M-Arg
-is_entered-requires-send-M-Arg g c κs within = c.type_bounds.send-M-Arg
-
-pub enter-requires-send-M-State : goal.enter-requires-send-M-State
-enter-requires-send-M-State g c κs within = c.type_bounds.send-M-State
-
-pub enter-requires-send-M-Data : goal.enter-requires-send-M-Data
-enter-requires-send-M-Data g c κs within = c.type_bounds.send-M-Data
-
-pub enter-requires-send-M-Content : goal.enter-requires-send-M-Content
-enter-requires-send-M-Content g c κs within = c.type_bounds.send-M-Content
-
-pub enter-requires-send-M-Arg : goal.enter-requires-send-M-Arg
-enter-requires-send-M-Arg g c κs within = c.type_bounds.send-M-Arg
-
-pub conclude-requires-send-M-State : goal.conclude-requires-send-M-State
-conclude-requires-send-M-State g c κs within = c.type_bounds.send-M-State
-
-pub conclude-requires-send-M-Data : goal.conclude-requires-send-M-Data
-conclude-requires-send-M-Data g c κs within = c.type_bounds.send-M-Data
-
-pub conclude-requires-send-M-Content : goal.conclude-requires-send-M-Content
-conclude-requires-send-M-Content g c κs within = c.type_bounds.send-M-Content
-
-pub conclude-requires-send-M-Arg : goal.conclude-requires-send-M-Arg
-conclude-requires-send-M-Arg g c κs within = c.type_bounds.send-M-Arg
-
-pub enter_one-requires-send-M-State : goal.enter_one-requires-send-M-State
-enter_one-requires-send-M-State g c κs within = c.type_bounds.send-M-State
-
-pub enter_one-requires-send-M-Data : goal.enter_one-requires-send-M-Data
-enter_one-requires-send-M-Data g c κs within = c.type_bounds.send-M-Data
-
-pub enter_one-requires-send-M-Content : goal.enter_one-requires-send-M-Content
-enter_one-requires-send-M-Content g c κs within = c.type_bounds.send-M-Content
-
-pub enter_one-requires-send-M-Arg : goal.enter_one-requires-send-M-Arg
-enter_one-requires-send-M-Arg g c κs within = c.type_bounds.send-M-Arg
-
-pub conclude_one-requires-send-M-State : goal.conclude_one-requires-send-M-State
-conclude_one-requires-send-M-State g c κs within = c.type_bounds.send-M-State
-
-pub conclude_one-requires-send-M-Data : goal.conclude_one-requires-send-M-Data
-conclude_one-requires-send-M-Data g c κs within = c.type_bounds.send-M-Data
-
-pub conclude_one-requires-send-M-Content : goal.conclude_one-requires-send-M-Content
-conclude_one-requires-send-M-Content g c κs within = c.type_bounds.send-M-Content
-
-pub conclude_one-requires-send-M-Arg : goal.conclude_one-requires-send-M-Arg
-conclude_one-requires-send-M-Arg g c κs within = c.type_bounds.send-M-Arg
-
-pub enter-requires-after_bounds : goal.enter-requires-after_bounds
-enter-requires-after_bounds g c κs within =
+pub enter-requires : goal.enter-requires
+enter-requires g c =
     let early : c.args.now < 2 ^ 63 = omega (arith, c.if-now-ge-MOMENT_LIMIT.false) in
     let next = next_event_of c.args.self.now.machine in
     let named : option_map name_of_event next ≡ Some (c.in-Some-next_event.number, c.in-Some-next_event.kind) = rw (← c.self.view_is) (sym c.next_event.ensures ∙ c.in-Some-next_event.is) in
     (g.met.M.Module.lawful.outcome_fits, (early, number_named next (c.in-Some-next_event.number, c.in-Some-next_event.kind) named))
 
-pub conclude-requires-after_bounds : goal.conclude-requires-after_bounds
-conclude-requires-after_bounds g c κs within =
+pub conclude-requires : goal.conclude-requires
+conclude-requires g c =
     let early : c.args.now < 2 ^ 63 = omega (arith, c.if-now-ge-MOMENT_LIMIT.false) in
     let next = next_event_of c.args.self.now.machine in
     let named : option_map name_of_event next ≡ Some (c.in-Some-next_event.number, c.in-Some-next_event.kind) = rw (← c.self.view_is) (sym c.next_event.ensures ∙ c.in-Some-next_event.is) in
     (g.met.M.Module.lawful.outcome_fits, (early, number_named next (c.in-Some-next_event.number, c.in-Some-next_event.kind) named))
 
-pub enter_one-requires-after_bounds : goal.enter_one-requires-after_bounds
-enter_one-requires-after_bounds g c κs within =
+pub enter_one-requires : goal.enter_one-requires
+enter_one-requires g c =
     let early : c.args.now < 2 ^ 63 = omega (arith, c.if-now-ge-MOMENT_LIMIT.false) in
     let next = next_event_of c.args.self.now.machine in
     let named : option_map name_of_event next ≡ Some (c.in-Some-next_event.number, c.in-Some-next_event.kind) = rw (← c.self.view_is) (sym c.next_event.ensures ∙ c.in-Some-next_event.is) in
     (g.met.M.Module.lawful.outcome_fits, (early, (number_named next (c.in-Some-next_event.number, c.in-Some-next_event.kind) named, c.asks_little-little.ensures c.if-little.true)))
 
-pub conclude_one-requires-after_bounds : goal.conclude_one-requires-after_bounds
-conclude_one-requires-after_bounds g c κs within =
+pub conclude_one-requires : goal.conclude_one-requires
+conclude_one-requires g c =
     let early : c.args.now < 2 ^ 63 = omega (arith, c.if-now-ge-MOMENT_LIMIT.false) in
     let next = next_event_of c.args.self.now.machine in
     let named : option_map name_of_event next ≡ Some (c.in-Some-next_event.number, c.in-Some-next_event.kind) = rw (← c.self.view_is) (sym c.next_event.ensures ∙ c.in-Some-next_event.is) in
