@@ -16,7 +16,7 @@ returns-then-is_err-clause-served g c =
 
 -- there are two places, one for this entry
 pub write-requires : goal.write-requires
-write-requires-after_bounds g c =
+write-requires g c =
     let got = got_places _ c.make_room.result (sym c.is_err.ensures.value ∙ c.if-is_err.false) c.make_room.ensures.room in
     let before = ap (λ cell. length cell.journal) c.make_room.ensures.same in
     let rest = ap (λ cell. length cell.journal) c.serve_scheduled.ensures.rest in
