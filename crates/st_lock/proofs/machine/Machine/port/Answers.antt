@@ -5,13 +5,13 @@ use Rattle.st_lock.proofs.machine.Machine.port.Goals as goal
 
 -- what was claimed of the desk is so of it with one endpoint more
 pub give_opened-requires-clause-others : goal.give_opened-requires-clause-others
-give_opened-requires-clause-others g c κs within = λ claimed fits.
+give_opened-requires-clause-others g c = λ claimed fits.
     more_fits c.deref_mut.result.now c.port.new.self c.in_ok-counter.end c.in-Ok.ensures.opened claimed
     (subst (λ desk. Fits (Some desk) claimed) (sym c.deref_mut.ensures.value)
     (subst (λ under. Fits (desk_of under) claimed) c.arrive-taken.ensures.taken fits))
 
 -- and that is the new port's
 pub give_opened-requires-clause-own : goal.give_opened-requires-clause-own
-give_opened-requires-clause-own g c κs within =
+give_opened-requires-clause-own g c =
     next_fits c.deref_mut.result.now c.port.new.self c.in_ok-counter.end c.in-Ok.number c.in_ok-counter.counter c.in-Ok.ensures.opened c.in-Ok.ensures.number
     (ap (λ end. end.counter) c.in_ok-counter.ensures.machine)
