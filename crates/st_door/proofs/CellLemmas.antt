@@ -1,10 +1,10 @@
 -- What the cell of a door answers, and what its calls leave of the door's machine: what the definition says.
-use Rattle.std.proofs.Common.{◌≡◌, ◌≢◌, ℕ, Bool, true, false, ◌&&◌, Option, Some, None, refl, ap, sym, ◌∙◌, inl, inr}
+use Rattle.std.proofs.Common.{◌≡◌, ◌≢◌, ℕ, ◌+◌, Bool, true, false, ◌&&◌, List, ◌++◌, length, length-append, Option, Some, None, refl, ap, sym, ◌∙◌, arith, inl, inr}
 use Rattle.std.specs.Prelude.{Result, Ok, Err, is_some}
 use Rattle.std.specs.Option.{option_map}
 use Rattle.std.proofs.lemmas.Bool.{cases_Bool}
 use Rattle.st_core.specs.Choice.{is_ready_of}
-use Rattle.st_core.specs.Callbacks.{callbacks_of}
+use Rattle.st_core.specs.Callbacks.{Callbacks, callbacks_of}
 use Rattle.st_core.specs.Run.{step_of}
 use Rattle.st_core.specs.declared.answer.Answer.TheVariants as answer
 use Rattle.st_core.specs.declared.command.Command.{Command}
@@ -21,23 +21,21 @@ use Rattle.st_scheduled.specs.ScheduledMachine.{id_of, token_of, is_token_of, sa
 use Rattle.st_scheduled.specs.Serving.{content_of, refused_with, hands_out, is_full, told_as, told_on}
 use Rattle.st_events.proofs.ComparedLemmas.{same_number}
 use Rattle.st_scheduled.proofs.TokensCompared.{some_is, same_id_self}
-use Rattle.st_cell.specs.Calls.{MeetsCall, Turns, next_as, served_at}
+use Rattle.st_cell.specs.Calls.{MeetsCall, Turns, entry_of, kept_answer, next_as, served_at}
 use Rattle.st_cell.specs.declared.next.Next.{Next}
 use Rattle.st_door.specs.contracts.door.DoorModule.TheImpl.{ghosts}
 use Rattle.st_door.specs.contracts.door_state.DoorStatePartialEq.TheImpl.{eq-value}
 use Rattle.st_door.specs.declared.door_content.DoorContent.{DoorContent}
 use Rattle.st_door.specs.declared.door_state.DoorState.{DoorState}
-use Rattle.st_door.specs.Doors.{DoorAnswer, DoorMachine, door_callbacks, refusal_in}
-use Rattle.st_door.specs.Entries.{DoorCore, ScheduledDoor, DoorCellState, machine_in}
+use Rattle.st_door.specs.declared.door.Door.{Door}
+use Rattle.st_door.specs.declared.door_data.DoorData.{DoorData}
+use Rattle.st_door.specs.Doors.{DoorAnswer, DoorEntry, DoorMachine, port_of, recorded, refusal_in, told_kept}
+use Rattle.st_door.specs.Entries.{DoorCore, ScheduledDoor, DoorCellState, HasTold, IsDoorCell, door_in, history_in, machine_in, recorded_in, told_in}
 use Rattle.st_door.proofs.ToldLemmas.{given-callbacks, told-refused}
 
 -- what a door's cell answers to a command
 abbrev DoorStep : Type 0
 DoorStep = StepAnswer DoorState DoorContent
-
--- what the definition answers, and the machine after it
-abbrev pub told_in : DoorCellState → Command DoorContent → DoorAnswer × DoorMachine
-told_in cell command = step_of door_callbacks (machine_in cell) command
 
 -- the door after it
 abbrev pub core_after : DoorCellState → Command DoorContent → DoorCore
@@ -77,22 +75,62 @@ told-on cell command ready =
     told_as cell.scheduled done.0 (record { module_ = cell.scheduled.core.module_; machine = done.1 }))
     (given-callbacks cell.scheduled.core.module_))
 
--- a call that found memory is answered so, and leaves the definition's machine
+-- the entry of what is told, and the count of commands: it has one where the definition's answer is recorded
+entry-told : (old : ScheduledDoor) (command : Command DoorContent) (said : DoorAnswer) (core : DoorCore)
+    → (entry_of (told_as old said core).1.count (port_of command) command (kept_answer (told_as old said core).0) ≡ recorded (old.count + 1) command said)
+    × ((told_as old said core).1.count ≡ old.count + length (recorded (old.count + 1) command said))
+entry-told old command (answer.Post (Ok number)) core = (refl, refl)
+entry-told old command (answer.Post (Err refused)) core = (refl, omega arith)
+entry-told old command (answer.Tick (Ok expired)) core = (refl, refl)
+entry-told old command (answer.Tick (Err refusal)) core = (refl, omega arith)
+entry-told old command (answer.Turn (Ok (Reported report))) core = (refl, refl)
+entry-told old command (answer.Turn (Ok Idle)) core = (refl, omega arith)
+entry-told old command (answer.Turn (Err refusal)) core = (refl, omega arith)
+entry-told old command (answer.Reply taken) core = (refl, refl)
+entry-told old command (answer.Collect shown) core = elim (cases_Bool (hands_out shown)) [
+  | inl given ↦ rw given (refl, refl)
+  | inr kept ↦ rw kept (refl, omega arith)
+]
+entry-told old command (answer.Stop (Ok word)) core = (refl, refl)
+entry-told old command (answer.Stop (Err refusal)) core = (refl, omega arith)
+
+-- the callbacks of a door's module
+abbrev given : Door → Callbacks DoorState DoorData DoorContent
+given door = callbacks_of ghosts eq-value.it door
+
+-- what a cell answers that is told a command, and what it is then, but for what its ports have posted
+abbrev WithEntry : DoorCellState → Command DoorContent → DoorStep × DoorCellState → Type 0
+WithEntry cell command definition =
+    (definition.0 ≡ (told_on given cell.scheduled command).0)
+    × (definition.1.scheduled ≡ (told_on given cell.scheduled command).1)
+    × (definition.1.journal ≡ cell.journal ++ entry_of (told_on given cell.scheduled command).1.count (port_of command) command (kept_answer (told_on given cell.scheduled command).0))
+    × (definition.1.base ≡ cell.base)
+
+-- a call that found memory is answered so, and leaves the definition's machine, and its entry
 pub called : (cell new : DoorCellState) (command : Command DoorContent) (said : DoorStep) (definition : DoorStep × DoorCellState)
     → is_full cell.scheduled ≡ false
-    → definition.0 ≡ (told_on (callbacks_of ghosts eq-value.it) cell.scheduled command).0
-    → definition.1.scheduled ≡ (told_on (callbacks_of ghosts eq-value.it) cell.scheduled command).1
+    → WithEntry cell command definition
     → said ≢ refused_with NoMemory (content_of command)
     → MeetsCall command said cell new definition
-    → (said ≡ (told_as cell.scheduled (told_in cell command).0 (core_after cell command)).0) × (machine_in new ≡ (told_in cell command).1)
-called cell new command said definition ready answers leaves found (inl done) =
-    let told = told-on cell command ready in (
-      done.0 ∙ (answers ∙ ap (λ (t : DoorStep × ScheduledDoor). t.0) told),
-      ap machine_in done.1
-          ∙ (ap (λ (s : ScheduledDoor). s.core.machine) (leaves ∙ ap (λ (t : DoorStep × ScheduledDoor). t.1) told)
-          ∙ ap (λ (core : DoorCore). core.machine) (told-left cell.scheduled (told_in cell command).0 (core_after cell command) (stays-refused cell command))),
+    → (said ≡ (told_as cell.scheduled (told_in cell command).0 (core_after cell command)).0) × HasTold command cell new
+called cell new command said definition ready with_entry found (inl done) =
+    let told = told-on cell command ready in
+    let entry = entry-told cell.scheduled command (told_in cell command).0 (core_after cell command) in (
+      done.0 ∙ (with_entry.0 ∙ ap (λ (t : DoorStep × ScheduledDoor). t.0) told),
+      record {
+        machine = ap machine_in done.1
+            ∙ (ap (λ (s : ScheduledDoor). s.core.machine) (with_entry.1 ∙ ap (λ (t : DoorStep × ScheduledDoor). t.1) told)
+            ∙ ap (λ (core : DoorCore). core.machine) (told-left cell.scheduled (told_in cell command).0 (core_after cell command) (stays-refused cell command)));
+        journal = ap (λ (c : DoorCellState). c.journal) done.1
+            ∙ (with_entry.2
+            ∙ (ap (λ (t : DoorStep × ScheduledDoor). cell.journal ++ entry_of t.1.count (port_of command) command (kept_answer t.0)) told
+            ∙ ap (λ (entries : List DoorEntry). cell.journal ++ entries) entry.0));
+        count = ap (λ (c : DoorCellState). c.scheduled.count) done.1
+            ∙ (ap (λ (s : ScheduledDoor). s.count) (with_entry.1 ∙ ap (λ (t : DoorStep × ScheduledDoor). t.1) told) ∙ entry.1);
+        base = ap (λ (c : DoorCellState). c.base) done.1 ∙ with_entry.3;
+      },
     )
-called cell new command said definition ready answers leaves found (inr none) = absurd (found none.1)
+called cell new command said definition ready with_entry found (inr none) = absurd (found none.1)
 
 -- ---- turns
 -- why a turn was refused, if it was
@@ -115,15 +153,37 @@ own-of id (Some outstanding) token same =
 own-token : (scheduled : ScheduledDoor) (token : Token) → token_of scheduled ≡ Some token → is_token_of token scheduled ≡ true
 own-token scheduled token same = own-of (id_of scheduled) scheduled.token token same
 
--- the turn of a door that is ready leaves the definition's machine
+-- the turn of a door that is ready leaves the definition's machine, and its entry
 pub turned : (cell new : DoorCellState) (token : Token) (moment : ℕ) (result : Result Next (Refused Token))
     → is_full cell.scheduled ≡ false → is_ready_of (machine_in cell) ≡ true → token_of cell.scheduled ≡ Some token
     → turn_refusal result ≢ Some NoMemory
     → Turns (callbacks_of ghosts eq-value.it) cell token moment result new
-    → machine_in new ≡ (told_in cell (command.Turn moment)).1
+    → HasTold (command.Turn moment) cell new
 turned cell new token moment result ready work own found turns =
     let done = rw (own-token cell.scheduled token own) at turns in
     (called cell new (command.Turn moment) done.0 (served_at (callbacks_of ghosts eq-value.it) cell moment) ready
-    (rw work refl) (rw work refl)
+    (rw work refl, rw work refl, rw work refl, refl)
     (found-memory token done.0 (is_some new.scheduled.token) (λ none. found (ap turn_refusal done.2 ∙ none)))
     done.1).1
+
+-- ---- doors in cells
+-- the door in a cell that was told a command: the machine is the definition's, and so is the history where it is kept
+pub door-told : (keeps : Bool) (command : Command DoorContent) (old new : DoorCellState) → IsDoorCell keeps old → HasTold command old new
+    → door_in keeps new ≡ told_kept command (door_in keeps old)
+door-told false command old new is told = ap (λ (machine : DoorMachine). record { machine = machine; history = None }) told.machine
+door-told true command old new is told =
+    let entries : new.journal ≡ old.journal ++ recorded (length old.journal + 1) command (told_in old command).0 =
+    told.journal ∙ ap (λ (count : ℕ). old.journal ++ recorded (count + 1) command (told_in old command).0) (is.whole refl) in
+    let latest : new.base.latest ≡ old.base.latest = ap (λ base. base.latest) told.base in
+    ap (λ (machine : DoorMachine). record { machine = machine; history = history_in true new }) told.machine
+    ∙ (ap (λ (from : ℕ). record { machine = (told_in old command).1; history = Some (record { from = from; entries = new.journal }) }) latest
+    ∙ ap (λ (entries : List DoorEntry). record { machine = (told_in old command).1; history = Some (record { from = old.base.latest; entries = entries }) }) entries)
+
+-- its journal has each command still
+pub whole-told : (keeps : Bool) (command : Command DoorContent) (old new : DoorCellState) → IsDoorCell keeps old → HasTold command old new
+    → length new.ports ≡ length old.ports → IsDoorCell keeps new
+whole-told keeps command old new is told ports = record {
+  has_port = rw ports is.has_port;
+  whole = λ kept. told.count ∙ (ap (λ (n : ℕ). n + length (recorded_in old command)) (is.whole kept)
+      ∙ (sym (length-append old.journal (recorded_in old command)) ∙ sym (ap length told.journal)));
+}

@@ -6,7 +6,7 @@ use Rattle.std.specs.Map.{remove_entry}
 use Rattle.std.specs.String.{string_eq}
 use Rattle.std.proofs.lemmas.Bool.{cases_Bool, ltb-true, ltb-false}
 use Rattle.indexmap.specs.IndexMap.{set_value_at, insert_entry}
-use Rattle.st_door.specs.Doors.{NamedDoor, DoorMachine, door_named, IsFirst, has_name, door_of, without_door, change_first}
+use Rattle.st_door.specs.Doors.{NamedDoor, KeptDoor, door_named, IsFirst, has_name, door_of, without_door, change_first}
 use Rattle.st_door.specs.Entries.{door_of_entry, doors_of_entries}
 
 -- ---- the first element that passes
@@ -78,7 +78,7 @@ find-map f test (x ∷ xs) h = elim (cases_Bool (test (f x))) [
 -- ---- the entries of the map
 module _ {A : Type 0} where
   -- the door at a place is changed, where its machine was written
-  pub doors-written : (es : List (String A × DoorMachine)) (place : ℕ) (key : String A) (core new : DoorMachine) (change : NamedDoor → NamedDoor) (d : NamedDoor)
+  pub doors-written : (es : List (String A × KeptDoor)) (place : ℕ) (key : String A) (core new : KeptDoor) (change : NamedDoor → NamedDoor) (d : NamedDoor)
       → slice_get es place ≡ Some (key, core)
       → door_of_entry (key, new) ≡ change (door_of_entry (key, core))
       → doors_of_entries (set_value_at es place new) ≡ set (doors_of_entries es) place (change (get_or (doors_of_entries es) place d))
@@ -90,7 +90,7 @@ module _ {A : Type 0} where
       ap (λ t. door_of_entry e ∷ t) (doors-written es place key core new change d at same)
 
   -- the doors stay, where the same machine was written
-  pub doors-rewritten : (es : List (String A × DoorMachine)) (place : ℕ) (key : String A) (core new : DoorMachine)
+  pub doors-rewritten : (es : List (String A × KeptDoor)) (place : ℕ) (key : String A) (core new : KeptDoor)
       → slice_get es place ≡ Some (key, core) → new ≡ core
       → doors_of_entries (set_value_at es place new) ≡ doors_of_entries es
   doors-rewritten [] place key core new at same = refl
@@ -101,14 +101,14 @@ module _ {A : Type 0} where
       ap (λ t. door_of_entry e ∷ t) (doors-rewritten es place key core new at same)
 
   -- the door at the place of an entry
-  pub doors-at : (es : List (String A × DoorMachine)) (place : ℕ) (key : String A) (core : DoorMachine) (d : NamedDoor)
+  pub doors-at : (es : List (String A × KeptDoor)) (place : ℕ) (key : String A) (core : KeptDoor) (d : NamedDoor)
       → slice_get es place ≡ Some (key, core) → get_or (doors_of_entries es) place d ≡ door_of_entry (key, core)
   doors-at [] place key core d at = cc
   doors-at (e ∷ es) zero key core d at = let here : e ≡ (key, core) = cc in ap door_of_entry here
   doors-at (e ∷ es) (suc place) key core d at = doors-at es place key core d at
 
   -- an entry of a new name goes last
-  pub entries-new : (es : List (String A × DoorMachine)) (key : String A) (core : DoorMachine)
+  pub entries-new : (es : List (String A × KeptDoor)) (key : String A) (core : KeptDoor)
       → door_of (string_bytes key) (doors_of_entries es) ≡ None
       → insert_entry string_eq es key core ≡ es ++ (key, core) ∷ []
   entries-new [] key core none = refl
@@ -118,7 +118,7 @@ module _ {A : Type 0} where
   ]
 
   -- the doors without one
-  pub doors-removed : (name : List ℕ) (es : List (String A × DoorMachine))
+  pub doors-removed : (name : List ℕ) (es : List (String A × KeptDoor))
       → doors_of_entries (remove_entry (λ key. bytes_eq name (string_bytes key)) es) ≡ without_door name (doors_of_entries es)
   doors-removed name [] = refl
   doors-removed name (e ∷ es) = elim (cases_Bool (bytes_eq name (string_bytes e.0))) [
@@ -147,8 +147,8 @@ pub if_none : {T : Type 0} (Q : Type 0) (o : Option T) → (o ≡ None → Q) �
 if_none Q (Some x) f = tt
 if_none Q None f = f refl
 
--- a door with another machine
-pub same_door : (name : List ℕ) (one other : DoorMachine) → one ≡ other → door_named name one ≡ door_named name other
+-- the same door under a name
+pub same_door : (name : List ℕ) (one other : KeptDoor) → one ≡ other → door_named name one ≡ door_named name other
 same_door name one other same = ap (door_named name) same
 
 pub find-of_map : {X Y : Type 0} (f : X → Y) (test : Y → Bool) (xs : List X) → find test (map f xs) ≡ None → find (λ x. test (f x)) xs ≡ None
@@ -158,11 +158,11 @@ find-of_map f test (x ∷ xs) h = elim (cases_Bool (test (f x))) [
   | inr fails ↦ let rest = rw fails at h in rw fails (find-of_map f test xs rest)
 ]
 
-module _ {A : Type 0} (name : List ℕ) (es : List (String A × DoorMachine)) where
+module _ {A : Type 0} (name : List ℕ) (es : List (String A × KeptDoor)) where
   abbrev is_key : String A → Bool
   is_key key = bytes_eq name (string_bytes key)
 
-  abbrev key_of : String A × DoorMachine → String A
+  abbrev key_of : String A × KeptDoor → String A
   key_of entry = entry.0
 
   -- the place of a key is that of the door

@@ -1,5 +1,5 @@
 -- Turns until the doors rest.
-use Rattle.std.proofs.Common.{◌≡◌, ℕ, zero, suc, ◌<◌, ◌≤◌, ◌≢◌, Bool, true, false, List, [], ◌∷◌, length, get_or, set, map, refl, ap, ◌∙◌, arith, inl, inr}
+use Rattle.std.proofs.Common.{◌≡◌, ℕ, zero, suc, ◌<◌, ◌≤◌, ◌≢◌, Bool, true, false, List, [], ◌∷◌, length, get_or, set, map, None, refl, ap, ◌∙◌, arith, inl, inr}
 use Rattle.std.specs.List.{list_any}
 use Rattle.std.proofs.lemmas.Bool.{cases_lt}
 use Rattle.std.proofs.lemmas.List.{get_or-set_other, length-set}
@@ -9,13 +9,13 @@ use Rattle.st_core.specs.Start.{first_state}
 use Rattle.st_events.specs.declared.machine_id.MachineId.{MachineId}
 use Rattle.st_door.specs.declared.door_content.DoorContent.{DoorContent}
 use Rattle.st_door.specs.declared.door_state.DoorState.TheVariants.{Locked}
-use Rattle.st_door.specs.Doors.{NamedDoor, DoorMachine, IsFirst, door_named, is_ready_door, told_of, told_door, run_until_idle, RestsOutside, SameLabels}
+use Rattle.st_door.specs.Doors.{NamedDoor, KeptDoor, IsFirst, door_named, is_ready_door, kept_of, told_kept, told_door, run_until_idle, RestsOutside, SameLabels}
 use Rattle.st_door.proofs.DoorLemmas.{IsFirst-changed}
 use Rattle.st_door.proofs.ToldLemmas.{id-told}
 
 -- a door to speak of where there is none
 abbrev pub no_door : NamedDoor
-no_door = record { name = []; machine = first_state (record { slot = 0; serial = 0 }) Locked (record { code = []; buttons = [] }) 0 0 }
+no_door = record { name = []; machine = first_state (record { slot = 0; serial = 0 }) Locked (record { code = []; buttons = [] }) 0 0; history = None }
 
 -- ---- the first element that passes
 pub IsFirst-after : {X : Type 0} (test : X → Bool) (xs : List X) (place : ℕ) (d : X) → place < length xs
@@ -45,10 +45,10 @@ map-set_same f (y ∷ ys) (suc place) x d h same = ap (λ t. f y ∷ t) (map-set
 pub labels-more : (a b c : List NamedDoor) → SameLabels a b → SameLabels b c → SameLabels a c
 labels-more a b c one two = record { names = two.names ∙ one.names; slots = two.slots ∙ one.slots }
 
--- a door with another machine of the same id keeps the labels
-pub labels-set : (doors : List NamedDoor) (place : ℕ) (d : NamedDoor) (machine : DoorMachine) → place < length doors
-    → machine.id ≡ (get_or doors place d).machine.id → SameLabels doors (set doors place (door_named (get_or doors place d).name machine))
-labels-set doors place d machine less same = record {
+-- another door of the same id and name keeps the labels
+pub labels-set : (doors : List NamedDoor) (place : ℕ) (d : NamedDoor) (door : KeptDoor) → place < length doors
+    → door.machine.id ≡ (get_or doors place d).machine.id → SameLabels doors (set doors place (door_named (get_or doors place d).name door))
+labels-set doors place d door less same = record {
   names = map-set_same (λ (door : NamedDoor). door.name) doors place _ d less refl;
   slots = map-set_same (λ (door : NamedDoor). door.machine.id.slot) doors place _ d less (ap (λ (id : MachineId). id.slot) same);
 }
@@ -57,7 +57,7 @@ labels-set doors place d machine less same = record {
 pub labels-told : (doors : List NamedDoor) (place : ℕ) (d : NamedDoor) (command : Command DoorContent) → place < length doors
     → SameLabels doors (set doors place (told_door command (get_or doors place d)))
 labels-told doors place d command less =
-    labels-set doors place d (told_of command (get_or doors place d)).1 less (id-told (get_or doors place d).machine command)
+    labels-set doors place d (told_kept command (kept_of (get_or doors place d))) less (id-told (get_or doors place d).machine command)
 
 -- ---- which doors rest
 pub rests-set : (doors : List NamedDoor) (from until place : ℕ) (x : NamedDoor) → from ≤ place → place < until

@@ -11,3 +11,4 @@ pub mod ScriptStateLemmas
 pub mod IdleLemmas
 pub mod TickingLemmas
 pub mod ScriptLemmas
+pub mod ForgettingLemmas

@@ -4,7 +4,9 @@ use Rattle.std.proofs.Math.Bool.{or_assoc}
 use Rattle.std.specs.Io.KnownBytes.{Appends}
 use Rattle.st_door.specs.Grammar.{line_of}
 use Rattle.st_door.specs.Lines.{without_return}
-use Rattle.st_door.specs.Script.{ScriptState, step_of, printed_of, is_fault, output_from, faulty_from}
+use Rattle.st_door.specs.Doors.{NamedDoor}
+use Rattle.st_door.specs.Script.{ScriptState, step_of, printed_of, is_fault, output_from, faulty_from, script_after}
+use Rattle.st_door.specs.Traces.{trace_of_door, traces_of}
 use Rattle.st_door.specs.Streams.{AppendsFront}
 use Rattle.st_door.proofs.StreamLemmas.{appends_more}
 
@@ -36,6 +38,28 @@ pub faulty_step : (before now : Bool) (script next : ScriptState) (bytes : List 
     → (now || faulty_from next more) ≡ all
 faulty_step before now script next bytes here more all is_here is_now is_next whole =
     rw (is_now, is_next, or_assoc) (rw is_here at whole)
+
+-- one line more is done
+pub after_step : (script next all : ScriptState) (bytes : List ℕ) (here more : List (List ℕ))
+    → here ≡ bytes ∷ more
+    → next ≡ (step_of script (line_of bytes)).1
+    → script_after script here ≡ all
+    → script_after next more ≡ all
+after_step script next all bytes here more is_here is_next whole = rw is_next (rw is_here at whole)
+
+-- the doors from a place on
+pub doors_left-cons : (doors : List NamedDoor) (place : ℕ) (d : NamedDoor) → place < length doors
+    → drop place doors ≡ get_or doors place d ∷ drop (place + 1) doors
+doors_left-cons doors place d in_range = rw (drop-cons doors place d, add-one) refl
+
+-- the traces grow by one door's
+pub traces_step : (written text : List ℕ) (door : NamedDoor) (here more : List NamedDoor) (all : List ℕ)
+    → here ≡ door ∷ more
+    → text ≡ trace_of_door door
+    → written ++ traces_of here ≡ all
+    → (written ++ text) ++ traces_of more ≡ all
+traces_step written text door here more all is_here is_text whole =
+    rw (is_text, append_assoc) (rw is_here at whole)
 
 -- a write that stops within a line has written a front of the output
 pub front_more : (old mid new : Option (List ℕ)) (written text rest all : List ℕ)

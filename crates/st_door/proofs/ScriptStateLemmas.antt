@@ -25,14 +25,14 @@ use Rattle.st_door.specs.declared.door_state.DoorState.TheVariants.{Locked}
 use Rattle.st_door.specs.declared.line.Line.TheVariants as line
 use Rattle.st_door.specs.declared.effect.Effect.{Effect}
 use Rattle.st_door.specs.declared.effect.Effect.TheVariants.{Printed, Refuses}
-use Rattle.st_door.specs.Doors.{NamedDoor, DoorMachine, IsFirst, IsKept, SameLabels, asks, door_callbacks, door_limit, door_named, door_of, free_slot_of, has_name, is_ready_door, least_from, length_in, next_tag_of, refusal_in, slots_of, told_door, told_of, without_door}
+use Rattle.st_door.specs.Doors.{NamedDoor, KeptDoor, DoorMachine, IsFirst, IsKept, SameLabels, asks, door_callbacks, door_limit, door_at_first, door_named, door_of, free_slot_of, has_name, is_ready_door, least_from, length_in, next_tag_of, refusal_in, slots_of, kept_of, told_door, told_of, without_door}
 use Rattle.st_door.specs.Printing.{length_text, removed_text, status_of}
 use Rattle.st_door.specs.Slots.{occurrences, AreMarked, HaveSameMarks, IsLeastFree}
 use Rattle.st_door.specs.Script.{ScriptState, commanded_of, door_start_of, effect_of, length_collected, length_finished, named_status_of, next_id_of, printing, removed_by, removed_door, rested_of, status_finished, step_of, the_door, told_script, with_start, without_named}
 use Rattle.st_door.proofs.DoorLemmas.{IsFirst-within, IsFirst-changed, IsFirst-found, IsFirst-map, IsFirst-of_map}
 use Rattle.st_door.proofs.IdleLemmas.{no_door, labels-set, labels-told, labels-more}
 use Rattle.st_door.proofs.SlotLemmas.{least-free, marked-taken, marked-same, marked-freed, freed-within}
-use Rattle.st_door.proofs.ToldLemmas.{told-refused, tagged-next}
+use Rattle.st_door.proofs.ToldLemmas.{kept-refused, tagged-next}
 
 -- ---- what is kept of the doors
 -- a door that rests goes to the end, and takes its place in the table
@@ -63,16 +63,16 @@ kept-marked doors old new from until same kept = record {
   resting = kept.resting;
 }
 
--- a door gets another machine of the same id, and may be ready
-pub kept-set : (doors : List NamedDoor) (marks : List Bool) (from until place low high : ℕ) (machine : DoorMachine) → IsKept doors marks from until → place < length doors
-    → machine.id ≡ (get_or doors place no_door).machine.id
+-- another door of the same id is at a place under the same name, and may be ready
+pub kept-set : (doors : List NamedDoor) (marks : List Bool) (from until place low high : ℕ) (door : KeptDoor) → IsKept doors marks from until → place < length doors
+    → door.machine.id ≡ (get_or doors place no_door).machine.id
     → low ≤ place → place < high → high ≤ length doors → (from < until → (low ≤ from) × (until ≤ high))
-    → IsKept (set doors place (door_named (get_or doors place no_door).name machine)) marks low high
-kept-set doors marks from until place low high machine kept within same below above bounded wider = record {
+    → IsKept (set doors place (door_named (get_or doors place no_door).name door)) marks low high
+kept-set doors marks from until place low high door kept within same below above bounded wider = record {
   ordered = omega arith;
   within = rw length-set bounded;
   few = rw length-set kept.few;
-  marked = rw (labels-set doors place no_door machine within same).slots kept.marked;
+  marked = rw (labels-set doors place no_door door within same).slots kept.marked;
   resting = λ k d less outside.
       let other : k ≢ place = elim outside [ inl before ↦ omega arith | inr after ↦ omega arith ] in
       let there : k < length doors = omega (arith, less, length-set {A = NamedDoor}) in
@@ -162,7 +162,7 @@ pub told_at-refused : (script : ScriptState) (command : Command DoorContent) (pl
     → told_at script command place ≡ script
 told_at-refused script command place refusal refused =
     let door : NamedDoor = get_or script.doors place no_door in
-    ap (λ (machine : DoorMachine). record script { doors = set script.doors place (door_named door.name machine) }) (told-refused door.machine command refusal (sym refused))
+    ap (λ (kept : KeptDoor). record script { doors = set script.doors place (door_named door.name kept) }) (kept-refused command (kept_of door) refusal (sym refused))
     ∙ ap (λ (doors : List NamedDoor). record script { doors = doors }) (set-get_or script.doors place no_door)
 
 -- a command that is accepted is done at its door
@@ -170,11 +170,10 @@ pub told_script-accepted : (script : ScriptState) (name : List ℕ) (command : C
     → None ≡ refusal_in (told_of command (get_or script.doors place no_door)).0
     → told_script script name command (door_of name script.doors) ≡ Ok (told_at script command place)
 told_script-accepted script name command place first accepted =
-    let machine = (told_of command (get_or script.doors place no_door)).1 in
     rw (
       IsFirst-found (has_name name) script.doors place no_door first,
       ← accepted,
-      IsFirst-changed (has_name name) (λ (door : NamedDoor). door_named door.name machine) script.doors place no_door first,
+      IsFirst-changed (has_name name) (told_door command) script.doors place no_door first,
     ) refl
 
 -- the name has its place still, once a door was told a command and the doors rest
@@ -210,10 +209,9 @@ length_at script name place tag = (length_text name (length_in (told_of (command
 collected-there : (script : ScriptState) (name : List ℕ) (place : ℕ) (tag : Tag) → IsFirst (has_name name) script.doors place
     → length_collected script name tag (door_of name script.doors) ≡ length_at script name place tag
 collected-there script name place tag first =
-    let machine = (told_of (command.Collect tag) (get_or script.doors place no_door)).1 in
     rw (
       IsFirst-found (has_name name) script.doors place no_door first,
-      IsFirst-changed (has_name name) (λ (door : NamedDoor). door_named door.name machine) script.doors place no_door first,
+      IsFirst-changed (has_name name) (told_door (command.Collect tag)) script.doors place no_door first,
     ) refl
 
 -- what a line comes to that asks for a length
@@ -253,7 +251,7 @@ pub new-place : (script acted : ScriptState) (name code : List ℕ) → door_of 
 new-place script acted name code free started = elim (cases_Bool (nat_lt script.moment (2 ^ 63))) [
   | inl early ↦
       let went = rw early at started in
-      let door : NamedDoor = door_named name (first_state (next_id_of script) Locked (record { code = code; buttons = [] }) script.moment 1) in
+      let door : NamedDoor = door_named name (door_at_first script.traced (first_state (next_id_of script) Locked (record { code = code; buttons = [] }) script.moment 1)) in
       let acts : record script { doors = script.doors ++ door ∷ []; started = script.started + 1 } ≡ acted = cc in
       rw (← acts) (IsFirst-last (has_name name) script.doors door free ((bytes_eq-Decides name name).1 refl))
   | inr late ↦ let went = rw late at started in cc
@@ -292,8 +290,8 @@ started-slot script code core report slot free started =
 -- the script with a door that runs
 pub started-script : (script : ScriptState) (name code : List ℕ) (core : DoorCore) (report : Report DoorState) (after : List NamedDoor) (serial : ℕ)
     → Ok (Running core report) ≡ door_start_of script code → serial ≡ script.started + 1
-    → after ≡ script.doors ++ door_named name core.machine ∷ []
-    → with_start script name (door_start_of script code) ≡ Ok (record { doors = after; moment = script.moment; started = serial })
+    → after ≡ script.doors ++ door_named name (door_at_first script.traced core.machine) ∷ []
+    → with_start script name (door_start_of script code) ≡ Ok (record { traced = script.traced; doors = after; moment = script.moment; started = serial })
 started-script script name code core report after serial started counted pushed = rw (← started, counted, pushed) refl
 
 -- ---- removals

@@ -1,5 +1,5 @@
 -- A door is told a command: what it answers, and what stays as it was.
-use Rattle.std.proofs.Common.{◌≡◌, ℕ, ◌^◌, nat_lt, Option, Some, None, refl, ap, inl, inr, ◌⊎◌}
+use Rattle.std.proofs.Common.{◌≡◌, ℕ, ◌^◌, nat_lt, false, List, Option, Some, None, refl, ap, ◌∙◌, inl, inr, ◌⊎◌, append-nil}
 use Rattle.std.specs.Prelude.{Result, Ok, Err}
 use Rattle.std.proofs.Math.Path.{fun_ext}
 use Rattle.std.proofs.lemmas.Bool.{cases_Bool}
@@ -26,7 +26,8 @@ use Rattle.st_door.specs.declared.door_data.DoorData.{DoorData}
 use Rattle.st_door.specs.declared.door_state.DoorState.{DoorState}
 use Rattle.st_door.specs.declared.door_state.DoorState.TheVariants.{Locked, Open}
 use Rattle.st_door.specs.Door.{is_same_state}
-use Rattle.st_door.specs.Doors.{DoorMachine, asks, door_callbacks, refusal_in, refusal_by, post_refusal_by}
+use Rattle.st_door.specs.Doors.{DoorAnswer, DoorEntry, DoorMachine, History, KeptDoor, asks, door_callbacks, history_told, is_recorded, refusal_in, refusal_by, post_refusal_by, told_kept}
+use Rattle.st_core.specs.declared.turned.Turned.TheVariants.{Reported, Idle}
 
 -- ---- a door's callbacks are those of the definition
 -- states are compared as the definition compares them
@@ -157,6 +158,34 @@ told-refused machine (command.Reply tag content) refusal refused = cc
 told-refused machine (command.Collect tag) refusal refused = cc
 told-refused machine (command.Stop reason) refusal refused =
     stays-unless machine.ended _ refusal_by machine (stop_running door_callbacks machine reason) refusal (λ none. cc) refused
+
+-- nor is it recorded
+pub refused-not-recorded : (said : DoorAnswer) (refusal : Refusal) → refusal_in said ≡ Some refusal → is_recorded said ≡ false
+refused-not-recorded (answer.Post (Ok number)) refusal refused = cc
+refused-not-recorded (answer.Post (Err why)) refusal refused = refl
+refused-not-recorded (answer.Tick (Ok expired)) refusal refused = cc
+refused-not-recorded (answer.Tick (Err why)) refusal refused = refl
+refused-not-recorded (answer.Turn (Ok (Reported report))) refusal refused = cc
+refused-not-recorded (answer.Turn (Ok Idle)) refusal refused = refl
+refused-not-recorded (answer.Turn (Err why)) refusal refused = refl
+refused-not-recorded (answer.Reply taken) refusal refused = cc
+refused-not-recorded (answer.Collect shown) refusal refused = cc
+refused-not-recorded (answer.Stop (Ok word)) refusal refused = cc
+refused-not-recorded (answer.Stop (Err why)) refusal refused = refl
+
+-- a history stays where nothing is recorded
+history-same : (command : Command DoorContent) (said : DoorAnswer) (history : Option History) → is_recorded said ≡ false → history_told command said history ≡ history
+history-same command said None none = refl
+history-same command said (Some history) none =
+    rw none (ap (λ (entries : List DoorEntry). Some (record { from = history.from; entries = entries })) (append-nil history.entries))
+
+-- so a command that is refused leaves the door as it was
+pub kept-refused : (command : Command DoorContent) (door : KeptDoor) (refusal : Refusal)
+    → refusal_in (step_of door_callbacks door.machine command).0 ≡ Some refusal → told_kept command door ≡ door
+kept-refused command door refusal refused =
+    let said = (step_of door_callbacks door.machine command).0 in
+    ap (λ (machine : DoorMachine). record { machine = machine; history = history_told command said door.history }) (told-refused door.machine command refusal refused)
+    ∙ ap (λ (history : Option History). record { machine = door.machine; history = history }) (history-same command said door.history (refused-not-recorded said refusal refused))
 
 -- ---- the tag of a call
 same-tag : (id : MachineId) (number : ℕ) (tag : Tag) → tag.machine ≡ id → tag.request ≡ number → record { machine = id; request = number } ≡ tag

@@ -1,5 +1,5 @@
 -- The doors of a script, in order of registration.
-use Rattle.std.specs.Prelude.{◌≡◌, ℕ, zero, suc, ◌+◌, ◌<◌, ◌≤◌, ◌⊎◌, Bool, true, false, List, [], ◌∷◌, Option, Some, None, Result, Ok, Err, map, find, length, bytes_eq, slice_index_or, ◌==◌, if◌then◌else◌}
+use Rattle.std.specs.Prelude.{◌≡◌, ℕ, zero, suc, ◌+◌, ◌<◌, ◌≤◌, ◌⊎◌, Bool, true, false, List, [], ◌∷◌, Option, Some, None, Result, Ok, Err, ◌++◌, map, find, length, bytes_eq, slice_index_or, ◌==◌, if◌then◌else◌}
 use Rattle.std.specs.List.{list_any, sum_by}
 use Rattle.st_core.specs.declared.machine_state.MachineState.{MachineState}
 use Rattle.st_core.specs.Callbacks.{Callbacks}
@@ -11,6 +11,9 @@ use Rattle.st_core.specs.declared.answer.Answer.TheVariants as answer
 use Rattle.st_core.specs.declared.command.Command.{Command}
 use Rattle.st_core.specs.declared.command.Command.TheVariants as command
 use Rattle.st_core.specs.declared.entry.Entry.TheVariants.{Call, Cast}
+use Rattle.st_core.specs.declared.turned.Turned.TheVariants.{Reported, Idle}
+use Rattle.st_scheduled.specs.Serving.{hands_out}
+use Rattle.st_cell.specs.declared.journal_entry.JournalEntry.{JournalEntry}
 use Rattle.st_door.specs.declared.door_content.DoorContent.TheVariants.{Button, CodeLength, Length, Nothing}
 use Rattle.st_requests.specs.declared.collected.Collected.{Collected}
 use Rattle.st_requests.specs.declared.collected.Collected.TheVariants.{Waiting, Reply, Stopped, Gone}
@@ -31,14 +34,33 @@ DoorMachine = MachineState DoorState DoorData DoorContent
 abbrev pub DoorAnswer : Type 0
 DoorAnswer = Answer DoorState DoorContent
 
--- a door's machine under its name
+-- a command that a door took, with what it answered
+abbrev pub DoorEntry : Type 0
+DoorEntry = JournalEntry DoorState DoorContent
+
+-- the commands that a door took, in order, and the latest moment that it had seen before the first
+pub record History : Type 0 where
+  pub from : ℕ
+  pub entries : List DoorEntry
+
+-- a door: its machine, and its history where that is kept
+pub record KeptDoor : Type 0 where
+  pub machine : DoorMachine
+  pub history : Option History
+
+-- a door under its name
 pub record NamedDoor : Type 0 where
   pub name : List ℕ
   pub machine : DoorMachine
+  pub history : Option History
 
--- this machine under this name
-abbrev pub door_named : List ℕ → DoorMachine → NamedDoor
-door_named name machine = record { name = name; machine = machine }
+-- this door under this name
+abbrev pub door_named : List ℕ → KeptDoor → NamedDoor
+door_named name door = record { name = name; machine = door.machine; history = door.history }
+
+-- the door without its name
+abbrev pub kept_of : NamedDoor → KeptDoor
+kept_of door = record { machine = door.machine; history = door.history }
 
 -- the callbacks of a door, and the equality of its states
 abbrev pub door_callbacks : Callbacks DoorState DoorData DoorContent
@@ -69,10 +91,6 @@ has_name name door = bytes_eq name door.name
 abbrev pub door_of : List ℕ → List NamedDoor → Option NamedDoor
 door_of name doors = find (has_name name) doors
 
--- the door of a name has this machine instead
-abbrev pub with_machine : List ℕ → DoorMachine → List NamedDoor → List NamedDoor
-with_machine name machine doors = change_first (has_name name) (λ door. door_named door.name machine) doors
-
 -- the names of doors
 abbrev pub names_of : List NamedDoor → List (List ℕ)
 names_of doors = map (λ door. door.name) doors
@@ -85,9 +103,56 @@ is_ready_door door = is_ready_of door.machine
 abbrev pub told_of : Command DoorContent → NamedDoor → DoorAnswer × DoorMachine
 told_of command door = step_of door_callbacks door.machine command
 
--- the door after it
+-- whether a command that was answered so is kept in a history: it was taken, and did not collect in vain
+abbrev pub is_recorded : DoorAnswer → Bool
+is_recorded (answer.Post (Ok number)) = true
+is_recorded (answer.Post (Err refused)) = false
+is_recorded (answer.Tick (Ok expired)) = true
+is_recorded (answer.Tick (Err refusal)) = false
+is_recorded (answer.Turn (Ok (Reported report))) = true
+is_recorded (answer.Turn (Ok Idle)) = false
+is_recorded (answer.Turn (Err refusal)) = false
+is_recorded (answer.Reply taken) = true
+is_recorded (answer.Collect collected) = hands_out collected
+is_recorded (answer.Stop (Ok word)) = true
+is_recorded (answer.Stop (Err refusal)) = false
+
+-- the port by which a command comes: a post comes by the door's one port
+abbrev pub port_of : Command DoorContent → Option ℕ
+port_of (command.Post entry content) = Some 1
+port_of (command.Tick moment) = None
+port_of (command.Turn moment) = None
+port_of (command.Reply tag content) = None
+port_of (command.Collect tag) = None
+port_of (command.Stop reason) = None
+
+-- the entry of a command that was answered so, with this number, if it is kept
+abbrev pub recorded : ℕ → Command DoorContent → DoorAnswer → List DoorEntry
+recorded number command answer =
+    if is_recorded answer then record { number = number; port = port_of command; command = command; answer = answer } ∷ [] else []
+
+-- a history after a command that was answered so
+abbrev pub history_told : Command DoorContent → DoorAnswer → Option History → Option History
+history_told command answer None = None
+history_told command answer (Some history) =
+    Some (record history { entries = history.entries ++ recorded (length history.entries + 1) command answer })
+
+-- the door after it, without its name
+abbrev pub told_kept : Command DoorContent → KeptDoor → KeptDoor
+told_kept command door =
+    let told = step_of door_callbacks door.machine command in
+    record { machine = told.1; history = history_told command told.0 door.history }
+
+-- and with it
 abbrev pub told_door : Command DoorContent → NamedDoor → NamedDoor
-told_door command door = door_named door.name (told_of command door).1
+told_door command door = door_named door.name (told_kept command (kept_of door))
+
+-- a door that starts, whose history is kept or not: then no entry is in it
+abbrev pub door_at_first : Bool → DoorMachine → KeptDoor
+door_at_first traced machine = record {
+  machine = machine;
+  history = if traced then Some (record { from = machine.latest; entries = [] }) else None;
+}
 
 -- why a call is refused, if it is
 abbrev pub refusal_by : {A : Type 0} → Result A Refusal → Option Refusal

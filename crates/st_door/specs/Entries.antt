@@ -1,12 +1,14 @@
 -- The entries of the map of doors, as doors with their names.
-use Rattle.std.specs.Prelude.{List, map, string_bytes, String}
+use Rattle.std.specs.Prelude.{◌≡◌, ◌+◌, Bool, true, if◌then◌else◌, List, ◌++◌, Option, Some, None, map, length, string_bytes, String}
 use Rattle.st_core.specs.MachineState.{Machine}
 use Rattle.st_door.specs.declared.door.Door.{Door}
 use Rattle.st_door.specs.declared.door_content.DoorContent.{DoorContent}
 use Rattle.st_door.specs.declared.door_data.DoorData.{DoorData}
 use Rattle.st_door.specs.declared.door_state.DoorState.{DoorState}
-use Rattle.st_door.specs.Doors.{NamedDoor, DoorMachine}
-use Rattle.st_cell.specs.Cell.{CellState}
+use Rattle.st_core.specs.Run.{step_of}
+use Rattle.st_core.specs.declared.command.Command.{Command}
+use Rattle.st_door.specs.Doors.{NamedDoor, DoorAnswer, DoorMachine, History, KeptDoor, door_callbacks, door_named, recorded, DoorEntry}
+use Rattle.st_cell.specs.Cell.{CellState, IsOpen}
 use Rattle.st_scheduled.specs.ScheduledMachine.{ScheduledMachine}
 
 -- what contracts see of a door's `Core`
@@ -25,10 +27,38 @@ DoorCellState = CellState Door DoorState DoorData DoorContent
 abbrev pub machine_in : DoorCellState → DoorMachine
 machine_in cell = cell.scheduled.core.machine
 
+-- the history in it, where it is kept: the journal, which is never cut then
+abbrev pub history_in : Bool → DoorCellState → Option History
+history_in keeps cell = if keeps then Some (record { from = cell.base.latest; entries = cell.journal }) else None
+
+-- the door in it
+abbrev pub door_in : Bool → DoorCellState → KeptDoor
+door_in keeps cell = record { machine = machine_in cell; history = history_in keeps cell }
+
+-- the door's port is open; and where the history is kept, its journal has each command that was counted
+pub record IsDoorCell (keeps : Bool) (cell : DoorCellState) : Type 0 where
+  pub has_port : IsOpen 1 cell
+  pub whole : keeps ≡ true → cell.scheduled.count ≡ length cell.journal
+
+-- what the definition answers to a command, and the machine after it
+abbrev pub told_in : DoorCellState → Command DoorContent → DoorAnswer × DoorMachine
+told_in cell command = step_of door_callbacks (machine_in cell) command
+
+-- the entry that the command leaves
+abbrev pub recorded_in : DoorCellState → Command DoorContent → List DoorEntry
+recorded_in cell command = recorded (cell.scheduled.count + 1) command (told_in cell command).0
+
+-- a cell was told a command: its machine is the definition's, and the journal has the command's entry, if it leaves one
+pub record HasTold (command : Command DoorContent) (old new : DoorCellState) : Type 0 where
+  pub machine : machine_in new ≡ (told_in old command).1
+  pub journal : new.journal ≡ old.journal ++ recorded_in old command
+  pub count : new.scheduled.count ≡ old.scheduled.count + length (recorded_in old command)
+  pub base : new.base ≡ old.base
+
 -- the door of an entry
-abbrev pub door_of_entry : {A : Type 0} → String A × DoorMachine → NamedDoor
-door_of_entry entry = record { name = string_bytes entry.0; machine = entry.1 }
+abbrev pub door_of_entry : {A : Type 0} → String A × KeptDoor → NamedDoor
+door_of_entry entry = door_named (string_bytes entry.0) entry.1
 
 -- the doors of entries, in order
-abbrev pub doors_of_entries : {A : Type 0} → List (String A × DoorMachine) → List NamedDoor
+abbrev pub doors_of_entries : {A : Type 0} → List (String A × KeptDoor) → List NamedDoor
 doors_of_entries entries = map door_of_entry entries

@@ -9,4 +9,5 @@ pub mod Script
 pub mod ScriptFault
 pub mod Slots
 pub mod Streams
+pub mod Traces
 pub mod WordForms

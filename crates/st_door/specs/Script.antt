@@ -17,25 +17,35 @@ use Rattle.st_door.specs.declared.door.Door.{Door}
 use Rattle.st_door.specs.declared.door_content.DoorContent.{DoorContent}
 use Rattle.st_door.specs.declared.door_data.DoorData.{DoorData}
 use Rattle.st_door.specs.declared.door_state.DoorState.{DoorState}
+use Rattle.st_door.specs.declared.mode.Mode.{Mode}
+use Rattle.st_door.specs.declared.mode.Mode.TheVariants.{Run, Trace}
 use Rattle.st_door.specs.declared.line.Line.{Line}
 use Rattle.st_door.specs.declared.line.Line.TheVariants as line
 use Rattle.st_door.specs.declared.effect.Effect.{Effect}
 use Rattle.st_door.specs.declared.effect.Effect.TheVariants.{Silent, Printed, Refuses, Malformed}
 use Rattle.st_door.specs.Door.{init_of}
-use Rattle.st_door.specs.Doors.{NamedDoor, DoorMachine, door_callbacks, door_limit, door_of, with_machine, without_door, free_slot_of, run_until_idle, told_of, presses, asks, refusal_in, length_in, next_tag_of, all_expired_of, ticked_doors}
+use Rattle.st_door.specs.Doors.{NamedDoor, change_first, has_name, door_named, door_at_first, door_callbacks, door_limit, door_of, without_door, free_slot_of, run_until_idle, told_of, told_door, presses, asks, refusal_in, length_in, next_tag_of, all_expired_of, ticked_doors}
 use Rattle.st_door.specs.Grammar.{line_of}
 use Rattle.st_door.specs.Lines.{lines}
+use Rattle.st_door.specs.Traces.{traces_of}
 use Rattle.st_door.specs.Printing.{status_of, names_text, removed_text, expired_text, length_text, refused_text, malformed_text}
 
--- the doors in order of registration, the script's moment, and how many starts have succeeded
+-- whether the histories of doors are kept; the doors in order of registration; the script's moment; and how many starts
+-- have succeeded
 pub record ScriptState : Type 0 where
+  pub traced : Bool
   pub doors : List NamedDoor
   pub moment : ℕ
   pub started : ℕ
 
+-- whether a mode prints the histories of doors, and so keeps them
+abbrev pub is_traced : Mode → Bool
+is_traced Run = false
+is_traced Trace = true
+
 -- a script begins at moment 0, with no door
-abbrev pub first_script_state : ScriptState
-first_script_state = record { doors = []; moment = 0; started = 0 }
+abbrev pub first_script_state : Mode → ScriptState
+first_script_state mode = record { traced = is_traced mode; doors = []; moment = 0; started = 0 }
 
 -- how many turns are made for one line
 abbrev pub turn_limit : ℕ
@@ -61,7 +71,7 @@ door_start_of script code = start_of door_callbacks the_door (next_id_of script)
 -- the other answers of `init` leave the script as it is
 abbrev pub with_start : ScriptState → List ℕ → DoorStart → Result ScriptState Refusal
 with_start script name (Ok (Running core report)) = Ok (record script {
-  doors = script.doors ++ record { name = name; machine = core.machine } ∷ [];
+  doors = script.doors ++ door_named name (door_at_first script.traced core.machine) ∷ [];
   started = script.started + 1;
 })
 with_start script name (Ok Ignored) = Ok script
@@ -76,15 +86,19 @@ new_door script name code None =
     then with_start script name (door_start_of script code)
     else Err Full
 
--- what comes of a command to the door of a name, by its refusal and the machine after it
-abbrev pub with_told : ScriptState → List ℕ → Option Refusal → DoorMachine → Result ScriptState Refusal
-with_told script name None machine = Ok (record script { doors = with_machine name machine script.doors })
-with_told script name (Some refusal) machine = Err refusal
+-- the script once the door of a name was told a command
+abbrev pub with_told : ScriptState → List ℕ → Command DoorContent → ScriptState
+with_told script name command = record script { doors = change_first (has_name name) (told_door command) script.doors }
+
+-- what comes of a command to the door of a name, by its refusal
+abbrev pub told_by : ScriptState → List ℕ → Command DoorContent → Option Refusal → Result ScriptState Refusal
+told_by script name command None = Ok (with_told script name command)
+told_by script name command (Some refusal) = Err refusal
 
 -- `button`, `stop` and `length`: a name that is not registered is refused, then as the command is
 abbrev pub told_script : ScriptState → List ℕ → Command DoorContent → Option NamedDoor → Result ScriptState Refusal
 told_script script name command None = Err NoSuchName
-told_script script name command (Some door) = with_told script name (refusal_in (told_of command door).0) (told_of command door).1
+told_script script name command (Some door) = told_by script name command (refusal_in (told_of command door).0)
 
 -- `show`: a name that is not registered is refused
 abbrev pub shown_door : ScriptState → Option NamedDoor → Result ScriptState Refusal
@@ -140,7 +154,7 @@ abbrev pub length_collected : ScriptState → List ℕ → Tag → Option NamedD
 length_collected script name tag None = ([], script)
 length_collected script name tag (Some door) = (
   length_text name (length_in (told_of (command.Collect tag) door).0),
-  record script { doors = with_machine name (told_of (command.Collect tag) door).1 script.doors },
+  with_told script name (command.Collect tag),
 )
 
 -- how `length` finishes, by the door as it was before the line, which gave the call its tag
@@ -221,15 +235,21 @@ faulty_from script (bytes ∷ more) =
     is_fault (step_of script (line_of bytes)).0
     || faulty_from (step_of script (line_of bytes)).1 more
 
--- the output of a script
-abbrev pub output_of : List ℕ → List ℕ
-output_of input = output_from 1 first_script_state (lines input)
+-- the script after some lines
+abbrev pub script_after : ScriptState → List (List ℕ) → ScriptState
+script_after script [] = script
+script_after script (bytes ∷ more) = script_after (step_of script (line_of bytes)).1 more
+
+-- the output of a script: what its lines print; or the traces of the doors that are left at its end
+abbrev pub output_of : Mode → List ℕ → List ℕ
+output_of Run input = output_from 1 (first_script_state Run) (lines input)
+output_of Trace input = traces_of (script_after (first_script_state Trace) (lines input)).doors
 
 -- the status of a script: 1 where some line was refused or malformed, else 0
-abbrev pub status_of_script : List ℕ → ℕ
-status_of_script input = if faulty_from first_script_state (lines input) then 1 else 0
+abbrev pub status_of_script : Mode → List ℕ → ℕ
+status_of_script mode input = if faulty_from (first_script_state mode) (lines input) then 1 else 0
 
 -- some input was read, its output was written, and this is its status
-abbrev pub DoesSome : Option (List ℕ) → Option (List ℕ) → Option (List ℕ) → Option (List ℕ) → ℕ → Type 0
-DoesSome left after_left held after_held status =
-    (input : List ℕ) × Consumes left after_left input × Appends held after_held (output_of input) × (status ≡ status_of_script input)
+abbrev pub DoesSome : Mode → Option (List ℕ) → Option (List ℕ) → Option (List ℕ) → Option (List ℕ) → ℕ → Type 0
+DoesSome mode left after_left held after_held status =
+    (input : List ℕ) × Consumes left after_left input × Appends held after_held (output_of mode input) × (status ≡ status_of_script mode input)

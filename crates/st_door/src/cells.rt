@@ -6,7 +6,7 @@ ghost use Rattle.st_core.specs.declared.command.Command.TheVariants as command;
 ghost use Rattle.st_scheduled.specs.Serving.{is_full};
 ghost use Rattle.st_cell.specs.Cell.{IsOpen};
 ghost use Rattle.st_door.specs.Doors.{door_callbacks};
-ghost use Rattle.st_door.specs.Entries.{machine_in};
+ghost use Rattle.st_door.specs.Entries.{HasTold, machine_in};
 
 use crate::answers::DoorAnswer;
 use crate::{Door, DoorContent};
@@ -25,10 +25,9 @@ const JOURNAL_LIMIT: usize = 4;
 /// door.
 const COMMAND_LIMIT: u64 = 1 << 62;
 
-/// Makes a cell ready for one command more. A journal that is long, and longer than what waits, is cut: nothing reads it.
-/// So what a door takes of memory does not grow with what was done.
-pub(crate) fn make_ready(cell: &mut Cell<Door>) -> Result<(), AllocError>
-    ensures ready { OnOk result (is_full cell.new.scheduled ≡ false) }
+/// Cuts the journal where it is long, and longer than what waits: nothing reads it. So what a door takes of memory does not
+/// grow with what was done.
+fn shorten(cell: &mut Cell<Door>) -> Result<(), AllocError>
     ensures short { OnOk result (length cell.new.journal ≤ max JOURNAL_LIMIT (waiting_of (machine_in cell.new))) }
 
     // Whatever the answer is.
@@ -38,6 +37,22 @@ pub(crate) fn make_ready(cell: &mut Cell<Door>) -> Result<(), AllocError>
     let entries = cell.entries().len();
     if entries > JOURNAL_LIMIT && entries > cell.core().waiting() && cell.cut().is_err() {
         return Err(AllocError);
+    }
+    Ok(())
+}
+
+/// Makes a cell ready for one command more. A journal that is not kept as the history is cut where it is long.
+pub(crate) fn make_ready(cell: &mut Cell<Door>, keeps: bool) -> Result<(), AllocError>
+    ensures ready { OnOk result (is_full cell.new.scheduled ≡ false) }
+    ensures short { keeps ≡ false → OnOk result (length cell.new.journal ≤ max JOURNAL_LIMIT (waiting_of (machine_in cell.new))) }
+
+    // Whatever the answer is.
+    ensures kept { keeps ≡ true → cell.new ≡ cell.old }
+    ensures same { cell.new.scheduled ≡ cell.old.scheduled }
+    ensures ports { cell.new.ports ≡ cell.old.ports }
+{
+    if !keeps {
+        shorten(cell)?;
     }
     if cell.count() >= COMMAND_LIMIT {
         return Err(AllocError);
@@ -54,7 +69,7 @@ pub(crate) fn post(
     requires open { IsOpen PORT cell.old }
     requires ready { is_full cell.old.scheduled ≡ false }
     ensures answer { IfOk result (λ answer. answer ≡ (step_of door_callbacks (machine_in cell.old) (command.Post entry content)).0) }
-    ensures told { OnOk result (machine_in cell.new ≡ (step_of door_callbacks (machine_in cell.old) (command.Post entry content)).1) }
+    ensures told { OnOk result (HasTold (command.Post entry content) cell.old cell.new) }
 
     ensures unchanged { OnErr result (cell.new ≡ cell.old) }
 
@@ -74,7 +89,7 @@ pub(crate) fn post(
 pub(crate) fn tick(cell: &mut Cell<Door>, moment: u64) -> Result<DoorAnswer, AllocError>
     requires ready { is_full cell.old.scheduled ≡ false }
     ensures answer { IfOk result (λ answer. answer ≡ (step_of door_callbacks (machine_in cell.old) (command.Tick moment)).0) }
-    ensures told { OnOk result (machine_in cell.new ≡ (step_of door_callbacks (machine_in cell.old) (command.Tick moment)).1) }
+    ensures told { OnOk result (HasTold (command.Tick moment) cell.old cell.new) }
 
     ensures unchanged { OnErr result (cell.new ≡ cell.old) }
 
@@ -92,7 +107,7 @@ pub(crate) fn tick(cell: &mut Cell<Door>, moment: u64) -> Result<DoorAnswer, All
 pub(crate) fn stop(cell: &mut Cell<Door>, reason: Reason) -> Result<DoorAnswer, AllocError>
     requires ready { is_full cell.old.scheduled ≡ false }
     ensures answer { IfOk result (λ answer. answer ≡ (step_of door_callbacks (machine_in cell.old) (command.Stop reason)).0) }
-    ensures told { OnOk result (machine_in cell.new ≡ (step_of door_callbacks (machine_in cell.old) (command.Stop reason)).1) }
+    ensures told { OnOk result (HasTold (command.Stop reason) cell.old cell.new) }
 
     ensures unchanged { OnErr result (cell.new ≡ cell.old) }
 
@@ -114,7 +129,7 @@ pub(crate) fn reply(
 ) -> Result<DoorAnswer, AllocError>
     requires ready { is_full cell.old.scheduled ≡ false }
     ensures answer { IfOk result (λ answer. answer ≡ (step_of door_callbacks (machine_in cell.old) (command.Reply tag content)).0) }
-    ensures told { OnOk result (machine_in cell.new ≡ (step_of door_callbacks (machine_in cell.old) (command.Reply tag content)).1) }
+    ensures told { OnOk result (HasTold (command.Reply tag content) cell.old cell.new) }
 
     ensures unchanged { OnErr result (cell.new ≡ cell.old) }
 
@@ -131,7 +146,7 @@ pub(crate) fn reply(
 pub(crate) fn collect(cell: &mut Cell<Door>, tag: Tag) -> Result<DoorAnswer, AllocError>
     requires ready { is_full cell.old.scheduled ≡ false }
     ensures answer { IfOk result (λ answer. answer ≡ (step_of door_callbacks (machine_in cell.old) (command.Collect tag)).0) }
-    ensures told { OnOk result (machine_in cell.new ≡ (step_of door_callbacks (machine_in cell.old) (command.Collect tag)).1) }
+    ensures told { OnOk result (HasTold (command.Collect tag) cell.old cell.new) }
 
     ensures unchanged { OnErr result (cell.new ≡ cell.old) }
 
@@ -148,7 +163,7 @@ pub(crate) fn collect(cell: &mut Cell<Door>, tag: Tag) -> Result<DoorAnswer, All
 pub(crate) fn turn(cell: &mut Cell<Door>, moment: u64) -> Result<(), AllocError>
     requires ready { is_full cell.old.scheduled ≡ false }
     requires work { is_ready_of (machine_in cell.old) ≡ true }
-    ensures told { OnOk result (machine_in cell.new ≡ (step_of door_callbacks (machine_in cell.old) (command.Turn moment)).1) }
+    ensures told { OnOk result (HasTold (command.Turn moment) cell.old cell.new) }
 
     ensures unchanged { OnErr result (cell.new ≡ cell.old) }
 

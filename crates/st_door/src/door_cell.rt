@@ -4,39 +4,42 @@ ghost use Rattle.st_core.specs.Choice.{is_ready_of};
 ghost use Rattle.st_core.specs.Run.{step_of};
 ghost use Rattle.st_core.specs.declared.command.Command.TheVariants as command;
 ghost use Rattle.st_scheduled.specs.Serving.{is_turn};
-ghost use Rattle.st_door.specs.Doors.{door_callbacks};
+ghost use Rattle.st_door.specs.Doors.{door_at_first, door_callbacks, told_kept};
+ghost use Rattle.st_door.specs.Traces.{trace_by};
 
 use crate::answers::DoorAnswer;
 use crate::cells::{collect, make_ready, post, reply, stop, tick, turn};
+use crate::door_states::DoorStates;
 use crate::{Door, DoorContent};
 use st_cell::Cell;
 use st_core::{Command, Core};
+use st_trace::trace_text;
 use std::alloc::{AllocError, Global};
 use std::marker::Model;
 
-/// A door of a script: its machine in a cell, with one port. Contracts see the machine. The cell lies in a box, since doors
-/// move up where one before them is removed.
+/// A door of a script: its machine in a cell, with one port. Contracts see the machine, and the history where it is kept.
+/// The cell lies in a box, since doors move up where one before them is removed.
 #[derive(Drop)]
 pub(crate) struct DoorCell {
     cell: Box<Cell<Door>>,
+    keeps: bool,
 }
 
 impl Model for DoorCell {
-    ghost use Rattle.st_cell.specs.Cell.{IsOpen};
-    ghost use Rattle.st_door.specs.Doors.{DoorMachine};
-    ghost use Rattle.st_door.specs.Entries.{machine_in};
+    ghost use Rattle.st_door.specs.Doors.{KeptDoor};
+    ghost use Rattle.st_door.specs.Entries.{IsDoorCell, door_in};
 
-    ghost Value = { DoorMachine };
+    ghost Value = { KeptDoor };
 
-    ghost view = { λ door. machine_in door.cell.value };
+    ghost view = { λ door. door_in door.keeps door.cell.value };
 
-    ghost invariant = { λ door. IsOpen 1 door.cell.value };
+    ghost invariant = { λ door. IsDoorCell door.keeps door.cell.value };
 }
 
 impl DoorCell {
-    /// Puts a door's machine into a cell, and opens its port.
-    pub(crate) fn new(alloc: Global, core: Core<Door>) -> Result<DoorCell, AllocError>
-        ensures { IfOk result (λ door. door ≡ core.machine) }
+    /// Puts a door's machine into a cell, and opens its port. Its history is kept from now on, or it is not.
+    pub(crate) fn new(alloc: Global, core: Core<Door>, keeps: bool) -> Result<DoorCell, AllocError>
+        ensures { IfOk result (λ door. door ≡ door_at_first keeps core.machine) }
     {
         let Ok((mut cell, _token)) = Cell::new(alloc, core) else {
             return Err(AllocError);
@@ -46,12 +49,13 @@ impl DoorCell {
         }
         Ok(DoorCell {
             cell: Box::new(alloc, cell)?,
+            keeps,
         })
     }
 
     /// The machine, to be read.
     pub(crate) fn core(&self) -> &Core<Door>
-        ensures { result.now.machine ≡ self.now }
+        ensures { result.now.machine ≡ self.now.machine }
     {
         self.cell.core()
     }
@@ -60,12 +64,12 @@ impl DoorCell {
     /// door stays.
     pub(crate) fn tell(&mut self, command: Command<DoorContent>) -> Result<DoorAnswer, AllocError>
         requires { is_turn command ≡ false }
-        ensures answer { IfOk result (λ answer. answer ≡ (step_of door_callbacks self.old command).0) }
-        ensures told { OnOk result (self.new ≡ (step_of door_callbacks self.old command).1) }
+        ensures answer { IfOk result (λ answer. answer ≡ (step_of door_callbacks self.old.machine command).0) }
+        ensures told { OnOk result (self.new ≡ told_kept command self.old) }
 
         ensures unchanged { OnErr result (self.new ≡ self.old) }
     {
-        make_ready(&mut *self.cell)?;
+        make_ready(&mut *self.cell, self.keeps)?;
         match command {
             Command::Post(entry, content) => post(&mut *self.cell, entry, content),
             Command::Tick(moment) => tick(&mut *self.cell, moment),
@@ -78,12 +82,26 @@ impl DoorCell {
 
     /// Gives the door, which is ready, a turn. Where memory is wanted and there is none, the door stays.
     pub(crate) fn turn(&mut self, moment: u64) -> Result<(), AllocError>
-        requires { is_ready_of self.old ≡ true }
-        ensures told { OnOk result (self.new ≡ (step_of door_callbacks self.old (command.Turn moment)).1) }
+        requires { is_ready_of self.old.machine ≡ true }
+        ensures told { OnOk result (self.new ≡ told_kept (command.Turn moment) self.old) }
 
         ensures unchanged { OnErr result (self.new ≡ self.old) }
     {
-        make_ready(&mut *self.cell)?;
+        make_ready(&mut *self.cell, self.keeps)?;
         turn(&mut *self.cell, moment)
+    }
+
+    /// The door's trace under a name. It is nothing where the history is not kept.
+    pub(crate) fn trace(&self, alloc: Global, name: &str) -> Result<Vec<u8>, AllocError>
+        ensures { IfOk result (λ text. text.items ≡ trace_by name.now self.now.machine self.now.history) }
+    {
+        if self.keeps {
+            match self.cell.journal(name) {
+                Ok(journal) => trace_text(alloc, &journal, &DoorStates),
+                Err(_) => Err(AllocError),
+            }
+        } else {
+            Ok(Vec::new(alloc))
+        }
     }
 }

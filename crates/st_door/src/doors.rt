@@ -4,6 +4,7 @@ ghost use Rattle.st_core.specs.declared.command.Command.TheVariants as command;
 ghost use Rattle.st_scheduled.specs.Serving.{is_turn};
 ghost use Rattle.st_door.specs.Doors.{NamedDoor, door_named, IsFirst, has_name, door_of, without_door, is_ready_door, told_of, told_door, all_expired_of, ticked_doors, SameLabels, door_limit};
 ghost use Rattle.st_door.specs.Printing.{status_of, names_text};
+ghost use Rattle.st_door.specs.Traces.{trace_of_door};
 
 use crate::DoorContent;
 use crate::answers::{DoorAnswer, count_in};
@@ -78,8 +79,7 @@ impl Doors {
     /// The name and the door at a place.
     fn entry_at(&self, place: usize) -> (&String, &DoorCell)
         requires { place < length self.now }
-        ensures name { (d : NamedDoor) → string_bytes result.0.now ≡ (slice_index_or self.now place d).name }
-        ensures machine { (d : NamedDoor) → result.1.now ≡ (slice_index_or self.now place d).machine }
+        ensures { (d : NamedDoor) → door_named (string_bytes result.0.now) result.1.now ≡ slice_index_or self.now place d }
     {
         self.entries.get_index(place).unwrap()
     }
@@ -186,5 +186,14 @@ impl Doors {
             core.data().buttons.len(),
             core.waiting(),
         )
+    }
+
+    /// The trace of the door at a place.
+    pub(crate) fn trace_at(&self, alloc: Global, place: usize) -> Result<Vec<u8>, AllocError>
+        requires { place < length self.now }
+        ensures { IfOk result (λ text. (d : NamedDoor) → text.items ≡ trace_of_door (slice_index_or self.now place d)) }
+    {
+        let (name, door) = self.entry_at(place);
+        door.trace(alloc, name.as_str())
     }
 }

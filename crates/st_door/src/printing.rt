@@ -10,7 +10,7 @@ use st_events::Reason;
 use std::alloc::{AllocError, Global};
 
 /// The name of a state.
-fn state_name(state: DoorState) -> &'static str
+pub(crate) fn state_name(state: DoorState) -> &'static str
     ensures { result.now ≡ state_name_of state }
 {
     match state {
@@ -60,11 +60,7 @@ pub fn expired(alloc: Global, moment: u64, count: u128) -> Result<String, AllocE
 }
 
 /// How long the code of the door of a name is, or a hyphen where that was not said.
-pub fn code_length(
-    alloc: Global,
-    name: &str,
-    digits: Option<usize>,
-) -> Result<String, AllocError>
+pub fn code_length(alloc: Global, name: &str, digits: Option<usize>) -> Result<String, AllocError>
     ensures { IfOk result (λ text. string_bytes text ≡ length_text name.now digits) }
 {
     match digits {

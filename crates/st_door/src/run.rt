@@ -1,9 +1,11 @@
 //! A script as a whole: bytes in, bytes out, and a status.
 ghost use Rattle.std.specs.Prelude.{◌≡◌, IfOk, IfErr, IfSome, OnOk, OnErr, MatchResult, Err};
 ghost use Rattle.std.specs.Io.KnownBytes.{Appends, IsAtEnd, Keeps};
-ghost use Rattle.st_door.specs.Script.{DoesSome, is_fault, output_of, status_of_script};
+ghost use Rattle.st_door.specs.Lines.{lines};
+ghost use Rattle.st_door.specs.Script.{DoesSome, faulty_from, first_script_state, is_fault, output_of, script_after, status_of_script};
 ghost use Rattle.st_door.specs.ScriptFault.{IsOfInput, read_failures_after, write_failures_after};
 ghost use Rattle.st_door.specs.Streams.{AppendsFront, ConsumesMoreThan};
+ghost use Rattle.st_door.specs.declared.mode.Mode.TheVariants.{Run, Trace};
 
 use crate::effect::Effect;
 use crate::input::{INPUT_LIMIT, read_input};
@@ -13,7 +15,7 @@ use crate::output::write_output;
 use crate::printing::printed;
 use crate::script::Script;
 use crate::{Mode, ScriptFault, Sink, Source};
-use std::alloc::Global;
+use std::alloc::{AllocError, Global};
 
 /// Whether what a line brings about makes the script's status 1.
 pub fn is_fault(effect: &Effect) -> bool
@@ -24,16 +26,16 @@ pub fn is_fault(effect: &Effect) -> bool
 
 /// Does the lines of an input and writes what they print, line by line.
 fn run_input<W: Sink>(alloc: Global, input: &[u8], writer: &mut W) -> Result<u8, ScriptFault>
-    ensures status { IfOk result (λ status. status ≡ status_of_script input.now) }
-    ensures output { OnOk result (Appends (W.held writer.old) (W.held writer.new) (output_of input.now)) }
+    ensures status { IfOk result (λ status. status ≡ status_of_script Run input.now) }
+    ensures output { OnOk result (Appends (W.held writer.old) (W.held writer.new) (output_of Run input.now)) }
 
     ensures faults { IfErr result (λ fault. IsOfInput fault → ⊥) }
     ensures failures { MatchResult result (λ _. W.failures writer.new ≡ W.failures writer.old)
         (λ fault. W.failures writer.new ≡ write_failures_after fault (W.failures writer.old)) }
-    ensures front { OnErr result (AppendsFront (W.held writer.old) (W.held writer.new) (output_of input.now)) }
+    ensures front { OnErr result (AppendsFront (W.held writer.old) (W.held writer.new) (output_of Run input.now)) }
 {
     let lines = split_lines(alloc, input)?;
-    let mut script = Script::new(alloc);
+    let mut script = Script::new(alloc, Mode::Run);
     let mut faulty = false;
     for (index, bytes) in lines.iter().enumerate() {
         let line = read_line(alloc, without_return(bytes))?;
@@ -45,10 +47,41 @@ fn run_input<W: Sink>(alloc: Global, input: &[u8], writer: &mut W) -> Result<u8,
     Ok(if faulty { 1 } else { 0 })
 }
 
-/// Reads a script, does its lines and writes what they print. The answer is the status: 1 where a
-/// line was refused or malformed, else 0.
+/// Does the lines of an input, of which a script in mode `Trace` is made, and says whether one was refused or malformed.
+fn trace_lines(alloc: Global, input: &[u8]) -> Result<(Script, bool), AllocError>
+    ensures script { IfOk result (λ done. done.0 ≡ script_after (first_script_state Trace) (lines input.now)) }
+    ensures faulty { IfOk result (λ done. done.1 ≡ faulty_from (first_script_state Trace) (lines input.now)) }
+{
+    let lines = split_lines(alloc, input)?;
+    let mut script = Script::new(alloc, Mode::Trace);
+    let mut faulty = false;
+    for bytes in lines.iter() {
+        let line = read_line(alloc, without_return(bytes))?;
+        let effect = script.obey(line)?;
+        faulty |= is_fault(&effect);
+    }
+    Ok((script, faulty))
+}
+
+/// Does the lines of an input, and then writes the traces of the doors that are left.
+fn trace_input<W: Sink>(alloc: Global, input: &[u8], writer: &mut W) -> Result<u8, ScriptFault>
+    ensures status { IfOk result (λ status. status ≡ status_of_script Trace input.now) }
+    ensures output { OnOk result (Appends (W.held writer.old) (W.held writer.new) (output_of Trace input.now)) }
+
+    ensures faults { IfErr result (λ fault. IsOfInput fault → ⊥) }
+    ensures failures { MatchResult result (λ _. W.failures writer.new ≡ W.failures writer.old)
+        (λ fault. W.failures writer.new ≡ write_failures_after fault (W.failures writer.old)) }
+    ensures front { OnErr result (AppendsFront (W.held writer.old) (W.held writer.new) (output_of Trace input.now)) }
+{
+    let (script, faulty) = trace_lines(alloc, input)?;
+    script.write_traces(writer)?;
+    Ok(if faulty { 1 } else { 0 })
+}
+
+/// Reads a script, does its lines and writes what they print; or, in mode `Trace`, the traces of the doors that are left at
+/// its end. The answer is the status: 1 where a line was refused or malformed, else 0.
 ///
-/// The whole input is read before the first line is done. The output is written line by line.
+/// The whole input is read before the first line is done. The output is written line by line, or trace by trace.
 ///
 /// `Read`: a read failed. `TooLong`: the input has more than 1,048,576 bytes. After these nothing was
 /// written. `Write`: a write failed or took no bytes. `Memory`: memory was wanted and there was none.
@@ -62,12 +95,12 @@ pub fn run_script<R: Source, W: Sink>(
     writer: &mut W,
 ) -> Result<u8, ScriptFault>
     // The whole input was read, and status and output are the script's.
-    ensures status { IfOk result (λ status. IfSome (R.left reader.old) (λ input. status ≡ status_of_script input)) }
-    ensures output { OnOk result (IfSome (R.left reader.old) (λ input. Appends (W.held writer.old) (W.held writer.new) (output_of input))) }
+    ensures status { IfOk result (λ status. IfSome (R.left reader.old) (λ input. status ≡ status_of_script mode input)) }
+    ensures output { OnOk result (IfSome (R.left reader.old) (λ input. Appends (W.held writer.old) (W.held writer.new) (output_of mode input))) }
     ensures whole { OnOk result (IsAtEnd (R.left reader.new)) }
 
     // So it is too where the reader's bytes are not known: then they are the script's of some input.
-    ensures some { IfOk result (λ status. DoesSome (R.left reader.old) (R.left reader.new) (W.held writer.old) (W.held writer.new) status) }
+    ensures some { IfOk result (λ status. DoesSome mode (R.left reader.old) (R.left reader.new) (W.held writer.old) (W.held writer.new) status) }
 
     // When each fault comes: a read has failed, more was read than may be, a write has failed.
     ensures read_failures { MatchResult result (λ _. R.failures reader.new ≡ R.failures reader.old)
@@ -77,11 +110,12 @@ pub fn run_script<R: Source, W: Sink>(
         (λ fault. W.failures writer.new ≡ write_failures_after fault (W.failures writer.old)) }
 
     // What a fault leaves: a front of the output is written, and nothing where the input could not be had.
-    ensures front { OnErr result (IfSome (R.left reader.old) (λ input. AppendsFront (W.held writer.old) (W.held writer.new) (output_of input))) }
+    ensures front { OnErr result (IfSome (R.left reader.old) (λ input. AppendsFront (W.held writer.old) (W.held writer.new) (output_of mode input))) }
     ensures unwritten { IfErr result (λ fault. IsOfInput fault → Keeps (W.held writer.old) (W.held writer.new)) }
 {
     let input = read_input(alloc, reader)?;
     match mode {
         Mode::Run => run_input(alloc, input.as_slice(), writer),
+        Mode::Trace => trace_input(alloc, input.as_slice(), writer),
     }
 }

@@ -1,9 +1,13 @@
 //! A script between two of its lines.
-ghost use Rattle.std.specs.Prelude.{◌≡◌, ◌≤◌, ◌<◌, ℕ, false, None, Ok, Err, IfOk, OnOk, IfNone, IfSome, length, slice_index_or, slice_set};
+ghost use Rattle.std.specs.Prelude.{◌≡◌, ◌≤◌, ◌<◌, ℕ, false, None, Ok, Err, IfOk, IfErr, OnOk, OnErr, MatchResult, IfNone, IfSome, length, slice_index_or, slice_set};
 ghost use Rattle.st_scheduled.specs.Serving.{is_turn};
 ghost use Rattle.st_door.specs.Doors.{NamedDoor, IsFirst, SameLabels, door_limit, door_of, has_name, told_of, told_door, all_expired_of};
 ghost use Rattle.st_door.specs.Printing.{status_of};
-ghost use Rattle.st_door.specs.Script.{first_script_state, step_of, commanded_of, with_start, without_named, door_start_of, ticked_script, rested_of};
+ghost use Rattle.st_door.specs.ScriptFault.{IsOfInput, write_failures_after};
+ghost use Rattle.st_door.specs.Streams.{AppendsFront};
+ghost use Rattle.st_door.specs.Traces.{traces_of};
+ghost use Rattle.std.specs.Io.KnownBytes.{Appends};
+ghost use Rattle.st_door.specs.Script.{first_script_state, is_traced, step_of, commanded_of, with_start, without_named, door_start_of, ticked_script, rested_of};
 ghost use Rattle.st_door.specs.declared.effect.Effect.TheVariants.{Printed};
 ghost use Rattle.st_door.specs.declared.line.Line.TheVariants as line;
 
@@ -12,11 +16,12 @@ use crate::door_cell::DoorCell;
 use crate::doors::Doors;
 use crate::effect::Effect;
 use crate::line::Line;
+use crate::output::write_output;
 use crate::printing::{code_length, expired, removed};
 use crate::slots::Slots;
 use crate::text::Text;
 use crate::until_idle::run_until_idle;
-use crate::{Digits, Door, DoorContent};
+use crate::{Digits, Door, DoorContent, Mode, ScriptFault, Sink};
 use st_core::{Answer, Command, Core, Entry, MOMENT_LIMIT, Start};
 use st_events::{MachineId, Refusal, Tag};
 use std::alloc::{AllocError, Global};
@@ -25,12 +30,13 @@ use std::marker::Model;
 /// How many doors there may be.
 const DOOR_LIMIT: usize = 65_536;
 
-/// A script between two of its lines: its doors, the places that they take in the table, its moment in milliseconds, how
+/// A script between two of its lines: whether the doors' histories are kept, its doors, the places that they take in the table, its moment in milliseconds, how
 /// many starts have succeeded, and from which place in the list up to which other a door may be ready. Between lines no
 /// other is.
 #[derive(Drop)]
 pub(crate) struct Script {
     alloc: Global,
+    traced: bool,
     doors: Doors,
     slots: Slots,
     moment: u64,
@@ -45,18 +51,19 @@ impl Model for Script {
 
     ghost Value = { ScriptState };
 
-    ghost view = { λ script. record { doors = script.doors; moment = script.moment; started = script.started } };
+    ghost view = { λ script. record { traced = script.traced; doors = script.doors; moment = script.moment; started = script.started } };
 
     ghost invariant = { λ script. IsKept script.doors script.slots script.from script.until };
 }
 
 impl Script {
     /// A script before its first line.
-    pub(crate) fn new(alloc: Global) -> Script
-        ensures { result ≡ first_script_state }
+    pub(crate) fn new(alloc: Global, mode: Mode) -> Script
+        ensures { result ≡ first_script_state mode }
     {
         Script {
             alloc,
+            traced: is_traced(mode),
             doors: Doors::new(alloc),
             slots: Slots::new(alloc),
             moment: 0,
@@ -222,7 +229,7 @@ impl Script {
         let id = MachineId { slot, serial };
         match Core::start(self.alloc, Door, id, &code, self.moment) {
             Ok(Start::Running(core, _report)) => {
-                let door = DoorCell::new(self.alloc, core)?;
+                let door = DoorCell::new(self.alloc, core, self.traced)?;
                 self.doors.push(name.into_string(), door)?;
                 self.slots.take(slot);
                 self.started = serial;
@@ -290,6 +297,22 @@ impl Script {
         Ok(())
     }
 
+    /// Writes the traces of the doors, in order of registration, one after another.
+    pub(crate) fn write_traces<W: Sink>(&self, writer: &mut W) -> Result<(), ScriptFault>
+        ensures written { OnOk result (Appends (W.held writer.old) (W.held writer.new) (traces_of self.now.doors)) }
+
+        ensures faults { IfErr result (λ fault. IsOfInput fault → ⊥) }
+        ensures failures { MatchResult result (λ _. W.failures writer.new ≡ W.failures writer.old)
+            (λ fault. W.failures writer.new ≡ write_failures_after fault (W.failures writer.old)) }
+        ensures front { OnErr result (AppendsFront (W.held writer.old) (W.held writer.new) (traces_of self.now.doors)) }
+    {
+        for place in 0..self.doors.len() {
+            let text = self.doors.trace_at(self.alloc, place)?;
+            write_output(writer, text.as_slice())?;
+        }
+        Ok(())
+    }
+
     /// Answers the status of the door at a place.
     fn status_effect(&self, place: usize) -> Result<Effect, AllocError>
         requires { place < length self.now.doors }
@@ -297,6 +320,16 @@ impl Script {
     {
         let text = self.doors.status_at(self.alloc, place)?;
         Ok(Effect::Printed(Text::from(text)))
+    }
+}
+
+/// Says whether a mode prints the histories of doors, and so keeps them.
+fn is_traced(mode: Mode) -> bool
+    ensures { result ≡ is_traced mode }
+{
+    match mode {
+        Mode::Run => false,
+        Mode::Trace => true,
     }
 }
 

@@ -11,14 +11,14 @@ abbrev text_of_lines : List (List ℕ) → List ℕ
 text_of_lines [] = []
 text_of_lines (line ∷ lines) = line ++ line_feed ∷ text_of_lines lines
 
-empty_input : output_of [] ≡ []
+empty_input : output_of Run [] ≡ []
 unfolding run_until_idle digits
 empty_input = refl
 
 abbrev opening : List ℕ
 opening = text_of_lines (codes "new front 12" ∷ codes "button front 1" ∷ codes "button front 2" ∷ [])
 
-a_code_opens : output_of opening
+a_code_opens : output_of Run opening
     ≡ text_of_lines (
     codes "front locked buttons 0 waiting 0"
     ∷ codes "front locked buttons 1 waiting 0"
@@ -26,7 +26,7 @@ a_code_opens : output_of opening
 unfolding run_until_idle digits
 a_code_opens = refl
 
-opening_status : status_of_script opening ≡ 0
+opening_status : status_of_script Run opening ≡ 0
 unfolding run_until_idle
 opening_status = refl
 
@@ -34,7 +34,7 @@ opening_status = refl
 abbrev last_buttons : List ℕ
 last_buttons = text_of_lines (codes "new a 12" ∷ codes "button a 3" ∷ codes "button a 1" ∷ codes "button a 2" ∷ [])
 
-the_last_buttons_count : output_of last_buttons
+the_last_buttons_count : output_of Run last_buttons
     ≡ text_of_lines (
     codes "a locked buttons 0 waiting 0"
     ∷ codes "a locked buttons 1 waiting 0"
@@ -47,7 +47,7 @@ the_last_buttons_count = refl
 abbrev faults : List ℕ
 faults = text_of_lines (codes "button back 1" ∷ codes "new front 12" ∷ codes "new front 34" ∷ []) ++ codes "press front 1"
 
-faults_are_reported : output_of faults
+faults_are_reported : output_of Run faults
     ≡ text_of_lines (
     codes "line 1 refused 8"
     ∷ codes "front locked buttons 0 waiting 0"
@@ -56,7 +56,7 @@ faults_are_reported : output_of faults
 unfolding run_until_idle digits
 faults_are_reported = refl
 
-faults_status : status_of_script faults ≡ 1
+faults_status : status_of_script Run faults ≡ 1
 unfolding run_until_idle
 faults_status = refl
 
@@ -64,7 +64,7 @@ faults_status = refl
 abbrev two_doors : List ℕ
 two_doors = codes "new b 1" ++ 13 ∷ 10 ∷ codes "  # doors" ++ 10 ∷ 10 ∷ codes "new a 2" ++ 10 ∷ codes " names  " ++ 10 ∷ codes "show b" ++ 13 ∷ []
 
-names_in_order : output_of two_doors
+names_in_order : output_of Run two_doors
     ≡ text_of_lines (
     codes "b locked buttons 0 waiting 0"
     ∷ codes "a locked buttons 0 waiting 0"
@@ -79,7 +79,7 @@ stopping =
     text_of_lines (
     codes "new a 1" ∷ codes "button a 1" ∷ codes "button a 1" ∷ codes "stop a 7" ∷ codes "show a" ∷ codes "button a 1" ∷ [])
 
-a_stop_ends_the_door : output_of stopping
+a_stop_ends_the_door : output_of Run stopping
     ≡ text_of_lines (
     codes "a locked buttons 0 waiting 0"
     ∷ codes "a open buttons 0 waiting 0"
@@ -90,7 +90,7 @@ a_stop_ends_the_door : output_of stopping
 unfolding run_until_idle digits
 a_stop_ends_the_door = refl
 
-stopping_status : status_of_script stopping ≡ 1
+stopping_status : status_of_script Run stopping ≡ 1
 unfolding run_until_idle
 stopping_status = refl
 
@@ -98,7 +98,7 @@ stopping_status = refl
 abbrev last_word : List ℕ
 last_word = text_of_lines (codes "new a 12" ∷ codes "button a 1" ∷ codes "stop a 7" ∷ [])
 
-the_last_word_counts_the_buttons : output_of last_word
+the_last_word_counts_the_buttons : output_of Run last_word
     ≡ text_of_lines (
     codes "a locked buttons 0 waiting 0"
     ∷ codes "a locked buttons 1 waiting 0"
@@ -106,7 +106,7 @@ the_last_word_counts_the_buttons : output_of last_word
 unfolding run_until_idle digits
 the_last_word_counts_the_buttons = refl
 
-last_word_status : status_of_script last_word ≡ 0
+last_word_status : status_of_script Run last_word ≡ 0
 unfolding run_until_idle
 last_word_status = refl
 
@@ -114,7 +114,7 @@ last_word_status = refl
 abbrev postponing : List ℕ
 postponing = text_of_lines (codes "new front 12" ∷ codes "button front 1" ∷ codes "button front 2" ∷ codes "button front 1" ∷ [])
 
-an_open_door_postpones : output_of postponing
+an_open_door_postpones : output_of Run postponing
     ≡ text_of_lines (
     codes "front locked buttons 0 waiting 0"
     ∷ codes "front locked buttons 1 waiting 0"
@@ -123,7 +123,7 @@ an_open_door_postpones : output_of postponing
 unfolding run_until_idle digits
 an_open_door_postpones = refl
 
-postponing_status : status_of_script postponing ≡ 0
+postponing_status : status_of_script Run postponing ≡ 0
 unfolding run_until_idle
 postponing_status = refl
 
@@ -139,7 +139,7 @@ retrying =
     ∷ codes "show front"
     ∷ codes "button front 2" ∷ [])
 
-a_postponed_button_counts_later : output_of retrying
+a_postponed_button_counts_later : output_of Run retrying
     ≡ text_of_lines (
     codes "front locked buttons 0 waiting 0"
     ∷ codes "front locked buttons 1 waiting 0"
@@ -151,7 +151,7 @@ a_postponed_button_counts_later : output_of retrying
 unfolding run_until_idle digits
 a_postponed_button_counts_later = refl
 
-retrying_status : status_of_script retrying ≡ 0
+retrying_status : status_of_script Run retrying ≡ 0
 unfolding run_until_idle
 retrying_status = refl
 
@@ -159,7 +159,7 @@ retrying_status = refl
 abbrev pub forgetting : List ℕ
 forgetting = text_of_lines (codes "new a 12" ∷ codes "button a 1" ∷ codes "at 29999" ∷ codes "at 30000" ∷ codes "show a" ∷ [])
 
-buttons_are_forgotten : output_of forgetting
+buttons_are_forgotten : output_of Run forgetting
     ≡ text_of_lines (
     codes "a locked buttons 0 waiting 0"
     ∷ codes "a locked buttons 1 waiting 0"
@@ -169,7 +169,7 @@ buttons_are_forgotten : output_of forgetting
 unfolding run_until_idle digits
 buttons_are_forgotten = refl
 
-forgetting_status : status_of_script forgetting ≡ 0
+forgetting_status : status_of_script Run forgetting ≡ 0
 unfolding run_until_idle
 forgetting_status = refl
 
@@ -187,7 +187,7 @@ moments =
     ∷ codes "at"
     ∷ codes "at 9223372036854775807" ∷ [])
 
-moments_go_on : output_of moments
+moments_go_on : output_of Run moments
     ≡ text_of_lines (
     codes "line 1 refused 4"
     ∷ codes "at 10 expired 0"
@@ -201,7 +201,7 @@ moments_go_on : output_of moments
 unfolding run_until_idle digits
 moments_go_on = refl
 
-moments_status : status_of_script moments ≡ 1
+moments_status : status_of_script Run moments ≡ 1
 unfolding run_until_idle
 moments_status = refl
 
@@ -220,7 +220,7 @@ three_doors =
     ∷ codes "show b"
     ∷ codes "show c" ∷ [])
 
-every_door_is_ticked : output_of three_doors
+every_door_is_ticked : output_of Run three_doors
     ≡ text_of_lines (
     codes "a locked buttons 0 waiting 0"
     ∷ codes "b locked buttons 0 waiting 0"
@@ -239,7 +239,7 @@ every_door_is_ticked = refl
 abbrev asking : List ℕ
 asking = text_of_lines (codes "new a 12" ∷ codes "button a 1" ∷ codes "length a" ∷ codes "at 30000" ∷ codes "show a" ∷ [])
 
-a_call_is_an_event : output_of asking
+a_call_is_an_event : output_of Run asking
     ≡ text_of_lines (
     codes "a locked buttons 0 waiting 0"
     ∷ codes "a locked buttons 1 waiting 0"
@@ -249,7 +249,7 @@ a_call_is_an_event : output_of asking
 unfolding run_until_idle digits
 a_call_is_an_event = refl
 
-asking_status : status_of_script asking ≡ 0
+asking_status : status_of_script Run asking ≡ 0
 unfolding run_until_idle
 asking_status = refl
 
@@ -271,7 +271,7 @@ lengths =
     ∷ codes "at 10000"
     ∷ codes "length a" ∷ [])
 
-each_door_says_its_length : output_of lengths
+each_door_says_its_length : output_of Run lengths
     ≡ text_of_lines (
     codes "line 1 refused 8"
     ∷ codes "a locked buttons 0 waiting 0"
@@ -289,7 +289,7 @@ each_door_says_its_length : output_of lengths
 unfolding run_until_idle digits
 each_door_says_its_length = refl
 
-lengths_status : status_of_script lengths ≡ 1
+lengths_status : status_of_script Run lengths ≡ 1
 unfolding run_until_idle
 lengths_status = refl
 
@@ -311,7 +311,7 @@ reasons =
     ∷ codes "new b 1"
     ∷ codes "stop b 4294967295" ∷ [])
 
-reasons_are_numbers : output_of reasons
+reasons_are_numbers : output_of Run reasons
     ≡ text_of_lines (
     codes "a locked buttons 0 waiting 0"
     ∷ codes "line 2 malformed"
@@ -329,7 +329,7 @@ reasons_are_numbers : output_of reasons
 unfolding run_until_idle digits
 reasons_are_numbers = refl
 
-reasons_status : status_of_script reasons ≡ 1
+reasons_status : status_of_script Run reasons ≡ 1
 unfolding run_until_idle
 reasons_status = refl
 
@@ -349,7 +349,7 @@ refusals = text_of_lines (
     ∷ codes "names"
     ∷ codes "new front 34" ∷ [])
 
-a_door_is_removed : output_of refusals
+a_door_is_removed : output_of Run refusals
     ≡ text_of_lines (
     codes "line 1 refused 8"
     ∷ codes "front locked buttons 0 waiting 0"

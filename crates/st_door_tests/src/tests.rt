@@ -10,4 +10,5 @@ mod lines;
 mod moments;
 mod scripts;
 mod streams;
+mod traces;
 mod worked;

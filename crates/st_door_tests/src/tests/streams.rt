@@ -17,9 +17,10 @@ pub enum Failure {
     TakesNothing,
 }
 
-/// How a script is read and written.
+/// How a script is run, read and written.
 #[derive(Clone, Copy, Debug)]
 pub struct Way {
+    pub mode: Mode,
     /// How many bytes a read gives or a write takes, at most.
     pub most: usize,
     /// Which read fails. The first one is 1, and 0 is none.
@@ -33,6 +34,7 @@ pub struct Way {
 
 /// All at a time, and no failure.
 pub const PLAIN: Way = Way {
+    mode: Mode::Run,
     most: usize::MAX,
     failing_read: 0,
     failing_write: 0,
@@ -112,6 +114,7 @@ pub fn with_reserved(alloc: Global, bytes: usize) -> Vec<u8> {
 /// Runs a script over a reader and a writer, in the ledgers that two blanks open.
 fn over<A: Ledger, B: Ledger>(
     alloc: Global,
+    mode: Mode,
     reader: Reader<'_>,
     writer: Writer,
     a: Blank,
@@ -122,7 +125,7 @@ fn over<A: Ledger, B: Ledger>(
 {
     let mut reader: Counted<Reader<'_>, A> = Counted::new(reader, a);
     let mut writer: Counted<Writer, B> = Counted::new(writer, b);
-    let answer = run_script(alloc, Mode::Run, &mut reader, &mut writer);
+    let answer = run_script(alloc, mode, &mut reader, &mut writer);
     (answer, writer.into_inner())
 }
 
@@ -139,7 +142,7 @@ fn run_once(alloc: Global, script: &[u8], way: Way) -> (Result<u8, ScriptFault>,
         by_lines: true,
         way,
     };
-    over::<Brand, Brand>(alloc, reader, writer, Blank::new(1), Blank::new(1))
+    over::<Brand, Brand>(alloc, way.mode, reader, writer, Blank::new(1), Blank::new(1))
 }
 
 /// Sees that a script ends with this answer when these bytes are written. Where no memory was found, a
@@ -160,8 +163,8 @@ pub fn ends(
     }
     assert_eq!(rt; writer.held.as_slice(), output, "{way:?}");
     assert_eq!(rt; answer, wanted, "{way:?}");
-    // A writer that takes all is handed each line by one write.
-    assert!(rt; writer.by_lines || way.most < usize::MAX);
+    // A writer that takes all is handed each line by one write. Traces come a door at a time.
+    assert!(rt; writer.by_lines || way.most < usize::MAX || way.mode == Mode::Trace);
 }
 
 /// Sees that a script prints this and has this status.

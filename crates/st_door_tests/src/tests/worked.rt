@@ -5,11 +5,12 @@ use super::streams::shows;
 use std::io::Print;
 use std::process::Abort;
 
-/// A script, what it prints, and its status.
+/// A script, what its lines print, the traces of the doors that are left at its end, and its status.
 #[derive(Clone, Copy, Debug)]
 pub struct Worked {
     pub script: &'static [u8],
     pub output: &'static str,
+    pub trace: &'static str,
     pub status: u8,
 }
 
@@ -17,6 +18,7 @@ pub struct Worked {
 const EMPTY: Worked = Worked {
     script: b"",
     output: "",
+    trace: "",
     status: 0,
 };
 
@@ -26,6 +28,12 @@ const OPENING: Worked = Worked {
     output: "front locked buttons 0 waiting 0\n\
          front locked buttons 1 waiting 0\n\
          front open buttons 0 waiting 0\n",
+    trace: "machine 0 1 front\n\
+         \x20        1      1 post                      -          1 cast\n\
+         \x20        2      - turn                      0          1 cast locked locked finished 0 0 1\n\
+         \x20        3      1 post                      -          3 cast\n\
+         \x20        4      - turn                      0          3 cast locked open finished 0 0 1\n\
+         summary posts 2 turns 2 finished 2 put_off 0\n",
     status: 0,
 };
 
@@ -36,6 +44,14 @@ const LAST_BUTTONS: Worked = Worked {
          a locked buttons 1 waiting 0\n\
          a locked buttons 2 waiting 0\n\
          a open buttons 0 waiting 0\n",
+    trace: "machine 0 1 a\n\
+         \x20        1      1 post                      -          1 cast\n\
+         \x20        2      - turn                      0          1 cast locked locked finished 0 0 1\n\
+         \x20        3      1 post                      -          3 cast\n\
+         \x20        4      - turn                      0          3 cast locked locked finished 0 0 1\n\
+         \x20        5      1 post                      -          5 cast\n\
+         \x20        6      - turn                      0          5 cast locked open finished 0 0 1\n\
+         summary posts 3 turns 3 finished 3 put_off 0\n",
     status: 0,
 };
 
@@ -46,6 +62,8 @@ const FAULTS: Worked = Worked {
          front locked buttons 0 waiting 0\n\
          line 3 refused 7\n\
          line 4 malformed\n",
+    trace: "machine 0 1 front\n\
+         summary posts 0 turns 0 finished 0 put_off 0\n",
     status: 1,
 };
 
@@ -56,6 +74,10 @@ const TWO_DOORS: Worked = Worked {
          a locked buttons 0 waiting 0\n\
          names b a\n\
          b locked buttons 0 waiting 0\n",
+    trace: "machine 0 1 b\n\
+         summary posts 0 turns 0 finished 0 put_off 0\n\
+         machine 1 2 a\n\
+         summary posts 0 turns 0 finished 0 put_off 0\n",
     status: 0,
 };
 
@@ -68,6 +90,13 @@ const STOPPING: Worked = Worked {
          a stopped 7 word 0\n\
          a stopped 7 word 0\n\
          line 6 refused 2\n",
+    trace: "machine 0 1 a\n\
+         \x20        1      1 post                      -          1 cast\n\
+         \x20        2      - turn                      0          1 cast locked open finished 0 0 1\n\
+         \x20        3      1 post                      -          3 cast\n\
+         \x20        4      - turn                      0          3 cast open open put_off 0 0 0\n\
+         \x20        5      - stop                      -          7 word:0\n\
+         summary posts 2 turns 2 finished 1 put_off 1\n",
     status: 1,
 };
 
@@ -77,6 +106,11 @@ const LAST_WORD: Worked = Worked {
     output: "a locked buttons 0 waiting 0\n\
          a locked buttons 1 waiting 0\n\
          a stopped 7 word 1\n",
+    trace: "machine 0 1 a\n\
+         \x20        1      1 post                      -          1 cast\n\
+         \x20        2      - turn                      0          1 cast locked locked finished 0 0 1\n\
+         \x20        3      - stop                      -          7 word:1\n\
+         summary posts 1 turns 1 finished 1 put_off 0\n",
     status: 0,
 };
 
@@ -87,11 +121,19 @@ const POSTPONING: Worked = Worked {
          front locked buttons 1 waiting 0\n\
          front open buttons 0 waiting 0\n\
          front open buttons 0 waiting 1\n",
+    trace: "machine 0 1 front\n\
+         \x20        1      1 post                      -          1 cast\n\
+         \x20        2      - turn                      0          1 cast locked locked finished 0 0 1\n\
+         \x20        3      1 post                      -          3 cast\n\
+         \x20        4      - turn                      0          3 cast locked open finished 0 0 1\n\
+         \x20        5      1 post                      -          5 cast\n\
+         \x20        6      - turn                      0          5 cast open open put_off 0 0 0\n\
+         summary posts 3 turns 3 finished 2 put_off 1\n",
     status: 0,
 };
 
 /// It waits until the door is locked again, and then counts.
-const RETRYING: Worked = Worked {
+pub const RETRYING: Worked = Worked {
     script: b"new front 12\n\
         button front 1\n\
         button front 2\n\
@@ -106,6 +148,19 @@ const RETRYING: Worked = Worked {
          at 10000 expired 1\n\
          front locked buttons 1 waiting 0\n\
          front open buttons 0 waiting 0\n",
+    trace: "machine 0 1 front\n\
+         \x20        1      1 post                      -          1 cast\n\
+         \x20        2      - turn                      0          1 cast locked locked finished 0 0 1\n\
+         \x20        3      1 post                      -          3 cast\n\
+         \x20        4      - turn                      0          3 cast locked open finished 0 0 1\n\
+         \x20        5      1 post                      -          5 cast\n\
+         \x20        6      - turn                      0          5 cast open open put_off 0 0 0\n\
+         \x20        7      - tick                  10000          1 -\n\
+         \x20        8      - turn                  10000          4 state_timeout open locked finished 0 0 0\n\
+         \x20        9      - turn                  10000          5 cast locked locked finished 0 0 1\n\
+         \x20       10      1 post                      -          7 cast\n\
+         \x20       11      - turn                  10000          7 cast locked open finished 0 0 1\n\
+         summary posts 4 turns 6 finished 5 put_off 1\n",
     status: 0,
 };
 
@@ -117,6 +172,13 @@ const FORGETTING: Worked = Worked {
          at 29999 expired 0\n\
          at 30000 expired 1\n\
          a locked buttons 0 waiting 0\n",
+    trace: "machine 0 1 a\n\
+         \x20        1      1 post                      -          1 cast\n\
+         \x20        2      - turn                      0          1 cast locked locked finished 0 0 1\n\
+         \x20        3      - tick                  29999          0 -\n\
+         \x20        4      - tick                  30000          1 -\n\
+         \x20        5      - turn                  30000          2 timeout locked locked finished 0 0 0\n\
+         summary posts 1 turns 2 finished 2 put_off 0\n",
     status: 0,
 };
 
@@ -140,6 +202,7 @@ const MOMENTS: Worked = Worked {
          line 7 malformed\n\
          line 8 malformed\n\
          at 9223372036854775807 expired 0\n",
+    trace: "",
     status: 1,
 };
 
@@ -165,6 +228,23 @@ const THREE_DOORS: Worked = Worked {
          at 30000 expired 2\n\
          b locked buttons 0 waiting 0\n\
          c stopped 7 word 1\n",
+    trace: "machine 0 1 a\n\
+         \x20        1      1 post                      -          1 cast\n\
+         \x20        2      - turn                      0          1 cast locked locked finished 0 0 1\n\
+         \x20        3      - tick                  30000          1 -\n\
+         \x20        4      - turn                  30000          2 timeout locked locked finished 0 0 0\n\
+         summary posts 1 turns 2 finished 2 put_off 0\n\
+         machine 1 2 b\n\
+         \x20        1      1 post                      -          1 cast\n\
+         \x20        2      - turn                      0          1 cast locked locked finished 0 0 1\n\
+         \x20        3      - tick                  30000          1 -\n\
+         \x20        4      - turn                  30000          2 timeout locked locked finished 0 0 0\n\
+         summary posts 1 turns 2 finished 2 put_off 0\n\
+         machine 2 3 c\n\
+         \x20        1      1 post                      -          1 cast\n\
+         \x20        2      - turn                      0          1 cast locked locked finished 0 0 1\n\
+         \x20        3      - stop                      -          7 word:1\n\
+         summary posts 1 turns 1 finished 1 put_off 0\n",
     status: 0,
 };
 
@@ -196,6 +276,12 @@ const REASONS: Worked = Worked {
          names a\n\
          b locked buttons 0 waiting 0\n\
          b stopped 4294967295 word 0\n",
+    trace: "machine 0 1 a\n\
+         \x20        1      - stop                      -          7 word:0\n\
+         summary posts 0 turns 0 finished 0 put_off 0\n\
+         machine 1 2 b\n\
+         \x20        1      - stop                      - 4294967295 word:0\n\
+         summary posts 0 turns 0 finished 0 put_off 0\n",
     status: 1,
 };
 
@@ -207,6 +293,14 @@ const ASKING: Worked = Worked {
          a length 2\n\
          at 30000 expired 0\n\
          a locked buttons 1 waiting 0\n",
+    trace: "machine 0 1 a\n\
+         \x20        1      1 post                      -          1 cast\n\
+         \x20        2      - turn                      0          1 cast locked locked finished 0 0 1\n\
+         \x20        3      1 post                      -          3 call\n\
+         \x20        4      - turn                      0          3 call locked locked finished 1 0 0\n\
+         \x20        5      - collect                   -          3 reply\n\
+         \x20        6      - tick                  30000          0 -\n\
+         summary posts 2 turns 2 finished 2 put_off 0\n",
     status: 0,
 };
 
@@ -238,6 +332,27 @@ const LENGTHS: Worked = Worked {
          line 11 refused 2\n\
          at 10000 expired 1\n\
          a length 1\n",
+    trace: "machine 0 1 a\n\
+         \x20        1      1 post                      -          1 call\n\
+         \x20        2      - turn                      0          1 call locked locked finished 1 0 0\n\
+         \x20        3      - collect                   -          1 reply\n\
+         \x20        4      1 post                      -          2 cast\n\
+         \x20        5      - turn                      0          2 cast locked open finished 0 0 1\n\
+         \x20        6      1 post                      -          4 call\n\
+         \x20        7      - turn                      0          4 call open open finished 1 0 0\n\
+         \x20        8      - collect                   -          4 reply\n\
+         \x20        9      - tick                  10000          1 -\n\
+         \x20       10      - turn                  10000          3 state_timeout open locked finished 0 0 0\n\
+         \x20       11      1 post                      -          5 call\n\
+         \x20       12      - turn                  10000          5 call locked locked finished 1 0 0\n\
+         \x20       13      - collect                   -          5 reply\n\
+         summary posts 4 turns 5 finished 5 put_off 0\n\
+         machine 1 2 b\n\
+         \x20        1      1 post                      -          1 call\n\
+         \x20        2      - turn                      0          1 call locked locked finished 1 0 0\n\
+         \x20        3      - collect                   -          1 reply\n\
+         \x20        4      - stop                      -          7 word:0\n\
+         summary posts 1 turns 1 finished 1 put_off 0\n",
     status: 1,
 };
 
@@ -265,6 +380,8 @@ const REFUSALS: Worked = Worked {
          front removed\n\
          names\n\
          front locked buttons 0 waiting 0\n",
+    trace: "machine 0 2 front\n\
+         summary posts 0 turns 0 finished 0 put_off 0\n",
     status: 1,
 };
 
@@ -311,6 +428,15 @@ const REMOVING: Worked = Worked {
          at 10000 expired 1\n\
          c locked buttons 0 waiting 0\n\
          names c b\n",
+    trace: "machine 2 3 c\n\
+         \x20        1      1 post                      -          1 cast\n\
+         \x20        2      - turn                      0          1 cast locked open finished 0 0 1\n\
+         \x20        3      - tick                  10000          1 -\n\
+         \x20        4      - turn                  10000          2 state_timeout open locked finished 0 0 0\n\
+         summary posts 1 turns 2 finished 2 put_off 0\n\
+         machine 1 4 b\n\
+         \x20        1      - tick                  10000          0 -\n\
+         summary posts 0 turns 0 finished 0 put_off 0\n",
     status: 1,
 };
 

@@ -1,6 +1,6 @@
-use Rattle.std.proofs.Common.{◌≡◌, ◌+◌, ◌<◌, Ok, length, ap, ◌∙◌, inl, inr, rules}
+use Rattle.std.proofs.Common.{◌≡◌, ℕ, ◌+◌, ◌<◌, List, [], ◌∷◌, ◌++◌, Ok, length, ap, ◌∙◌, inl, inr, rules}
 use Rattle.st_core.specs.declared.start.Start.TheVariants.{Running}
-use Rattle.st_door.specs.Doors.{IsKept, free_slot_of}
+use Rattle.st_door.specs.Doors.{IsKept, KeptDoor, door_named, free_slot_of}
 use Rattle.st_door.specs.Script.{ScriptState, door_start_of}
 use Rattle.st_door.proofs.ScriptStateLemmas.{kept-pushed, kept-marked, next-slot, started-state, started-slot, given-id, started-script}
 use Rattle.st_door.proofs.script.Script.start_door.Goals as goal
@@ -33,7 +33,7 @@ invariant_of-self-in_err-push-in-Ok-Running c =
 
 -- the script, by its fields
 script_of : goal.After-drop-code-inside-in-Ok-Running → ScriptState
-script_of c = record { doors = c.self.inside.doors; moment = c.self.inside.moment; started = c.self.inside.started }
+script_of c = record { traced = c.self.inside.traced; doors = c.self.inside.doors; moment = c.self.inside.moment; started = c.self.inside.started }
 
 -- what is kept once there is a mark for the least free place
 kept_of : (c : goal.After-drop-code-inside-in-Ok-Running) → IsKept c.self.inside.doors c.least_free.new.self c.self.inside.from c.self.inside.until
@@ -68,4 +68,6 @@ pub returns-in-Ok-Running-clause-started : goal.returns-in-Ok-Running-clause-sta
 unfolding script_of
 returns-in-Ok-Running-clause-started c =
     rw (← c.self.view_is) (started-script (script_of c) c.args.name c.args.code c.in-Ok-Running.core c.in-Ok-Running._report c.push.new.self c.in-Some.serial (started c) (counted_of c)
-    (rw (← c.into_string.ensures, ← c.in_ok-door-in-Ok-Running.ensures) c.in_ok-push-in-Ok-Running.ensures.pushed))
+    (c.in_ok-push-in-Ok-Running.ensures.pushed
+    ∙ (ap (λ (name : List ℕ). c.self.inside.doors ++ door_named name c.in_ok-door-in-Ok-Running.door ∷ []) c.into_string.ensures
+    ∙ ap (λ (door : KeptDoor). c.self.inside.doors ++ door_named c.args.name door ∷ []) c.in_ok-door-in-Ok-Running.ensures)))

@@ -1,5 +1,5 @@
 use Rattle.std.proofs.Common.{◌≡◌, ◌<◌, length, get_or, ap, arith}
-use Rattle.st_door.specs.Doors.{NamedDoor, told_of}
+use Rattle.st_door.specs.Doors.{NamedDoor, kept_of, told_kept}
 use Rattle.st_door.specs.Script.{ScriptState}
 use Rattle.st_door.proofs.ScriptStateLemmas.{kept-set}
 use Rattle.st_door.proofs.IdleLemmas.{no_door}
@@ -19,7 +19,7 @@ invariant_of-self-2 c =
     let within : c.args.place < length c.self.inside.doors = rw doors c.requires.place in
     let door : NamedDoor = get_or c.self.inside.doors c.args.place no_door in
     rw (c.in_ok-answer.ensures.told no_door)
-    (kept-set c.self.inside.doors c.self.inside.slots c.self.inside.from c.self.inside.until c.args.place _ _ (told_of c.args.command door).1 c.self.invariant within
+    (kept-set c.self.inside.doors c.self.inside.slots c.self.inside.from c.self.inside.until c.args.place _ _ (told_kept c.args.command (kept_of door)) c.self.invariant within
     (id-told door.machine c.args.command)
     c.widened-from.ensures.place.0 c.widened-from.ensures.place.1
     (c.widened-from.ensures.narrow (length c.self.inside.doors) c.self.invariant.within within)

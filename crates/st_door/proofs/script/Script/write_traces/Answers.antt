@@ -1,0 +1,34 @@
+use Rattle.std.proofs.Common.{rules, ◌≡◌, ◌+◌, List, ◌∷◌, ◌++◌, drop, get_or}
+use Rattle.st_door.specs.Doors.{NamedDoor}
+use Rattle.st_door.specs.Traces.{trace_of_door}
+use Rattle.st_door.proofs.IdleLemmas.{no_door}
+use Rattle.st_door.proofs.ScriptLemmas.{doors_left-cons, front_more, traces_step}
+use Rattle.st_door.proofs.StreamLemmas.{appends_more}
+use Rattle.st_door.proofs.script.Script.write_traces.Goals as goal
+
+-- one trace was written
+pub loop-place-preserved : goal.loop-place-preserved
+loop-place-preserved g c =
+    let place = c.loop-place.place in
+    let doors : List NamedDoor = c.args.self.now.doors in
+    let door : NamedDoor = get_or doors place no_door in
+    let here : drop place doors ≡ door ∷ drop (place + 1) doors = doors_left-cons doors place no_door (search rules) in
+    let text : c.as_slice.result.now ≡ trace_of_door door = search rules in (
+      search rules,
+      (
+        c.loop-place.invariant.1.0 ++ c.as_slice.result.now,
+        appends_more _ _ _ _ _ c.loop-place.invariant.1.1 c.in_ok-write_output.ensures.written,
+        traces_step _ _ _ _ _ _ here text c.loop-place.invariant.1.2,
+      ),
+    )
+
+-- the write stopped within a trace
+pub returns-in_err-write_output-clause-front : goal.returns-in_err-write_output-clause-front
+returns-in_err-write_output-clause-front g c =
+    let place = c.loop-place.place in
+    let doors : List NamedDoor = c.args.self.now.doors in
+    let door : NamedDoor = get_or doors place no_door in
+    let here : drop place doors ≡ door ∷ drop (place + 1) doors = doors_left-cons doors place no_door (search rules) in
+    let text : c.as_slice.result.now ≡ trace_of_door door = search rules in
+    let front = front_more _ _ _ _ _ _ _ c.loop-place.invariant.1.1 c.in_err-write_output.ensures.front (traces_step _ _ _ _ _ _ here text c.loop-place.invariant.1.2) in
+    search rules
