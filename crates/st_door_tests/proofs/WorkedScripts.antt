@@ -4,6 +4,7 @@ use Rattle.std.specs.Prelude.{codes}
 use Rattle.std.specs.Fmt.{digits}
 use Rattle.st_door.specs.Doors.{least_from, run_until_idle}
 use Rattle.st_door.specs.Lines.{line_feed}
+use Rattle.st_door.specs.declared.mode.Mode.TheVariants.{Run, Trace}
 use Rattle.st_door.specs.Script.{output_of, status_of_script}
 
 -- lines, each with its line feed
@@ -365,6 +366,28 @@ a_door_is_removed : output_of Run refusals
     ∷ codes "front locked buttons 0 waiting 0" ∷ [])
 unfolding run_until_idle digits
 a_door_is_removed = refl
+
+-- a door whose code is entered, and which is told the moment 10,000 milliseconds later: its trace
+abbrev locking : List ℕ
+locking = opening ++ text_of_lines (codes "at 10000" ∷ [])
+
+a_trace_is_printed : output_of Trace locking
+    ≡ text_of_lines (
+    codes "machine 0 1 front"
+    ∷ codes "         1      1 post                      -          1 cast"
+    ∷ codes "         2      - turn                      0          1 cast locked locked finished 0 0 1"
+    ∷ codes "         3      1 post                      -          3 cast"
+    ∷ codes "         4      - turn                      0          3 cast locked open finished 0 0 1"
+    ∷ codes "         5      - tick                  10000          1 -"
+    ∷ codes "         6      - turn                  10000          4 state_timeout open locked finished 0 0 0"
+    ∷ codes "summary posts 2 turns 3 finished 3 put_off 0" ∷ [])
+unfolding run_until_idle digits
+a_trace_is_printed = refl
+
+-- a door that was removed prints none
+a_removed_door_has_no_trace : output_of Trace (text_of_lines (codes "new a 1" ∷ codes "stop a 5" ∷ codes "remove a" ∷ [])) ≡ []
+unfolding run_until_idle digits
+a_removed_door_has_no_trace = refl
 
 -- a new door gets the least place that no door has, and a serial that none had
 the_least_place_is_taken : least_from 3 0 (2 ∷ 0 ∷ 3 ∷ []) ≡ 1
