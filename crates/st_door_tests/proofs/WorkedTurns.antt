@@ -1,6 +1,6 @@
 -- A door's start and its turns computed on examples: the calls that they make and the timers that they set,
 -- and what the door is after them.
-use Rattle.std.proofs.Common.{◌≡◌, ℕ, Some, None, Result, Ok, List, [], ◌∷◌, refl}
+use Rattle.std.proofs.Common.{◌≡◌, ℕ, false, Some, None, Result, Ok, List, [], ◌∷◌, refl}
 use Rattle.st_events.specs.declared.kind.Kind.TheVariants as kind
 use Rattle.st_events.specs.declared.machine_id.MachineId.{MachineId}
 use Rattle.st_events.specs.declared.refusal.Refusal.{Refusal}
@@ -27,7 +27,7 @@ use Rattle.st_door.specs.declared.door_content.DoorContent.TheVariants.{Button, 
 use Rattle.st_door.specs.declared.door_state.DoorState.{DoorState}
 use Rattle.st_door.specs.declared.door_state.DoorState.TheVariants.{Locked, Open}
 use Rattle.st_door.specs.Door.{init_of}
-use Rattle.st_door.specs.Doors.{DoorMachine, door_callbacks, door_named, next_tag_of}
+use Rattle.st_door.specs.Doors.{DoorMachine, door_at_first, door_callbacks, door_named, next_tag_of}
 use Rattle.st_door.specs.Script.{DoorStart, the_door}
 
 abbrev id : MachineId
@@ -97,7 +97,7 @@ nothing_comes_earlier = refl
 
 -- the tag of the first call
 abbrev first_tag : Tag
-first_tag = next_tag_of (door_named [] (door_in Locked [] 0 1))
+first_tag = next_tag_of (door_named [] (door_at_first false (door_in Locked [] 0 1)))
 
 -- the length of the code is asked for, and a turn is made
 abbrev answered : Result (Turned DoorState) Refusal × DoorMachine
