@@ -7,14 +7,14 @@ ghost use Rattle.st_scheduled.specs.Answered.{posted_as, ticked_as, replied_as, 
 ghost use Rattle.st_scheduled.specs.ScheduledMachine.{token_of};
 ghost use Rattle.st_cell.specs.Calls.{Posts, IsTold, Turns, look_of, cut, IsJournalOf};
 ghost use Rattle.st_cell.specs.Cell.{cell_at_first, IsOpen, count_for};
-ghost use Rattle.st_cell.specs.Journal.{numbers_of};
+ghost use Rattle.st_cell.specs.Journal.{IsReplay, numbers_of};
 ghost use Rattle.st_post_counter.specs.Seen.{whole, part, IsWhole, IsPart};
 ghost use Rattle.st_lock.specs.Desk.{EndsWith, desk_at_first, HasEnd, counters_of};
 
 use st_cell::{
     Cell, Collected, Core, Entry, Journal, Look, Module, Next, Post, Posted, Reason, Refusal,
-    Refused, Tag, Ticked, Token, a_port_has_no_more_posts_than_its_count,
-    a_port_that_is_not_open_has_no_posts,
+    Refused, Tag, Ticked, Token, a_cell_is_the_replay_of_its_journal,
+    a_port_has_no_more_posts_than_its_count, a_port_that_is_not_open_has_no_posts,
 };
 use st_post_counter::{Addition, Counter, Endpoint};
 use std::alloc::Global;
@@ -282,4 +282,11 @@ impl<M: Module> Desk<M> {
     {
         self.cell.cut()
     }
+}
+
+/// A machine at a desk is the replay of its journal.
+pub(crate) fn a_desk_is_the_replay_of_its_journal<M: Module>(desk: &Desk<M>)
+    ensures { IsReplay (callbacks_of M.Module M.State.eq) desk.now.cell.base desk.now.cell.journal desk.now.cell.scheduled.core }
+{
+    a_cell_is_the_replay_of_its_journal(&desk.cell);
 }

@@ -10,12 +10,15 @@ ghost use Rattle.st_post_counter.specs.Endpoint.{CounterId};
 ghost use Rattle.st_lock.specs.declared.claim.Claim.{Claim};
 ghost use Rattle.st_lock.specs.Claims.{claim, Fits, desk_of, HasSameCounters};
 ghost use Rattle.st_lock.specs.Desk.{desk_at_first, HasEnd};
-ghost use Rattle.st_lock.specs.Machines.{id_of};
+ghost use Rattle.st_core.specs.Callbacks.{callbacks_of};
+ghost use Rattle.st_core.specs.declared.command.Command.TheVariants as command;
+ghost use Rattle.st_scheduled.specs.Answered.{ticked_as, collected_as, replied_as, stopped_as};
+ghost use Rattle.st_lock.specs.Machines.{id_of, IsToldSomewhere, TurnsSomewhere};
 ghost use Rattle.st_lock.specs.Ports.{port_at_first};
 
 use crate::Port;
 use crate::claim::{ByPort, Claim};
-use crate::desk::{Desk, PostOf};
+use crate::desk::{Desk, PostOf, a_desk_is_the_replay_of_its_journal};
 use st_cell::{
     Collected, Core, Journal, MachineId, Module, Next, Reason, Refusal, Refused, Tag, Ticked, Token,
 };
@@ -267,9 +270,11 @@ impl<M: Module> Machine<M> {
     ///
     /// Manual: `Module:handle_event/4`; ours: docs/DECISIONS.md, Tokens.
     pub fn turn<R: Wait>(&self, rt: &R, token: Token, now: u64) -> Result<Next, Refused<Token>>
+        ensures does { TurnsSomewhere (callbacks_of M.Module M.State.eq) token now result }
         ensures returned { IfErr result (λ refused. refused.value ≡ token) }
     {
         let (taken, mut desk, mut holder) = self.arrive(rt);
+        a_desk_is_the_replay_of_its_journal(&desk);
         let answer = desk.turn(token, now);
         drop(give_back(taken, &mut holder, desk));
         self.told.notify_all();
@@ -281,8 +286,11 @@ impl<M: Module> Machine<M> {
     /// Refused as `Cell::tick` is: with `Stopped`, `Moment`, `Exhausted` and `NoMemory`. A refusal changes nothing.
     ///
     /// Ours: docs/DECISIONS.md, Time-outs come by ticks.
-    pub fn tick<R: Wait>(&self, rt: &R, now: u64) -> Result<Ticked, Refusal> {
+    pub fn tick<R: Wait>(&self, rt: &R, now: u64) -> Result<Ticked, Refusal>
+        ensures { IsToldSomewhere (callbacks_of M.Module M.State.eq) (command.Tick now) (ticked_as result) }
+    {
         let (taken, mut desk, mut holder) = self.arrive(rt);
+        a_desk_is_the_replay_of_its_journal(&desk);
         let answer = desk.tick(now);
         drop(give_back(taken, &mut holder, desk));
         answer
@@ -293,8 +301,11 @@ impl<M: Module> Machine<M> {
     /// Refused as `Cell::collect` is: with `Exhausted` and `NoMemory`. Then what is kept stays.
     ///
     /// Manual: `receive_response/2` with no time; ours: docs/DECISIONS.md, Requests.
-    pub fn collect<R: Wait>(&self, rt: &R, tag: Tag) -> Result<Collected<M::Content>, Refusal> {
+    pub fn collect<R: Wait>(&self, rt: &R, tag: Tag) -> Result<Collected<M::Content>, Refusal>
+        ensures { IsToldSomewhere (callbacks_of M.Module M.State.eq) (command.Collect tag) (collected_as result) }
+    {
         let (taken, mut desk, mut holder) = self.arrive(rt);
+        a_desk_is_the_replay_of_its_journal(&desk);
         let answer = desk.collect(tag);
         drop(give_back(taken, &mut holder, desk));
         answer
@@ -308,9 +319,11 @@ impl<M: Module> Machine<M> {
     /// Manual: `receive_response/1`; ours: docs/DECISIONS.md, Requests.
     pub fn wait_collect<R: Wait>(&self, rt: &R, tag: Tag) -> Result<Collected<M::Content>, Refusal>
         ensures collected { IfOk result (λ collected. collected ≡ Waiting → ⊥) }
+        ensures does { IsToldSomewhere (callbacks_of M.Module M.State.eq) (command.Collect tag) (collected_as result) }
     {
         for _ in rt.forever() {
             let (taken, mut desk, mut holder) = self.arrive(rt);
+            a_desk_is_the_replay_of_its_journal(&desk);
             let answer = desk.collect(tag);
             let gate = give_back(taken, &mut holder, desk);
             match answer {
@@ -335,9 +348,11 @@ impl<M: Module> Machine<M> {
         tag: Tag,
         content: M::Content,
     ) -> Result<bool, Refused<M::Content>>
+        ensures does { IsToldSomewhere (callbacks_of M.Module M.State.eq) (command.Reply tag content) (replied_as result) }
         ensures returned { IfErr result (λ refused. refused.value ≡ content) }
     {
         let (taken, mut desk, mut holder) = self.arrive(rt);
+        a_desk_is_the_replay_of_its_journal(&desk);
         let answer = desk.reply(tag, content);
         drop(give_back(taken, &mut holder, desk));
         self.told.notify_all();
@@ -349,8 +364,11 @@ impl<M: Module> Machine<M> {
     /// Refused as `Cell::stop` is: with `Stopped` and `Exhausted`. It takes no memory.
     ///
     /// Manual: `stop/3`; ours: docs/DECISIONS.md, A stop from outside.
-    pub fn stop<R: Wait>(&self, rt: &R, reason: Reason) -> Result<u32, Refusal> {
+    pub fn stop<R: Wait>(&self, rt: &R, reason: Reason) -> Result<u32, Refusal>
+        ensures { IsToldSomewhere (callbacks_of M.Module M.State.eq) (command.Stop reason) (stopped_as result) }
+    {
         let (taken, mut desk, mut holder) = self.arrive(rt);
+        a_desk_is_the_replay_of_its_journal(&desk);
         let answer = desk.stop(reason);
         drop(give_back(taken, &mut holder, desk));
         self.told.notify_all();

@@ -1,4 +1,4 @@
-use Rattle.std.proofs.Common.{Some, ap, sym, ◌∙◌, subst}
+use Rattle.std.proofs.Common.{Some, ap, sym, subst}
 use Rattle.st_lock.specs.Claims.{Fits, desk_of}
 use Rattle.st_lock.proofs.ClaimLemmas.{more_fits, next_fits}
 use Rattle.st_lock.proofs.machine.Machine.port.Goals as goal
