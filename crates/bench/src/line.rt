@@ -9,13 +9,15 @@ use crate::load::{Load, Work};
 use crate::pool::play;
 use crate::queue::pass;
 use crate::robbed_queue::RobbedQueue;
+use crate::rounds::rounds;
 use crate::shared::{Shared, cast_in_threads, share};
 use crate::shared_queue::SharedQueue;
+use crate::workers::{call_to_pool, cast_to_pool, insert_by_workers};
 use st_core::{Core, MachineId, Refusal};
+use st_pool::Runtime;
 use st_runq::Lane;
 use std::alloc::Global;
 use std::sync::{Arc, Wait};
-use std::thread::Threads;
 
 /// The identity of a measured machine.
 const ID: MachineId = MachineId { slot: 0, serial: 1 };
@@ -78,10 +80,24 @@ pub enum Line {
     ThreadsOfOne,
     /// Casts by so many threads, each to a machine of its own.
     ThreadsApart,
+    /// Rounds of a worker on whose own run queue so many tokens stand, and whose turns do nothing: those that serve a
+    /// token are counted.
+    Rounds,
+    /// Casts that keep the state, to a machine that a pool's one worker serves, and whose journal is cut where so many
+    /// were posted.
+    PoolCasts,
+    /// Calls of such a machine, each of which waits for its reply.
+    PoolCalls,
+    /// Events that so many machines insert and handle, served by a pool of one worker.
+    OneWorker,
+    /// The same by two workers.
+    TwoWorkers,
+    /// The same by four workers.
+    FourWorkers,
 }
 
 /// Each line by its name.
-pub const LINES: [(&str, Line); 26] = [
+pub const LINES: [(&str, Line); 32] = [
     ("casts", Line::Casts),
     ("casts-beside", Line::CastsBeside),
     ("casts-with-ticks", Line::CastsWithTicks),
@@ -108,12 +124,18 @@ pub const LINES: [(&str, Line); 26] = [
     ("port-calls", Line::PortCalls),
     ("threads-of-one", Line::ThreadsOfOne),
     ("threads-apart", Line::ThreadsApart),
+    ("rounds", Line::Rounds),
+    ("pool-casts", Line::PoolCasts),
+    ("pool-calls", Line::PoolCalls),
+    ("pool-1", Line::OneWorker),
+    ("pool-2", Line::TwoWorkers),
+    ("pool-4", Line::FourWorkers),
 ];
 
 impl Line {
-    /// Does the line so many times, and answers how many events were handled, replies collected, machines ended or
-    /// tokens taken.
-    pub fn done<R: Wait + Threads + Copy + Send + Drop + 'static>(
+    /// Does the line so many times, and answers how many events were handled, replies collected, machines ended, tokens
+    /// taken or rounds made that served one.
+    pub fn done<R: Runtime>(
         self,
         rt: R,
         alloc: Global,
@@ -131,6 +153,11 @@ impl Line {
             Line::CellCasts | Line::CellCalls => self.done_in_cell(alloc, count, more),
             Line::PortCasts | Line::PortCalls => self.done_by_port(rt, alloc, count, more),
             Line::ThreadsOfOne | Line::ThreadsApart => self.done_by_threads(rt, alloc, count, more),
+            Line::Rounds => rounds(&rt, alloc, count, more),
+            Line::PoolCasts | Line::PoolCalls => self.done_by_client(rt, alloc, count, more),
+            Line::OneWorker | Line::TwoWorkers | Line::FourWorkers => {
+                self.done_by_workers(rt, alloc, count, more)
+            }
             _ => self.done_by_load(alloc, count, more),
         }
     }
@@ -183,7 +210,7 @@ impl Line {
     }
 
     /// Does a line of so many threads.
-    fn done_by_threads<R: Wait + Threads + Copy + Send + Drop + 'static>(
+    fn done_by_threads<R: Runtime>(
         self,
         rt: R,
         alloc: Global,
@@ -210,6 +237,35 @@ impl Line {
             }
         }
         cast_in_threads(rt, alloc, machines, count)
+    }
+
+    /// Does a line of a client of a machine that a worker serves.
+    fn done_by_client<R: Runtime>(
+        self,
+        rt: R,
+        alloc: Global,
+        count: u32,
+        more: u32,
+    ) -> Result<u64, Refusal> {
+        match self {
+            Line::PoolCasts => cast_to_pool(rt, alloc, count, more),
+            _ => call_to_pool(rt, alloc, count, more),
+        }
+    }
+
+    /// Does a line of machines that workers serve.
+    fn done_by_workers<R: Runtime>(
+        self,
+        rt: R,
+        alloc: Global,
+        count: u32,
+        more: u32,
+    ) -> Result<u64, Refusal> {
+        match self {
+            Line::OneWorker => insert_by_workers(rt, alloc, 1, count, more),
+            Line::TwoWorkers => insert_by_workers(rt, alloc, 2, count, more),
+            _ => insert_by_workers(rt, alloc, 4, count, more),
+        }
     }
 
     /// Does a line of one machine.

@@ -1,25 +1,31 @@
-//! `bench NAME COUNT [MORE]`: does what one line says, COUNT times, and prints how many events were handled, or how many
-//! tokens came out of a run queue in order. It has no clock: `tools/count-instructions` counts what the processor does.
+//! `bench NAME COUNT [MORE]`: does what one line says, COUNT times, and prints how many events were handled, how many
+//! tokens came out of a run queue in order, or how many rounds served one. It has no clock: `tools/count-instructions`
+//! counts what the processor does.
 //! `bench all COUNT [MORE]` does each line.
 #![tactic(auto)]
 
 mod cell;
+mod client;
 mod drive;
+mod halls;
 mod latch;
 mod line;
 mod load;
 mod pool;
 mod queue;
+mod restless;
 mod robbed_queue;
+mod rounds;
 mod shared;
 mod shared_queue;
+mod silent;
+mod workers;
 
 use line::{LINES, Line};
 use st_core::Refusal;
+use st_pool::Runtime;
 use std::alloc::Global;
 use std::process::ExitCode;
-use std::sync::Wait;
-use std::thread::Threads;
 use std::{env, io};
 
 /// The status of words that are not understood.
@@ -36,7 +42,7 @@ fn line_of(name: &str) -> Option<Line> {
 }
 
 /// Does one line, and writes down what it counts.
-fn measure<R: Wait + Threads + Copy + Send + Drop + 'static>(
+fn measure<R: Runtime>(
     rt: R,
     alloc: Global,
     name: &str,
@@ -51,7 +57,7 @@ fn measure<R: Wait + Threads + Copy + Send + Drop + 'static>(
 }
 
 /// Does the line of a name, or each of them, and answers what was written down; nothing where no line has that name.
-fn report<R: Wait + Threads + Copy + Send + Drop + 'static>(
+fn report<R: Runtime>(
     rt: R,
     alloc: Global,
     name: &str,

@@ -1,10 +1,11 @@
-//! The machines that threads share: a registry under one lock, each of its machines under a lock of its own. It knows
-//! nothing of who serves them.
+//! The machines that threads share: a registry under one lock, each of its machines under a lock of its own. A pool's
+//! workers serve them; it knows nothing of these.
 #![tactic(auto)]
 
 mod copies;
 mod hall;
 mod kept;
+mod machines;
 
 pub use hall::Hall;
 pub use st_registry::{

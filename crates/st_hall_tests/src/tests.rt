@@ -2,14 +2,16 @@
 
 mod begun;
 mod cast;
+mod counting;
+mod exhausted;
 mod halls;
 mod host;
 mod looks;
 mod mark;
 mod memory;
 mod plain;
-mod plains;
 mod pools;
 mod silent;
+mod sole;
 mod together;
 mod turnstile;

@@ -1,19 +1,24 @@
-//! `statem run`: reads a script on standard input, and writes what it prints to standard output.
+//! `statem`: runs a script of doors, which it reads on standard input, and writes to standard output what it prints.
 //! It knows nothing of any rule.
 #![tactic(auto)]
 
 ghost use Rattle.std.specs.Prelude.{◌≡◌, ◌<◌};
-ghost use Rattle.statem.specs.Program.{mode_of, status_of};
+ghost use Rattle.statem.specs.Program.{status_of};
+ghost use Rattle.st_words.specs.Order.{HasWorkers};
 
+use clap::Error;
+use clap::error::ErrorKind;
 use st_door::{Counted, Mode, ScriptFault, run_script};
+use st_door_pool::{Runtime, run_pool};
+use st_words::{Order, read_words};
 use std::env;
-use std::io::{self, ErrorKind};
+use std::io;
 use std::marker::Brand;
 use std::process::ExitCode;
 use std::sync::ledger::{Blank, Ledger};
 
-/// The status of words that are not understood.
-const NOT_UNDERSTOOD: u8 = 2;
+/// The status of words that are at fault.
+const WORDS_AT_FAULT: u8 = 2;
 
 /// The program's status after a fault.
 fn status_of(fault: ScriptFault) -> u8
@@ -25,49 +30,72 @@ fn status_of(fault: ScriptFault) -> u8
     }
 }
 
-/// What the words after the program's name ask for: `run` is the one that is understood.
-fn mode_of(words: &[String]) -> Option<Mode>
-    ensures { result ≡ mode_of words.now }
-{
-    match words {
-        [_, word] if word.as_str() == "run" => Some(Mode::Run),
-        _ => None,
-    }
-}
-
 /// The program's name and the words after it.
 fn words(rt: &HostRuntime) -> io::Result<Vec<String>> {
     Ok(env::args(rt)?.collect(rt.alloc())?)
 }
 
-/// What the program is asked for. Words that are not text are not understood.
-fn asked(rt: &HostRuntime) -> Result<Option<Mode>, ScriptFault> {
-    match words(rt) {
-        Ok(words) => Ok(mode_of(words.as_slice())),
-        Err(fault) if fault.kind() == ErrorKind::OutOfMemory => Err(ScriptFault::Memory),
-        Err(_) => Ok(None),
-    }
-}
-
 /// Does what is asked for between the standard streams, and answers the program's status.
-fn done<A: Ledger, B: Ledger>(
+fn done<A: Ledger, B: Ledger, R: Runtime>(
     rt: &HostRuntime,
+    threads: R,
+    order: Order,
     reads: Blank,
     writes: Blank,
 ) -> Result<u8, ScriptFault>
+    requires workers { HasWorkers order }
     requires reads { (reads.name ≡ A.name) × (reads.parts ≡ A.parts) × (0 < reads.parts) }
     requires writes { (writes.name ≡ B.name) × (writes.parts ≡ B.parts) × (0 < writes.parts) }
 {
-    let Some(mode) = asked(rt)? else {
-        return Ok(NOT_UNDERSTOOD);
-    };
+    let alloc = rt.alloc();
     let mut reader: Counted<_, A> = Counted::new(rt.stdin(), reads);
     let mut writer: Counted<_, B> = Counted::new(rt.stdout(), writes);
-    run_script(rt.alloc(), mode, &mut reader, &mut writer)
+    match order {
+        Order::Run => run_script(alloc, Mode::Run, &mut reader, &mut writer),
+        Order::Trace => run_script(alloc, Mode::Trace, &mut reader, &mut writer),
+        Order::Pool(workers) => {
+            run_pool(threads, alloc, usize::from(workers), &mut reader, &mut writer)
+        }
+    }
+}
+
+/// Says what `clap` has to say, and answers the program's status: help goes to standard output, a fault of the words to
+/// standard error.
+fn told(rt: &HostRuntime, error: &Error) -> Result<u8, ScriptFault> {
+    if error.kind() == ErrorKind::OutOfMemory {
+        return Err(ScriptFault::Memory);
+    }
+    let text = error.to_string(rt.alloc())?;
+    if error.kind() == ErrorKind::DisplayHelp {
+        return match print!(rt; "{text}") {
+            Ok(()) => Ok(0),
+            Err(_) => Err(ScriptFault::Write),
+        };
+    }
+    let _ = eprint!(rt; "{text}");
+    Ok(WORDS_AT_FAULT)
+}
+
+/// Reads the program's words and does what they ask for.
+fn asked<R: Runtime>(rt: &HostRuntime, threads: R) -> Result<u8, ScriptFault> {
+    let words = match words(rt) {
+        Ok(words) => words,
+        Err(fault) if fault.kind() == io::ErrorKind::OutOfMemory => {
+            return Err(ScriptFault::Memory);
+        }
+        Err(_) => {
+            let _ = eprintln!(rt; "error: a word is not text");
+            return Ok(WORDS_AT_FAULT);
+        }
+    };
+    match read_words(rt.alloc(), words.as_slice()) {
+        Ok(order) => done::<Brand, Brand, R>(rt, threads, order, Blank::new(1), Blank::new(1)),
+        Err(error) => told(rt, &error),
+    }
 }
 
 fn main(rt: HostRuntime) -> ExitCode {
-    match done::<Brand, Brand>(&rt, Blank::new(1), Blank::new(1)) {
+    match asked(&rt, rt) {
         Ok(status) => ExitCode::from(status),
         Err(fault) => {
             let _ = eprintln!(rt; "statem: {fault}");

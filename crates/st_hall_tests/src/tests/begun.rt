@@ -4,9 +4,8 @@ ghost use Rattle.std.specs.Prelude.{◌≤◌};
 use super::host::Host;
 use super::mark::Mark;
 use super::plain::Plain;
-use super::plains::Plains;
 use st_hall::{Hall, Machine, MachineId, Port, Registry, Started};
-use st_pool::{Gate, Pool, PoolEnd, Runtime};
+use st_pool::{Gate, Machines, Pool, PoolEnd, Runtime};
 use std::process::Abort;
 use std::sync::{Arc, Wait};
 
@@ -21,10 +20,8 @@ pub fn mark(rt: &Host<impl Abort + AllocGlobal>, is_patient: bool) -> Arc<Mark> 
 }
 
 /// A hall with no machine.
-pub fn hall<R: Wait + Drop>(rt: &Host<impl AllocGlobal>, threads: R) -> Plains<R> {
-    Plains {
-        hall: Hall::new(threads, Registry::new(rt.alloc())),
-    }
+pub fn hall<R: Wait + Drop>(rt: &Host<impl AllocGlobal>, threads: R) -> Hall<Plain, R> {
+    Hall::new(threads, Registry::new(rt.alloc()))
 }
 
 /// A hall with so many machines, from the slot 0 on, each with a serial one above its slot.
@@ -33,23 +30,23 @@ pub fn filled<R: Wait + Drop>(
     threads: R,
     mark: &Arc<Mark>,
     count: usize,
-) -> Arc<Plains<R>> {
-    let plains = hall(rt, threads);
+) -> Arc<Hall<Plain, R>> {
+    let hall = hall(rt, threads);
     for _ in 0..count {
-        start(rt, &plains, mark, None);
+        start(rt, &hall, mark, None);
     }
-    Arc::new(rt.alloc(), plains).expect(rt, "a hall")
+    Arc::new(rt.alloc(), hall).expect(rt, "a hall")
 }
 
 /// Starts a machine under a name, or under none, and answers its id.
 pub fn start<R: Wait + Drop>(
     rt: &Host<impl Abort>,
-    plains: &Plains<R>,
+    hall: &Hall<Plain, R>,
     mark: &Arc<Mark>,
     name: Option<&str>,
 ) -> MachineId {
     let plain = Plain::new(mark).expect(rt, "an owner");
-    match plains.hall.start(name, plain, &(), 0) {
+    match hall.start(name, plain, &(), 0) {
         Ok(Started::Running { id, wake: None }) => id,
         _ => panic!(rt; "it runs, and has no work"),
     }
@@ -59,10 +56,10 @@ pub fn start<R: Wait + Drop>(
 pub fn port<R: Wait + Drop>(
     rt: &Host<impl Abort>,
     threads: &impl Wait,
-    plains: &Plains<R>,
+    hall: &Hall<Plain, R>,
     id: MachineId,
 ) -> Port<Plain> {
-    let machine = plains.hall.machine(id).expect(rt, "it is there");
+    let machine = hall.machine(id).expect(rt, "it is there");
     Machine::port(&machine, threads).expect(rt, "a port")
 }
 
@@ -70,13 +67,13 @@ pub fn port<R: Wait + Drop>(
 pub fn ports<R: Runtime>(
     rt: &Host<impl Abort + AllocGlobal>,
     threads: R,
-    plains: &Plains<R>,
+    hall: &Hall<Plain, R>,
     count: usize,
 ) -> Vec<Port<Plain>> {
     let mut ports = Vec::new(rt.alloc());
     for slot in 0..count {
         let serial = (slot as u64).saturating_add(1);
-        let port = port(rt, &threads, plains, id(slot, serial));
+        let port = port(rt, &threads, hall, id(slot, serial));
         if ports.push(port).is_err() {
             panic!(rt; "a place");
         }
@@ -84,17 +81,21 @@ pub fn ports<R: Runtime>(
     ports
 }
 
-/// A pool of so many workers.
-pub fn started<R: Runtime, G: Gate + Drop + Send + Sync + 'static>(
+/// A pool of so many workers, which serve these machines.
+pub fn started<R, T, G>(
     rt: &Host<impl Abort + AllocGlobal>,
     threads: R,
     workers: usize,
-    plains: &Arc<Plains<R>>,
+    machines: &Arc<T>,
     gate: &Arc<G>,
 ) -> Pool<R>
+where
+    R: Runtime,
+    T: Machines + Drop + Send + Sync + 'static,
+    G: Gate + Drop + Send + Sync + 'static,
     requires { (1 ≤ workers) × (workers ≤ 16) }
 {
-    Pool::start(threads, rt.alloc(), workers, plains, gate).expect(rt, "a pool")
+    Pool::start(threads, rt.alloc(), workers, machines, gate).expect(rt, "a pool")
 }
 
 /// Closes a pool.

@@ -2,8 +2,7 @@
 use super::begun::{hall, id, mark, port, start};
 use super::host::Host;
 use super::plain::Plain;
-use super::plains::Plains;
-use st_hall::{MachineId, Port, Refusal, Token};
+use st_hall::{Hall, MachineId, Port, Refusal, Token};
 use st_lock::Entry;
 use std::process::Abort;
 use std::sync::Wait;
@@ -17,21 +16,21 @@ fn posted(rt: &Host<impl Abort>, threads: &impl Wait, port: &mut Port<Plain>) ->
 }
 
 /// Serves a machine that has two events by its token. A turn at a moment that is too late leaves the token outstanding.
-fn is_served_twice<R: Wait + Drop>(rt: &Host<impl Abort>, plains: &Plains<R>, token: Token) {
-    assert_eq!(rt; plains.hall.turn(token, 1 << 63), Some(token));
-    assert_eq!(rt; plains.hall.turn(token, 5), Some(token));
-    assert_eq!(rt; plains.hall.turn(token, 5), None);
-    assert_eq!(rt; plains.hall.turn(token, 5), None);
+fn is_served_twice<R: Wait + Drop>(rt: &Host<impl Abort>, hall: &Hall<Plain, R>, token: Token) {
+    assert_eq!(rt; hall.turn(token, 1 << 63), Some(token));
+    assert_eq!(rt; hall.turn(token, 5), Some(token));
+    assert_eq!(rt; hall.turn(token, 5), None);
+    assert_eq!(rt; hall.turn(token, 5), None);
 }
 
 /// Stops a machine.
 fn stop<R: Wait + Drop>(
     rt: &Host<impl Abort>,
     threads: &impl Wait,
-    plains: &Plains<R>,
+    hall: &Hall<Plain, R>,
     id: MachineId,
 ) {
-    let machine = plains.hall.machine(id).expect(rt, "it is there");
+    let machine = hall.machine(id).expect(rt, "it is there");
     assert_eq!(rt; machine.id(), id);
     assert_eq!(rt; machine.stop(threads, 3), Ok(7));
 }
@@ -40,35 +39,35 @@ fn stop<R: Wait + Drop>(
 fn is_removed<R: Wait + Drop>(
     rt: &Host<impl Abort>,
     threads: &impl Wait,
-    plains: &Plains<R>,
+    hall: &Hall<Plain, R>,
     id: MachineId,
     name: &str,
 ) {
-    assert_eq!(rt; plains.hall.remove_stopped(id), Err(Refusal::NotStopped));
-    stop(rt, threads, plains, id);
-    assert_eq!(rt; plains.hall.remove_stopped(id), Ok(()));
-    assert_eq!(rt; plains.hall.remove_stopped(id), Err(Refusal::NoSuchMachine));
-    assert_eq!(rt; plains.hall.whereis(name), Err(Refusal::NoSuchName));
-    assert!(rt; plains.hall.machine(id).err() == Some(Refusal::NoSuchMachine));
+    assert_eq!(rt; hall.remove_stopped(id), Err(Refusal::NotStopped));
+    stop(rt, threads, hall, id);
+    assert_eq!(rt; hall.remove_stopped(id), Ok(()));
+    assert_eq!(rt; hall.remove_stopped(id), Err(Refusal::NoSuchMachine));
+    assert_eq!(rt; hall.whereis(name), Err(Refusal::NoSuchName));
+    assert!(rt; hall.machine(id).err() == Some(Refusal::NoSuchMachine));
 }
 
 #[test]
 fn a_machine_is_found_served_and_removed(rt: HostRuntime) {
     let threads = rt;
     let rt = Host::with_memory(rt);
-    let plains = hall(&rt, threads);
-    assert!(rt; plains.hall.is_empty());
-    let id = start(&rt, &plains, &mark(&rt, true), Some("front"));
-    assert_eq!(rt; plains.hall.whereis("front"), Ok(id));
-    assert_eq!(rt; plains.hall.len(), 1);
-    let mut port = port(&rt, &threads, &plains, id);
+    let hall = hall(&rt, threads);
+    assert!(rt; hall.is_empty());
+    let id = start(&rt, &hall, &mark(&rt, true), Some("front"));
+    assert_eq!(rt; hall.whereis("front"), Ok(id));
+    assert_eq!(rt; hall.len(), 1);
+    let mut port = port(&rt, &threads, &hall, id);
     let first = posted(&rt, &threads, &mut port);
-    is_served_twice(&rt, &plains, first);
+    is_served_twice(&rt, &hall, first);
     let second = posted(&rt, &threads, &mut port);
     assert!(rt; second != first);
-    is_removed(&rt, &threads, &plains, id, "front");
-    assert_eq!(rt; plains.hall.turn(second, 5), None);
-    assert!(rt; plains.hall.is_empty());
+    is_removed(&rt, &threads, &hall, id, "front");
+    assert_eq!(rt; hall.turn(second, 5), None);
+    assert!(rt; hall.is_empty());
     rt.end_with_memory();
 }
 
@@ -76,15 +75,15 @@ fn a_machine_is_found_served_and_removed(rt: HostRuntime) {
 fn names_stand_in_order(rt: HostRuntime) {
     let threads = rt;
     let rt = Host::with_memory(rt);
-    let plains = hall(&rt, threads);
+    let hall = hall(&rt, threads);
     let mark = mark(&rt, true);
     for name in ["front", "back", "side"] {
-        start(&rt, &plains, &mark, Some(name));
+        start(&rt, &hall, &mark, Some(name));
     }
-    assert_eq!(rt; plains.hall.unregister("back"), Ok(()));
-    assert_eq!(rt; plains.hall.unregister("back"), Err(Refusal::NoSuchName));
-    assert_eq!(rt; plains.hall.len(), 3);
-    let names = plains.hall.names(rt.alloc()).expect(&rt, "there is memory");
+    assert_eq!(rt; hall.unregister("back"), Ok(()));
+    assert_eq!(rt; hall.unregister("back"), Err(Refusal::NoSuchName));
+    assert_eq!(rt; hall.len(), 3);
+    let names = hall.names(rt.alloc()).expect(&rt, "there is memory");
     assert_eq!(rt; names.len(), 2);
     assert!(rt; names[0].0.as_str() == "front" && names[0].1 == id(0, 1));
     assert!(rt; names[1].0.as_str() == "side" && names[1].1 == id(2, 3));

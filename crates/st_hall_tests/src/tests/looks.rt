@@ -64,17 +64,17 @@ fn seen_after(
 fn a_look_shows_what_the_last_turn_reported(rt: HostRuntime) {
     let threads = rt;
     let rt = Host::with_memory(rt);
-    let plains = hall(&rt, threads);
-    let id = start(&rt, &plains, &mark(&rt, true), None);
-    let mut port = port(&rt, &threads, &plains, id);
+    let hall = hall(&rt, threads);
+    let id = start(&rt, &hall, &mark(&rt, true), None);
+    let mut port = port(&rt, &threads, &hall, id);
     let posted = match port.post(&threads, Entry::Cast, 2) {
         Ok(posted) => posted,
         Err(_) => panic!(rt; "it is posted"),
     };
     let token = posted.wake.expect(&rt, "it was at rest");
-    assert_eq!(rt; plains.hall.turn(token, 5), Some(token));
+    assert_eq!(rt; hall.turn(token, 5), Some(token));
     assert_eq!(rt; seen_after(&rt, &threads, &mut port, posted.number), 1);
-    assert_eq!(rt; plains.hall.turn(token, 5), None);
+    assert_eq!(rt; hall.turn(token, 5), None);
     assert_eq!(rt;
         seen_after(&rt, &threads, &mut port, posted.number.saturating_add(1)),
         0

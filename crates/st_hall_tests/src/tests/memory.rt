@@ -3,8 +3,7 @@ use super::begun::{hall, id};
 use super::host::Host;
 use super::mark::Mark;
 use super::plain::Plain;
-use super::plains::Plains;
-use st_hall::{MachineId, Refusal, Started};
+use st_hall::{Hall, MachineId, Refusal, Started};
 use std::alloc::Global;
 use std::process::Abort;
 use std::sync::{Arc, Wait};
@@ -23,34 +22,32 @@ fn mark(rt: &Host<impl Abort>, alloc: Global) -> Arc<Mark> {
 /// Starts the first machine of a hall. Where there is no memory, the module comes back, and it is started again.
 fn start<R: Wait + Drop>(
     rt: &Host<impl Abort>,
-    plains: &Plains<R>,
+    hall: &Hall<Plain, R>,
     plain: Plain,
     name: &str,
 ) -> Option<Started> {
-    let refused = match plains.hall.start(Some(name), plain, &(), 0) {
+    let refused = match hall.start(Some(name), plain, &(), 0) {
         Ok(started) => return Some(started),
         Err(refused) => refused,
     };
     assert_eq!(rt; refused.refusal, Refusal::NoMemory);
-    assert!(rt; plains.hall.is_empty());
-    assert_eq!(rt; plains.hall.whereis(name), Err(Refusal::NoSuchName));
+    assert!(rt; hall.is_empty());
+    assert_eq!(rt; hall.whereis(name), Err(Refusal::NoSuchName));
     rt.retry();
-    plains.hall.start(Some(name), refused.value, &(), 0).ok()
+    hall.start(Some(name), refused.value, &(), 0).ok()
 }
 
 /// A copy of a hall's names. Where there is no memory, it is made again.
 fn names<R: Wait + Drop>(
     rt: &Host<impl Abort>,
-    plains: &Plains<R>,
+    hall: &Hall<Plain, R>,
     alloc: Global,
 ) -> Vec<(String, MachineId)> {
-    match plains.hall.names(alloc) {
+    match hall.names(alloc) {
         Ok(names) => names,
         Err(_) => {
             rt.retry();
-            plains
-                .hall
-                .names(alloc)
+            hall.names(alloc)
                 .expect(rt, "one allocation alone is refused")
         }
     }
@@ -61,11 +58,11 @@ fn a_refused_call_changes_nothing(rt: HostRuntime) {
     let threads = rt;
     let rt = Host::new(rt);
     let plain = Plain::new(&mark(&rt, rt.alloc())).expect(&rt, "an owner takes no memory");
-    let plains = hall(&rt, threads);
-    let started = start(&rt, &plains, plain, "front");
+    let hall = hall(&rt, threads);
+    let started = start(&rt, &hall, plain, "front");
     let id = id(0, 1);
     assert_eq!(rt; started, Some(Started::Running { id, wake: None }));
-    let names = names(&rt, &plains, rt.alloc());
+    let names = names(&rt, &hall, rt.alloc());
     assert_eq!(rt; names.len(), 1);
     assert!(rt; names[0].0.as_str() == "front" && names[0].1 == id);
     rt.end();

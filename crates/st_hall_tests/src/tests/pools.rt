@@ -26,10 +26,10 @@ fn a_thousand_machines_make_ten_turns_each(rt: HostRuntime) {
     let threads = rt;
     let rt = Host::with_memory(rt);
     let mark = mark(&rt, true);
-    let plains = filled(&rt, threads, &mark, 1_000);
-    let mut ports = ports(&rt, threads, &plains, 1_000);
+    let hall = filled(&rt, threads, &mark, 1_000);
+    let mut ports = ports(&rt, threads, &hall, 1_000);
     let gate = Silent::new(rt.alloc()).expect(&rt, "a gate");
-    let mut pool = started(&rt, threads, 4, &plains, &gate);
+    let mut pool = started(&rt, threads, 4, &hall, &gate);
     casts_five(&rt, threads, &pool, &mut ports);
     pool.drain();
     // Five posts and ten turns.

@@ -40,9 +40,9 @@ fn serves_both<R: Runtime, G: Gate + Drop + Send + Sync + 'static>(
 )
     requires { (1 ≤ workers) × (workers ≤ 16) }
 {
-    let plains = filled(rt, threads, mark, 2);
-    let mut ports = ports(rt, threads, &plains, 2);
-    let mut pool = started(rt, threads, workers, &plains, gate);
+    let hall = filled(rt, threads, mark, 2);
+    let mut ports = ports(rt, threads, &hall, 2);
+    let mut pool = started(rt, threads, workers, &hall, gate);
     casts_both(rt, threads, &pool, &mut ports, contents);
     pool.drain();
     let end = closes(rt, &mut pool);

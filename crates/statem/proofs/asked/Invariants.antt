@@ -1,4 +1,4 @@
-use Rattle.statem.proofs.main.Given as goal
+use Rattle.statem.proofs.asked.Given as goal
 
 abbrev pub ghosts-done-A-Ledger : goal.ghosts-done-A-Ledger
 ghosts-done-A-Ledger a = record { name = a.reads.name; parts = a.reads.parts }

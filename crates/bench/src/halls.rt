@@ -1,0 +1,61 @@
+//! Halls of machines, and pools that serve them.
+ghost use Rattle.std.specs.Prelude.{◌≤◌};
+
+use crate::load::Load;
+use crate::silent::Silent;
+use st_core::Refusal;
+use st_hall::{Hall, Machine, Port, Registry, Started};
+use st_pool::{Pool, Runtime};
+use std::alloc::Global;
+use std::sync::Arc;
+
+/// A hall of so many machines, and a port of each.
+pub fn filled<R: Runtime>(
+    rt: R,
+    alloc: Global,
+    many: u32,
+) -> Result<(Arc<Hall<Load, R>>, Vec<Port<Load>>), Refusal> {
+    let hall = Hall::new(rt, Registry::new(alloc));
+    let mut ports = Vec::new(alloc);
+    for _ in 0..many {
+        if let Some(port) = started(&rt, &hall)? {
+            if ports.push(port).is_err() {
+                return Err(Refusal::NoMemory);
+            }
+        }
+    }
+    match Arc::new(alloc, hall) {
+        Ok(hall) => Ok((hall, ports)),
+        Err(_) => Err(Refusal::NoMemory),
+    }
+}
+
+/// Starts a machine, and opens a port of it.
+fn started<R: Runtime>(rt: &R, hall: &Hall<Load, R>) -> Result<Option<Port<Load>>, Refusal> {
+    match hall.start(None, Load, &0, 0) {
+        Ok(Started::Running { id, .. }) => Ok(Some(Machine::port(&hall.machine(id)?, rt)?)),
+        Ok(_) => Ok(None),
+        Err(refused) => Err(refused.refusal),
+    }
+}
+
+/// A pool of so many workers, which serve a hall.
+pub fn pool<R: Runtime>(
+    rt: R,
+    alloc: Global,
+    workers: usize,
+    hall: &Arc<Hall<Load, R>>,
+) -> Result<Pool<R>, Refusal>
+    requires { (1 ≤ workers) × (workers ≤ 16) }
+{
+    match Arc::new(alloc, Silent) {
+        Ok(gate) => Ok(Pool::start(rt, alloc, workers, hall, &gate)?),
+        Err(_) => Err(Refusal::NoMemory),
+    }
+}
+
+/// Waits until all tokens rest, closes a pool, and answers how many turns it made.
+pub fn turns<R: Runtime>(pool: &mut Pool<R>) -> Result<u64, Refusal> {
+    pool.drain();
+    Ok(pool.close()?.turns)
+}

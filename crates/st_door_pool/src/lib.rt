@@ -1,0 +1,12 @@
+//! A script whose doors are served by workers in threads: bytes in, the bytes of `run_script` out.
+#![tactic(auto)]
+
+mod clock;
+mod moment_rule;
+mod pooled_door;
+mod pooled_script;
+mod run;
+
+pub use run::run_pool;
+pub use st_door::{ScriptFault, Sink, Source};
+pub use st_pool::Runtime;

@@ -1,0 +1,331 @@
+//! Scripts whose outputs are worked out by hand.
+
+/// A script, what it prints, and its status.
+#[derive(Clone, Copy, Debug)]
+pub struct Worked {
+    pub script: &'static [u8],
+    pub output: &'static str,
+    pub status: u8,
+}
+
+/// No line at all.
+const EMPTY: Worked = Worked {
+    script: b"",
+    output: "",
+    status: 0,
+};
+
+/// A code opens a door.
+const OPENING: Worked = Worked {
+    script: b"new front 12\nbutton front 1\nbutton front 2\n",
+    output: "front locked buttons 0 waiting 0\n\
+         front locked buttons 1 waiting 0\n\
+         front open buttons 0 waiting 0\n",
+    status: 0,
+};
+
+/// The buttons are as many as the code has digits, the last ones.
+const LAST_BUTTONS: Worked = Worked {
+    script: b"new a 12\nbutton a 3\nbutton a 1\nbutton a 2\n",
+    output: "a locked buttons 0 waiting 0\n\
+         a locked buttons 1 waiting 0\n\
+         a locked buttons 2 waiting 0\n\
+         a open buttons 0 waiting 0\n",
+    status: 0,
+};
+
+/// Lines that are refused or malformed, and a last line without a line feed.
+const FAULTS: Worked = Worked {
+    script: b"button back 1\nnew front 12\nnew front 34\npress front 1",
+    output: "line 1 refused 8\n\
+         front locked buttons 0 waiting 0\n\
+         line 3 refused 7\n\
+         line 4 malformed\n",
+    status: 1,
+};
+
+/// Names stand in order of registration; blank lines and comments print nothing; carriage returns go.
+const TWO_DOORS: Worked = Worked {
+    script: b"new b 1\r\n  # doors\n\nnew a 2\n names  \nshow b\r",
+    output: "b locked buttons 0 waiting 0\n\
+         a locked buttons 0 waiting 0\n\
+         names b a\n\
+         b locked buttons 0 waiting 0\n",
+    status: 0,
+};
+
+/// What waits is dropped at a stop, and then the door takes no button.
+const STOPPING: Worked = Worked {
+    script: b"new a 1\nbutton a 1\nbutton a 1\nstop a 7\nshow a\nbutton a 1\n",
+    output: "a locked buttons 0 waiting 0\n\
+         a open buttons 0 waiting 0\n\
+         a open buttons 0 waiting 1\n\
+         a stopped 7 word 0\n\
+         a stopped 7 word 0\n\
+         line 6 refused 2\n",
+    status: 1,
+};
+
+/// The last word is the number of buttons.
+const LAST_WORD: Worked = Worked {
+    script: b"new a 12\nbutton a 1\nstop a 7\n",
+    output: "a locked buttons 0 waiting 0\n\
+         a locked buttons 1 waiting 0\n\
+         a stopped 7 word 1\n",
+    status: 0,
+};
+
+/// A button of an open door waits.
+const POSTPONING: Worked = Worked {
+    script: b"new front 12\nbutton front 1\nbutton front 2\nbutton front 1\n",
+    output: "front locked buttons 0 waiting 0\n\
+         front locked buttons 1 waiting 0\n\
+         front open buttons 0 waiting 0\n\
+         front open buttons 0 waiting 1\n",
+    status: 0,
+};
+
+/// It waits until the door is locked again, and then counts.
+const RETRYING: Worked = Worked {
+    script: b"new front 12\n\
+        button front 1\n\
+        button front 2\n\
+        button front 1\n\
+        at 10000\n\
+        show front\n\
+        button front 2\n",
+    output: "front locked buttons 0 waiting 0\n\
+         front locked buttons 1 waiting 0\n\
+         front open buttons 0 waiting 0\n\
+         front open buttons 0 waiting 1\n\
+         at 10000 expired 1\n\
+         front locked buttons 1 waiting 0\n\
+         front open buttons 0 waiting 0\n",
+    status: 0,
+};
+
+/// The buttons of a locked door are forgotten 30,000 milliseconds after the last one.
+const FORGETTING: Worked = Worked {
+    script: b"new a 12\nbutton a 1\nat 29999\nat 30000\nshow a\n",
+    output: "a locked buttons 0 waiting 0\n\
+         a locked buttons 1 waiting 0\n\
+         at 29999 expired 0\n\
+         at 30000 expired 1\n\
+         a locked buttons 0 waiting 0\n",
+    status: 0,
+};
+
+/// What a moment may be.
+const MOMENTS: Worked = Worked {
+    script: b"at 9223372036854775808\n\
+        at 10\n\
+        at 5\n\
+        at 18446744073709551615\n\
+        at 18446744073709551616\n\
+        at 00000000000000000011\n\
+        at 000000000000000000012\n\
+        at\n\
+        at 9223372036854775807\n",
+    output: "line 1 refused 4\n\
+         at 10 expired 0\n\
+         at 10 expired 0\n\
+         line 4 refused 4\n\
+         line 5 malformed\n\
+         at 11 expired 0\n\
+         line 7 malformed\n\
+         line 8 malformed\n\
+         at 9223372036854775807 expired 0\n",
+    status: 1,
+};
+
+/// Each door that has not ended is ticked.
+const THREE_DOORS: Worked = Worked {
+    script: b"new a 12\n\
+        new b 12\n\
+        new c 12\n\
+        button a 1\n\
+        button b 1\n\
+        button c 1\n\
+        stop c 7\n\
+        at 30000\n\
+        show b\n\
+        show c\n",
+    output: "a locked buttons 0 waiting 0\n\
+         b locked buttons 0 waiting 0\n\
+         c locked buttons 0 waiting 0\n\
+         a locked buttons 1 waiting 0\n\
+         b locked buttons 1 waiting 0\n\
+         c locked buttons 1 waiting 0\n\
+         c stopped 7 word 1\n\
+         at 30000 expired 2\n\
+         b locked buttons 0 waiting 0\n\
+         c stopped 7 word 1\n",
+    status: 0,
+};
+
+/// What a reason may be, and what a door that has ended refuses.
+const REASONS: Worked = Worked {
+    script: b"new a 1\n\
+        stop a 4294967296\n\
+        stop a 00000000007\n\
+        stop a +7\n\
+        stop a\n\
+        stop a 7 7\n\
+        stop b 7\n\
+        stop a 0000000007\n\
+        stop a 7\n\
+        new a 1\n\
+        names\n\
+        new b 1\n\
+        stop b 4294967295\n",
+    output: "a locked buttons 0 waiting 0\n\
+         line 2 malformed\n\
+         line 3 malformed\n\
+         line 4 malformed\n\
+         line 5 malformed\n\
+         line 6 malformed\n\
+         line 7 refused 8\n\
+         a stopped 7 word 0\n\
+         line 9 refused 2\n\
+         line 10 refused 7\n\
+         names a\n\
+         b locked buttons 0 waiting 0\n\
+         b stopped 4294967295 word 0\n",
+    status: 1,
+};
+
+/// A door says how long its code is; a call is an event, and so the buttons are not forgotten.
+const ASKING: Worked = Worked {
+    script: b"new a 12\nbutton a 1\nlength a\nat 30000\nshow a\n",
+    output: "a locked buttons 0 waiting 0\n\
+         a locked buttons 1 waiting 0\n\
+         a length 2\n\
+         at 30000 expired 0\n\
+         a locked buttons 1 waiting 0\n",
+    status: 0,
+};
+
+/// How long codes are, also of open doors, and which lengths are refused or malformed.
+const LENGTHS: Worked = Worked {
+    script: b"length a\n\
+        new a 1\n\
+        new b 1234567890123456\n\
+        length b\n\
+        length a\n\
+        button a 1\n\
+        length a\n\
+        length\n\
+        length a b\n\
+        stop b 7\n\
+        length b\n\
+        at 10000\n\
+        length a\n",
+    output: "line 1 refused 8\n\
+         a locked buttons 0 waiting 0\n\
+         b locked buttons 0 waiting 0\n\
+         b length 16\n\
+         a length 1\n\
+         a open buttons 0 waiting 0\n\
+         a length 1\n\
+         line 8 malformed\n\
+         line 9 malformed\n\
+         b stopped 7 word 0\n\
+         line 11 refused 2\n\
+         at 10000 expired 1\n\
+         a length 1\n",
+    status: 1,
+};
+
+/// Lines that are refused, each for its reason, and what is no form; none of them changes anything.
+const REFUSALS: Worked = Worked {
+    script: b"button back 1\n\
+        new front 12\n\
+        new front 34\n\
+        at 9223372036854775808\n\
+        press front 1\n\
+        stop front 7\n\
+        button front 1\n\
+        new front 34\n\
+        remove front\n\
+        names\n\
+        new front 34\n",
+    output: "line 1 refused 8\n\
+         front locked buttons 0 waiting 0\n\
+         line 3 refused 7\n\
+         line 4 refused 4\n\
+         line 5 malformed\n\
+         front stopped 7 word 0\n\
+         line 7 refused 2\n\
+         line 8 refused 7\n\
+         front removed\n\
+         names\n\
+         front locked buttons 0 waiting 0\n",
+    status: 1,
+};
+
+/// A door that has ended is removed; its name is free then, and the others keep their order, their moments and what they
+/// were.
+const REMOVING: Worked = Worked {
+    script: b"new a 1\n\
+        new b 2\n\
+        new c 3\n\
+        remove a\n\
+        stop b 5\n\
+        remove b\n\
+        names\n\
+        remove b\n\
+        remove\n\
+        remove b c\n\
+        remove B\n\
+        new b 4\n\
+        names\n\
+        button c 3\n\
+        stop a 1\n\
+        remove a\n\
+        show c\n\
+        at 10000\n\
+        show c\n\
+        names\n",
+    output: "a locked buttons 0 waiting 0\n\
+         b locked buttons 0 waiting 0\n\
+         c locked buttons 0 waiting 0\n\
+         line 4 refused 10\n\
+         b stopped 5 word 0\n\
+         b removed\n\
+         names a c\n\
+         line 8 refused 8\n\
+         line 9 malformed\n\
+         line 10 malformed\n\
+         line 11 malformed\n\
+         b locked buttons 0 waiting 0\n\
+         names a c b\n\
+         c open buttons 0 waiting 0\n\
+         a stopped 1 word 0\n\
+         a removed\n\
+         c open buttons 0 waiting 0\n\
+         at 10000 expired 1\n\
+         c locked buttons 0 waiting 0\n\
+         names c b\n",
+    status: 1,
+};
+
+/// All of them.
+pub const ALL: &[Worked] = &[
+    EMPTY,
+    OPENING,
+    LAST_BUTTONS,
+    FAULTS,
+    TWO_DOORS,
+    STOPPING,
+    LAST_WORD,
+    POSTPONING,
+    RETRYING,
+    FORGETTING,
+    MOMENTS,
+    THREE_DOORS,
+    REASONS,
+    ASKING,
+    LENGTHS,
+    REFUSALS,
+    REMOVING,
+];

@@ -1,0 +1,18 @@
+//! A hall's machines, as workers serve them.
+ghost use Rattle.std.specs.Prelude.{◌≡◌, IfSome};
+
+use crate::Hall;
+use st_pool::Machines;
+use st_registry::{Module, Token};
+use std::sync::Wait;
+
+/// Workers serve a hall as it is.
+///
+/// Ours: docs/DECISIONS.md, Halls.
+impl<M: Module, R: Wait + Drop> Machines for Hall<M, R> {
+    ghost served = { λ token now answer. IfSome answer (λ back. back ≡ token) };
+
+    fn turn(&self, token: Token, now: u64) -> Option<Token> {
+        Hall::turn(self, token, now)
+    }
+}
