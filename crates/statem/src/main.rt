@@ -11,11 +11,10 @@ use clap::error::ErrorKind;
 use st_door::{Counted, Mode, ScriptFault, run_script};
 use st_door_pool::{Runtime, run_pool};
 use st_words::{Order, read_words};
-use std::env;
-use std::io;
 use std::marker::Brand;
 use std::process::ExitCode;
 use std::sync::ledger::{Blank, Ledger};
+use std::{env, io};
 
 /// The status of words that are at fault.
 const WORDS_AT_FAULT: u8 = 2;
@@ -54,7 +53,13 @@ fn done<A: Ledger, B: Ledger, R: Runtime>(
         Order::Run => run_script(alloc, Mode::Run, &mut reader, &mut writer),
         Order::Trace => run_script(alloc, Mode::Trace, &mut reader, &mut writer),
         Order::Pool(workers) => {
-            run_pool(threads, alloc, usize::from(workers), &mut reader, &mut writer)
+            run_pool(
+                threads,
+                alloc,
+                usize::from(workers),
+                &mut reader,
+                &mut writer,
+            )
         }
     }
 }

@@ -142,7 +142,14 @@ fn run_once(alloc: Global, script: &[u8], way: Way) -> (Result<u8, ScriptFault>,
         by_lines: true,
         way,
     };
-    over::<Brand, Brand>(alloc, way.mode, reader, writer, Blank::new(1), Blank::new(1))
+    over::<Brand, Brand>(
+        alloc,
+        way.mode,
+        reader,
+        writer,
+        Blank::new(1),
+        Blank::new(1),
+    )
 }
 
 /// Sees that a script ends with this answer when these bytes are written. Where no memory was found, a

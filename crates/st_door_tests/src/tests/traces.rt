@@ -28,7 +28,14 @@ fn each_worked_script_prints_its_traces(rt: HostRuntime) {
     }
     for worked in ALL {
         let trace = worked.trace.as_bytes();
-        ends(&rt, rt.alloc(), worked.script, TRACED, Ok(worked.status), trace);
+        ends(
+            &rt,
+            rt.alloc(),
+            worked.script,
+            TRACED,
+            Ok(worked.status),
+            trace,
+        );
     }
 }
 
@@ -53,7 +60,14 @@ fn a_traced_script_ends_at_each_write_that_fails(rt: HostRuntime) {
             ..TRACED
         };
         let fault = Err(ScriptFault::Write);
-        ends(&rt, rt.alloc(), RETRYING.script, way, fault, &trace[..count]);
+        ends(
+            &rt,
+            rt.alloc(),
+            RETRYING.script,
+            way,
+            fault,
+            &trace[..count],
+        );
     }
     let way = Way {
         most: 1,
