@@ -7,8 +7,6 @@ mod joining;
 mod noted_timers;
 mod planned;
 mod planning;
-#[cfg(test)]
-mod tests;
 
 pub use enter_planning::plan_enter;
 pub use joining::join;

@@ -9,8 +9,6 @@ mod numbers;
 mod pending;
 mod schedule;
 mod slot;
-#[cfg(test)]
-mod tests;
 mod uncounted_queue;
 
 pub use agenda::Agenda;

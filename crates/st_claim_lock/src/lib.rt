@@ -8,8 +8,6 @@ mod hold;
 mod holder;
 mod steps;
 mod taken;
-#[cfg(test)]
-mod tests;
 mod tie;
 
 pub use claim_lock::ClaimLock;

@@ -5,8 +5,6 @@
 mod collection;
 mod request;
 mod sent;
-#[cfg(test)]
-mod tests;
 
 pub use collection::Collection;
 pub use request::Request;

@@ -7,8 +7,6 @@ mod laws;
 mod limits;
 mod names;
 mod place;
-#[cfg(test)]
-mod tests;
 mod values;
 
 pub use directory::Directory;

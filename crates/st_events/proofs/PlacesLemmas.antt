@@ -3,7 +3,7 @@ use Rattle.std.proofs.Common.{◌≡◌, ◌<◌, ◌++◌, List, [], ◌∷◌,
 use Rattle.std.specs.Option.{option_to_list, option_flatten, IsSome, IsNone, IfNone}
 use Rattle.std.specs.List.{refill}
 use Rattle.std.specs.Iterator.{YieldsFirst}
-use Rattle.std.proofs.lemmas.List.{map-append, take-map, take_all, drop_all}
+use Rattle.std.proofs.lemmas.List.{map-append, take-map, take_all, drop_all, length-map}
 use Rattle.std.proofs.lemmas.List.Elements.{filter_map-append}
 use Rattle.std.proofs.lemmas.Grind.{reverse_onto}
 use Rattle.st_events.specs.Places.{present, IsFull}
@@ -24,6 +24,10 @@ present-more places (Some x) = filter_map-append (λ place. place) places (Some 
 pub full-more : {T : Type 0} (places : List (Option T)) (x : T) → IsFull places → IsFull (places ++ Some x ∷ [])
 full-more places x full = full_from _ (present places ++ x ∷ [])
     (ap (λ t. t ++ Some x ∷ []) full ∙ sym (map-append Some (present places) (x ∷ [])))
+
+-- as many elements as places
+pub full-length : {T : Type 0} (places : List (Option T)) → IsFull places → length places ≡ length (present places)
+full-length places full = ap length full ∙ length-map (present places) Some
 
 -- fewer places
 pub full-take : {T : Type 0} (n : _) (places : List (Option T)) → IsFull places → IsFull (take n places)

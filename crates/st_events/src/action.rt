@@ -5,7 +5,7 @@ use crate::{Kind, SmallList, Tag, Time, Timer};
 /// One action of a callback.
 ///
 /// Manual: `action()`.
-#[derive(Debug, Drop)]
+#[derive(Drop)]
 pub enum Action<C> {
     /// Answers a request. Manual: `reply_action()`.
     Reply(Tag, C),

@@ -6,7 +6,7 @@ use crate::{SmallList, Tag, Time, Timer};
 /// events.
 ///
 /// Manual: `enter_action()`.
-#[derive(Debug, Drop)]
+#[derive(Drop)]
 pub enum EnterAction<C> {
     /// Answers a request. Manual: `reply_action()`.
     Reply(Tag, C),

@@ -5,7 +5,7 @@ use crate::{Actions, Reason};
 /// What `init` answers.
 ///
 /// Manual: `init_result()`.
-#[derive(Debug, Drop)]
+#[derive(Drop)]
 pub enum Init<S, D, C> {
     /// The machine starts in this state, with this data and these actions.
     Ok(S, D, Actions<C>),

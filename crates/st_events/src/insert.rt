@@ -5,7 +5,7 @@ use crate::{Kind, SmallList};
 /// An event that is to be inserted. It has no number yet.
 ///
 /// Manual: `action()`, the bullet on `next_event`.
-#[derive(Debug, Drop)]
+#[derive(Drop)]
 pub struct Insert<C> {
     /// Its type.
     pub kind: Kind,

@@ -23,8 +23,6 @@ mod setting;
 mod small_list;
 mod small_list_builder;
 mod tag;
-#[cfg(test)]
-mod tests;
 mod time;
 mod timer;
 mod token;

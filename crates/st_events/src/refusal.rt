@@ -5,49 +5,38 @@ ghost use Rattle.st_events.specs.declared.refusal.Refusal.TheVariants.{NoMemory}
 
 use crate::{MachineId, Reason};
 use std::alloc::AllocError;
-use thiserror::Error;
+use std::error::Error;
+use std::fmt::{self, Display, Formatter, Write};
 
 /// Why a call was refused. A refused call changes nothing, and gives back what it took.
 ///
 /// Ours: docs/TRANSITIONS.md, Refusals.
-#[derive(Clone, Copy, Debug, PartialEq, Eq, Error)]
+#[derive(Clone, Copy, Debug, PartialEq, Eq)]
 pub enum Refusal {
     /// Memory was wanted and there was none.
-    #[error("no memory")]
     NoMemory,
     /// The machine has ended, for this reason.
-    #[error("stopped")]
     Stopped(Reason),
     /// A counter has too few numbers left.
-    #[error("too few numbers left")]
     Exhausted,
     /// The moment is 2^63 milliseconds or more.
-    #[error("moment out of range")]
     Moment,
     /// The step of a pool is not possible: the machine, worker or run queue that it names is not there, or the
     /// token is not where it would be taken from.
-    #[error("not possible")]
     NotPossible,
     /// The token is not the machine's outstanding one.
-    #[error("token not outstanding")]
     NotQueued,
     /// The name is taken by this machine.
-    #[error("name already taken")]
     AlreadyStarted(MachineId),
     /// The name is not registered.
-    #[error("no such name")]
     NoSuchName,
     /// The id names no machine now.
-    #[error("no such machine")]
     NoSuchMachine,
     /// The machine has not ended, so it is not removed.
-    #[error("not stopped")]
     NotStopped,
     /// There are as many machines as there may be.
-    #[error("table full")]
     Full,
     /// The name is empty, or too long.
-    #[error("bad name")]
     BadName,
 }
 
@@ -73,7 +62,33 @@ impl Refusal {
             Refusal::BadName => 12,
         }
     }
+
+    /// What it is shown as.
+    fn text(&self) -> &'static str {
+        match self {
+            Refusal::NoMemory => "no memory",
+            Refusal::Stopped(_) => "stopped",
+            Refusal::Exhausted => "too few numbers left",
+            Refusal::Moment => "moment out of range",
+            Refusal::NotPossible => "not possible",
+            Refusal::NotQueued => "token not outstanding",
+            Refusal::AlreadyStarted(_) => "name already taken",
+            Refusal::NoSuchName => "no such name",
+            Refusal::NoSuchMachine => "no such machine",
+            Refusal::NotStopped => "not stopped",
+            Refusal::Full => "table full",
+            Refusal::BadName => "bad name",
+        }
+    }
 }
+
+impl Display for Refusal {
+    fn fmt<W: Write>(&self, f: &mut Formatter<W>) -> fmt::Result {
+        f.write_str(self.text())
+    }
+}
+
+impl Error for Refusal {}
 
 /// Want of memory is told as `NoMemory`, so that `?` turns it into a refusal.
 impl From<AllocError> for Refusal {

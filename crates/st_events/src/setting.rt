@@ -5,7 +5,7 @@ use crate::{SmallList, Time, Timer};
 /// A timer that is to be set, or stopped, and the content of its event. It has no number yet.
 ///
 /// Manual: `timeout_action()`.
-#[derive(Debug, Drop)]
+#[derive(Drop)]
 pub struct Setting<C> {
     /// Which timer.
     pub timer: Timer,

@@ -10,7 +10,7 @@ use std::marker::Model;
 /// A list in the making, for which memory is reserved first: after that no call can fail.
 ///
 /// Ours: docs/DECISIONS.md, Small vectors want a blank element.
-#[derive(Debug, Drop)]
+#[derive(Drop)]
 pub struct SmallListBuilder<T> {
     // Each is `Some`, as in the list that they become. Reserved is the capacity that is left.
     elements: SmallVec<Option<T>, 4>,

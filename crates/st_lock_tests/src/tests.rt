@@ -15,6 +15,7 @@ mod plain;
 mod played;
 mod row;
 mod shared;
+mod shows;
 mod threads;
 mod twin;
 mod whole;

@@ -3,8 +3,6 @@
 #![tactic(auto)]
 
 mod long_list;
-#[cfg(test)]
-mod tests;
 mod tiers;
 
 pub use long_list::LongList;

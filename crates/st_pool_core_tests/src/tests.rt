@@ -11,5 +11,6 @@ mod pooled;
 mod refusals;
 mod serving;
 mod shown;
+mod shows;
 mod told;
 mod whole;

@@ -5,7 +5,7 @@ ghost use Rattle.std.specs.Prelude.{◌≡◌, ◌+◌, [], ◌∷◌, ◌++◌,
 ghost use Rattle.st_post_counter.specs.Seen.{whole, part, IsWhole};
 
 use crate::{Counter, Endpoint};
-use host::Host;
+use host::{Host, got, same};
 use std::process::Abort;
 use std::thread;
 
@@ -14,13 +14,17 @@ fn new_counter(rt: &Host<impl Abort + AllocGlobal>) -> (Counter<u64>, Endpoint<u
     ensures machine { result.1 ≡ record { counter = result.0; seen = whole [] } }
     ensures port { result.2 ≡ record { counter = result.0; seen = part [] } }
 {
-    match Counter::open(rt.alloc()) {
-        Ok(made) => made,
-        Err(_) => {
-            rt.retry();
-            Counter::open(rt.alloc()).expect(rt, "one allocation alone is refused")
-        }
+    if let Ok(made) = Counter::open(rt.alloc()) {
+        return made;
     }
+    rt.retry();
+    let made = Counter::open(rt.alloc());
+    got(rt, "one allocation alone is refused", made)
+}
+
+/// Looks at the word of a counter.
+fn counts(rt: &impl Abort, counter: &Counter<u64>, count: u64) {
+    same(rt, "the word", &counter.table.shared.peek(0), &count);
 }
 
 /// The machine's endpoint sees a post more, the word is the new count, and the port's endpoint follows.
@@ -40,9 +44,9 @@ fn post(
     ensures port { port.new ≡ record port.old { seen = part (machine.old.seen.posts ++ post ∷ []) } }
 {
     counter.add(machine, count, &post);
-    assert_eq!(rt; counter.table.shared.peek(0), count);
+    counts(rt, counter, count);
     counter.follow(machine, port);
-    assert_eq!(rt; counter.table.shared.peek(0), count);
+    counts(rt, counter, count);
 }
 
 /// Three posts are added and followed.
@@ -66,10 +70,10 @@ fn post_three(
 fn a_port_follows_three_posts(rt: HostRuntime) {
     let rt = Host::new(rt);
     let (counter, mut machine, mut port) = new_counter(&rt);
-    assert_eq!(rt; counter.table.shared.peek(0), 0);
+    counts(&rt, &counter, 0);
     post_three(&rt, &counter, &mut machine, &mut port);
     counter.agree(&mut machine, &mut port);
-    assert_eq!(rt; counter.table.shared.peek(0), 3);
+    counts(&rt, &counter, 3);
     rt.end();
 }
 
@@ -91,9 +95,10 @@ fn another_thread_posts(rt: HostRuntime) {
         Ok(child) => child,
         Err(refused) => {
             rt.retry();
-            thread::spawn(&threads, refused.value).expect(&rt, "one allocation alone is refused")
+            let again = thread::spawn(&threads, refused.value);
+            got(&rt, "one allocation alone is refused", again)
         }
     };
-    assert_eq!(rt; child.join(&threads), 1);
+    same(&rt, "the word", &child.join(&threads), &1);
     rt.end();
 }

@@ -4,7 +4,5 @@
 
 mod chain;
 mod event_queue;
-#[cfg(test)]
-mod tests;
 
 pub use event_queue::EventQueue;

@@ -7,8 +7,6 @@ mod held;
 mod request;
 mod request_state;
 mod requests;
-#[cfg(test)]
-mod tests;
 
 pub use collected::Collected;
 pub use held::Held;

@@ -11,8 +11,6 @@ mod seats;
 mod seen;
 mod shared;
 mod steps;
-#[cfg(test)]
-mod tests;
 mod thief;
 
 pub use inlet::Inlet;

@@ -7,8 +7,6 @@ mod key;
 mod moment;
 mod order;
 mod running;
-#[cfg(test)]
-mod tests;
 mod timeouts;
 mod zeros;
 

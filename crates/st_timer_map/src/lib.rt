@@ -5,8 +5,6 @@ mod index;
 mod kept;
 mod slot;
 mod slots;
-#[cfg(test)]
-mod tests;
 mod timer_map;
 
 pub use kept::Kept;

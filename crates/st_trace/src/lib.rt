@@ -7,8 +7,6 @@ mod entries;
 mod lines;
 mod rest;
 mod state_names;
-#[cfg(test)]
-mod tests;
 mod totals;
 mod tracing;
 

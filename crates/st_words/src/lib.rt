@@ -5,8 +5,6 @@
 mod asked;
 mod order;
 mod program;
-#[cfg(test)]
-mod tests;
 mod words;
 
 pub use order::Order;

@@ -1,7 +1,7 @@
 //! How a registry and its doors begin.
-use super::host::Host;
-use st_client::{Machine, MachineId, Port, Refusal};
-use st_door::{Digits, Door};
+use super::host::{Host, got, holds};
+use st_client::{Machine, MachineId, Port, Refusal, Refused};
+use st_door::{Digits, Door, DoorContent};
 use st_registry::{Registry, Started};
 use std::alloc::Global;
 use std::process::Abort;
@@ -10,6 +10,18 @@ use std::sync::{Arc, Wait};
 /// The id of this place and serial.
 pub fn id(slot: usize, serial: u64) -> MachineId {
     MachineId { slot, serial }
+}
+
+/// A call was refused for want of memory, and is made again.
+pub fn is_made_again(rt: &Host<impl Abort>, refusal: Refusal) {
+    holds(rt, "memory was refused", refusal == Refusal::NoMemory);
+    rt.retry();
+}
+
+/// A call was refused for want of memory, gave back the content that it was given, and is made again.
+pub fn is_given_back(rt: &Host<impl Abort>, refused: &Refused<DoorContent>, content: DoorContent) {
+    holds(rt, "the content comes back", refused.value == content);
+    is_made_again(rt, refused.refusal);
 }
 
 /// The code 1 2 3 4.
@@ -24,7 +36,7 @@ pub fn code(rt: &Host<impl Abort>, alloc: Global) -> Digits {
 }
 
 /// What can be read of a registry with no memory: how many machines there are, and whose these names are.
-#[derive(Clone, Copy, Debug, PartialEq, Eq)]
+#[derive(Clone, Copy, PartialEq)]
 pub struct Seen {
     machines: usize,
     front: Result<MachineId, Refusal>,
@@ -56,7 +68,7 @@ pub fn start(
         Ok(started) => return Ok(started),
         Err(refused) => refused,
     };
-    assert_eq!(rt; see(registry), before);
+    holds(rt, "a refusal changes nothing", see(registry) == before);
     if refused.refusal != Refusal::NoMemory {
         return Err(refused.refusal);
     }
@@ -68,8 +80,15 @@ pub fn start(
 }
 
 /// Looks that a door was started under this id, and has no work.
-pub fn is_running(rt: &Host<impl Abort>, started: Result<Started, Refusal>, id: MachineId) {
-    assert_eq!(rt; started, Ok(Started::Running { id, wake: None }));
+pub fn is_running(rt: &impl Abort, started: Result<Started, Refusal>, id: MachineId) {
+    let wanted = Ok(Started::Running {
+        id,
+        wake: Some(st_client::Token {
+            machine: id,
+            wake: 1,
+        }),
+    });
+    holds(rt, "it runs, and has no work", started == wanted);
 }
 
 /// Starts a door under no name, which is the only one, and answers it.
@@ -81,9 +100,7 @@ pub fn only_door(
 ) -> Arc<Machine<Door>> {
     let started = start(rt, threads, registry, None, code);
     is_running(rt, started, id(0, 1));
-    registry
-        .machine(id(0, 1))
-        .expect(rt, "the machine is there")
+    got(rt, "the machine is there", registry.machine(id(0, 1)))
 }
 
 /// Opens a port. Where there is no memory, it is opened again.
@@ -95,8 +112,7 @@ pub fn port(
     match Machine::port(machine, threads) {
         Ok(port) => port,
         Err(refusal) => {
-            assert_eq!(rt; refusal, Refusal::NoMemory);
-            rt.retry();
+            is_made_again(rt, refusal);
             Machine::port(machine, threads).expect(rt, "one allocation alone is refused")
         }
     }

@@ -1,10 +1,10 @@
 //! Infos, replies from outside, and a call that does not wait.
-use super::begun::{code, only_door, port};
-use super::host::Host;
+use super::begun::{code, is_given_back, only_door, port};
+use super::host::{Host, got, holds};
 use super::sends::{ask, token};
 use super::served::{checked, serve};
 use super::tray::Tray;
-use st_client::{Called, Collected, Machine, Port, Refusal, Tag, call, info, reply};
+use st_client::{Called, Collected, Machine, Port, RequestId, Tag, Token, call, info, reply};
 use st_door::{Door, DoorContent};
 use st_registry::Registry;
 use std::process::Abort;
@@ -17,40 +17,26 @@ pub fn replied(
     machine: &Machine<Door>,
     tag: Tag,
 ) -> bool {
-    match reply(threads, machine, tag, DoorContent::Length(9)) {
-        Ok(was_open) => was_open,
-        Err(refused) => {
-            assert_eq!(rt;
-                (refused.refusal, refused.value),
-                (Refusal::NoMemory, DoorContent::Length(9))
-            );
-            rt.retry();
-            match reply(threads, machine, tag, refused.value) {
-                Ok(was_open) => was_open,
-                Err(_) => panic!(rt; "one allocation alone is refused"),
-            }
-        }
-    }
+    let refused = match reply(threads, machine, tag, DoorContent::Length(9)) {
+        Ok(was_open) => return was_open,
+        Err(refused) => refused,
+    };
+    is_given_back(rt, &refused, DoorContent::Length(9));
+    let again = reply(threads, machine, tag, refused.value);
+    got(rt, "one allocation alone is refused", again)
 }
 
 /// Posts an info, and answers its number. Where there is no memory, nothing was posted, and it is posted again.
 fn inform<R: Wait>(rt: &Host<impl Abort>, threads: &R, port: &mut Port<Door>, tray: &Tray) -> u64 {
     let before = port.count();
-    match info(threads, port, tray, DoorContent::Nothing) {
-        Ok(sent) => sent.number,
-        Err(refused) => {
-            assert_eq!(rt;
-                (refused.refusal, refused.value),
-                (Refusal::NoMemory, DoorContent::Nothing)
-            );
-            assert_eq!(rt; port.count(), before);
-            rt.retry();
-            match info(threads, port, tray, refused.value) {
-                Ok(sent) => sent.number,
-                Err(_) => panic!(rt; "one allocation alone is refused"),
-            }
-        }
-    }
+    let refused = match info(threads, port, tray, DoorContent::Nothing) {
+        Ok(sent) => return sent.number,
+        Err(refused) => refused,
+    };
+    is_given_back(rt, &refused, DoorContent::Nothing);
+    holds(rt, "nothing was posted", port.count() == before);
+    let again = info(threads, port, tray, refused.value);
+    got(rt, "one allocation alone is refused", again).number
 }
 
 /// Calls for the length of the code. Where there is no memory, nothing was posted, and it is called again.
@@ -61,20 +47,21 @@ fn calls<R: Wait>(
     tray: &Tray,
 ) -> Called<Door> {
     let before = port.count();
-    match call(threads, port, tray, DoorContent::CodeLength) {
-        Ok(called) => called,
-        Err(refused) => {
-            assert_eq!(rt;
-                (refused.refusal, refused.value),
-                (Refusal::NoMemory, DoorContent::CodeLength)
-            );
-            assert_eq!(rt; port.count(), before);
-            rt.retry();
-            match call(threads, port, tray, refused.value) {
-                Ok(called) => called,
-                Err(_) => panic!(rt; "one allocation alone is refused"),
-            }
-        }
+    let refused = match call(threads, port, tray, DoorContent::CodeLength) {
+        Ok(called) => return called,
+        Err(refused) => refused,
+    };
+    is_given_back(rt, &refused, DoorContent::CodeLength);
+    holds(rt, "nothing was posted", port.count() == before);
+    let again = call(threads, port, tray, refused.value);
+    got(rt, "one allocation alone is refused", again)
+}
+
+/// The request of a call that was not scheduled, and the token that is left.
+fn unscheduled(rt: &impl Abort, called: Called<Door>) -> (RequestId<Door>, Token) {
+    match called {
+        Called::Unscheduled(id, left) => (id, left),
+        _ => panic!(rt; "nobody serves the door"),
     }
 }
 
@@ -86,16 +73,18 @@ fn the_first_reply_is_collected(rt: HostRuntime) {
     let machine = only_door(&rt, &threads, &mut registry, &code(&rt, rt.alloc()));
     let mut port = port(&rt, &threads, &machine);
     let tray = Tray::new(rt.alloc(), false);
-    assert_eq!(rt; inform(&rt, &threads, &mut port, &tray), 1);
+    let number = inform(&rt, &threads, &mut port, &tray);
+    holds(&rt, "the info is the first event", number == 1);
     let (id, left) = ask(&rt, &threads, &mut port, &tray);
-    assert_eq!(rt; left, None);
+    holds(&rt, "the token is outstanding", left == None);
     let tag = machine.tag(2);
-    assert!(rt; replied(&rt, &threads, &machine, tag));
-    assert!(rt; !replied(&rt, &threads, &machine, tag));
-    assert_eq!(rt;
-        checked(&rt, &threads, &id),
-        Collected::Reply(DoorContent::Length(9))
-    );
+    let first = replied(&rt, &threads, &machine, tag);
+    holds(&rt, "the first reply is taken", first);
+    let second = replied(&rt, &threads, &machine, tag);
+    holds(&rt, "the second reply is not taken", !second);
+    let collected = checked(&rt, &threads, &id);
+    let wanted = Collected::Reply(DoorContent::Length(9));
+    holds(&rt, "the first reply is collected", collected == wanted);
     rt.end();
 }
 
@@ -107,14 +96,12 @@ fn a_call_that_is_not_scheduled_does_not_wait(rt: HostRuntime) {
     let machine = only_door(&rt, &threads, &mut registry, &code(&rt, rt.alloc()));
     let mut port = port(&rt, &threads, &machine);
     let tray = Tray::new(rt.alloc(), false);
-    let Called::Unscheduled(id, left) = calls(&rt, &threads, &mut port, &tray) else {
-        panic!(rt; "nobody serves the door")
-    };
-    assert_eq!(rt; left, token(1));
+    let called = calls(&rt, &threads, &mut port, &tray);
+    let (id, left) = unscheduled(&rt, called);
+    holds(&rt, "the token is left", left == token(1));
     serve(&rt, &threads, &machine, left);
-    assert_eq!(rt;
-        checked(&rt, &threads, &id),
-        Collected::Reply(DoorContent::Length(4))
-    );
+    let collected = checked(&rt, &threads, &id);
+    let wanted = Collected::Reply(DoorContent::Length(4));
+    holds(&rt, "the reply is collected", collected == wanted);
     rt.end();
 }

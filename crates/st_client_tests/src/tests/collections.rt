@@ -1,11 +1,11 @@
 //! Requests to a door are gathered.
-use super::begun::{code, only_door, port};
+use super::begun::{code, is_made_again, only_door, port};
 use super::calls::replied;
-use super::host::Host;
+use super::host::{Host, got, holds};
 use super::sends::ask;
 use super::served::serve;
 use super::tray::Tray;
-use st_client::{Checked, Collection, Refusal, RequestId, check_any};
+use st_client::{Checked, Collection, Port, RequestId, Token, check_any};
 use st_door::{Door, DoorContent};
 use st_registry::Registry;
 use std::process::Abort;
@@ -20,12 +20,26 @@ fn add(
 ) {
     let before = collection.size();
     if let Err(refused) = collection.add(id, label) {
-        assert_eq!(rt; refused.refusal, Refusal::NoMemory);
-        assert_eq!(rt; collection.size(), before);
-        rt.retry();
-        assert!(rt; collection.add(refused.value, label).is_ok());
+        is_made_again(rt, refused.refusal);
+        holds(rt, "nothing was added", collection.size() == before);
+        let again = collection.add(refused.value, label);
+        got(rt, "one allocation alone is refused", again);
     }
-    assert!(rt; collection.size() > before);
+    holds(rt, "it was added", collection.size() > before);
+}
+
+/// Asks for the length of the code, and adds the request. The token, if it is left.
+fn gathers<R: Wait>(
+    rt: &Host<impl Abort>,
+    threads: &R,
+    port: &mut Port<Door>,
+    tray: &Tray,
+    collection: &mut Collection<Door, char>,
+    label: char,
+) -> Option<Token> {
+    let (id, left) = ask(rt, threads, port, tray);
+    add(rt, collection, id, label);
+    left
 }
 
 /// Checks a collection. Where there is no memory, nothing is taken out, and it is checked again.
@@ -38,12 +52,22 @@ fn checks(
     match check_any(threads, collection) {
         Ok(checked) => checked,
         Err(refusal) => {
-            assert_eq!(rt; refusal, Refusal::NoMemory);
-            assert_eq!(rt; collection.size(), before);
-            rt.retry();
+            is_made_again(rt, refusal);
+            holds(rt, "nothing is taken out", collection.size() == before);
             check_any(threads, collection).expect(rt, "one allocation alone is refused")
         }
     }
+}
+
+/// Checks a collection, and looks that this comes of it.
+fn shows(
+    rt: &Host<impl Abort>,
+    threads: &impl Wait,
+    collection: &mut Collection<Door, char>,
+    word: &str,
+    wanted: Checked<DoorContent, char>,
+) {
+    holds(rt, word, checks(rt, threads, collection) == wanted);
 }
 
 #[test]
@@ -54,31 +78,24 @@ fn requests_to_a_door_are_gathered(rt: HostRuntime) {
     let machine = only_door(&rt, &threads, &mut registry, &code(&rt, rt.alloc()));
     let mut port = port(&rt, &threads, &machine);
     let tray = Tray::new(rt.alloc(), false);
-    let mut collection = Collection::new(rt.alloc());
-    assert_eq!(rt; checks(&rt, &threads, &mut collection), Checked::NoRequest);
-    let (first, left) = ask(&rt, &threads, &mut port, &tray);
-    add(&rt, &mut collection, first, 'a');
-    let (second, _) = ask(&rt, &threads, &mut port, &tray);
-    add(&rt, &mut collection, second, 'b');
-    assert_eq!(rt; checks(&rt, &threads, &mut collection), Checked::NoReply);
+    let mut gathered = Collection::new(rt.alloc());
+    let none = Checked::NoRequest;
+    shows(&rt, &threads, &mut gathered, "none at first", none);
+    let left = gathers(&rt, &threads, &mut port, &tray, &mut gathered, 'a');
+    gathers(&rt, &threads, &mut port, &tray, &mut gathered, 'b');
+    shows(&rt, &threads, &mut gathered, "both wait", Checked::NoReply);
     serve(&rt, &threads, &machine, left.expect(&rt, "a token"));
     let length = DoorContent::Length(4);
-    assert_eq!(rt;
-        checks(&rt, &threads, &mut collection),
-        Checked::Response(length, 'a')
-    );
-    let (third, _) = ask(&rt, &threads, &mut port, &tray);
-    add(&rt, &mut collection, third, 'c');
-    assert!(rt; machine.stop(&threads, 3).is_ok());
-    assert_eq!(rt;
-        checks(&rt, &threads, &mut collection),
-        Checked::Response(length, 'b')
-    );
-    assert_eq!(rt;
-        checks(&rt, &threads, &mut collection),
-        Checked::Stopped(3, 'c')
-    );
-    assert_eq!(rt; checks(&rt, &threads, &mut collection), Checked::NoRequest);
+    let first = Checked::Response(length, 'a');
+    shows(&rt, &threads, &mut gathered, "the first reply", first);
+    gathers(&rt, &threads, &mut port, &tray, &mut gathered, 'c');
+    got(&rt, "it is stopped", machine.stop(&threads, 3));
+    let second = Checked::Response(length, 'b');
+    shows(&rt, &threads, &mut gathered, "the second reply", second);
+    let third = Checked::Stopped(3, 'c');
+    shows(&rt, &threads, &mut gathered, "the third is told", third);
+    let none = Checked::NoRequest;
+    shows(&rt, &threads, &mut gathered, "none at last", none);
     rt.end();
 }
 
@@ -90,18 +107,16 @@ fn the_first_that_does_not_wait_is_taken_out(rt: HostRuntime) {
     let machine = only_door(&rt, &threads, &mut registry, &code(&rt, rt.alloc()));
     let mut port = port(&rt, &threads, &machine);
     let tray = Tray::new(rt.alloc(), false);
-    let mut collection = Collection::new(rt.alloc());
+    let mut gathered = Collection::new(rt.alloc());
     for label in ['a', 'b'] {
-        let (id, _) = ask(&rt, &threads, &mut port, &tray);
-        add(&rt, &mut collection, id, label);
+        gathers(&rt, &threads, &mut port, &tray, &mut gathered, label);
     }
-    assert!(rt; replied(&rt, &threads, &machine, machine.tag(2)));
-    let reply = DoorContent::Length(9);
-    assert_eq!(rt;
-        checks(&rt, &threads, &mut collection),
-        Checked::Response(reply, 'b')
-    );
-    assert_eq!(rt; collection.size(), 1);
-    assert_eq!(rt; checks(&rt, &threads, &mut collection), Checked::NoReply);
+    let is_open = replied(&rt, &threads, &machine, machine.tag(2));
+    holds(&rt, "the second request is replied to", is_open);
+    let reply = Checked::Response(DoorContent::Length(9), 'b');
+    shows(&rt, &threads, &mut gathered, "the second reply", reply);
+    holds(&rt, "one is left", gathered.size() == 1);
+    let waits = Checked::NoReply;
+    shows(&rt, &threads, &mut gathered, "the first waits", waits);
     rt.end();
 }

@@ -1,7 +1,9 @@
 //! What a test runs on.
+ghost use Rattle.std.specs.Prelude.{◌≡◌, IsTrue};
+
 use std::alloc::Global;
 use std::cell::Cell;
-use std::fmt::Display;
+use std::fmt::{Debug, Display};
 use std::io::Print;
 use std::process::Abort;
 
@@ -27,9 +29,7 @@ impl<R: AllocGlobal> Host<R> {
     pub fn alloc(&self) -> Global {
         self.rt.alloc()
     }
-}
 
-impl<R: AllocGlobal> Host<R> {
     /// The allocation that is refused, if one is, is one made here: the test's own find memory.
     pub fn with_memory(rt: R) -> Host<R> {
         let host = Host::new(rt);
@@ -52,15 +52,16 @@ impl<R: Abort> Host<R> {
 
 impl<R: Abort + AllocGlobal + Print> Host<R> {
     /// Ends a test. Where none of its allocations was refused, one of those made here may be: then no call may have
-    /// been made again, and it prints a line that `tools/refuse-each` reads.
-    pub fn end(&self) {
+    /// been made again, and it prints a line that `tools/refuse-each` reads. It says whether it did.
+    pub fn end(&self) -> bool {
         for _ in 0..10_000 {
             if Box::new(self.alloc(), 'x').is_err() {
                 assert_eq!(self; self.retries.get(), 0);
-                let _ = println!(self.rt; "nothing was refused");
-                return;
+                self.end_with_memory();
+                return true;
             }
         }
+        false
     }
 }
 
@@ -82,5 +83,28 @@ impl<R: Abort> Abort for Host<R> {
 
     fn panic<D: Display + Drop>(&self, message: D) -> ! {
         self.rt.panic(message)
+    }
+}
+
+/// Ends the test with this word where the fact does not hold. A macro in a test's body would branch there, and each
+/// branch is proved.
+pub fn holds(rt: &impl Abort, word: &str, fact: bool)
+    ensures { IsTrue fact }
+{
+    assert!(rt; fact, "{word}");
+}
+
+/// Ends the test with this word and both values where they differ.
+pub fn same<T: PartialEq + Debug>(rt: &impl Abort, word: &str, found: &T, wanted: &T) {
+    assert!(rt; found == wanted, "{word}: {found:?} in place of {wanted:?}");
+}
+
+/// What a call gave. Ends the test with this word where it was refused.
+pub fn got<T: Drop, E: Drop>(rt: &impl Abort, word: &str, outcome: Result<T, E>) -> T
+    ensures { outcome ≡ Ok result }
+{
+    match outcome {
+        Ok(value) => value,
+        Err(_) => panic!(rt; "{word}"),
     }
 }

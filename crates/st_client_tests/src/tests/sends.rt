@@ -1,9 +1,9 @@
 //! Casts, infos and requests, where the token is scheduled and where it comes back.
-use super::begun::{code, id, only_door, port};
-use super::host::Host;
+use super::begun::{code, id, is_given_back, only_door, port};
+use super::host::{Host, got, holds};
 use super::served::{checked, serve};
 use super::tray::Tray;
-use st_client::{Collected, Port, Refusal, RequestId, Sent, Token, Wake, cast, send_request};
+use st_client::{Collected, Port, RequestId, Sent, Token, Wake, cast, send_request};
 use st_door::{Door, DoorContent};
 use st_registry::Registry;
 use std::process::Abort;
@@ -17,33 +17,51 @@ pub fn token(wake: u64) -> Token {
     }
 }
 
-/// Presses the button 1. Where there is no memory, nothing was posted, and it is pressed again; where the tray found no
-/// memory for the token, that came back, and is put there again.
-pub fn press<R: Wait>(
+/// Presses the button 1. Where there is no memory, nothing was posted, and it is pressed again.
+fn pressed<R: Wait>(
     rt: &Host<impl Abort>,
     threads: &R,
     port: &mut Port<Door>,
     tray: &Tray,
 ) -> Sent {
     let before = port.count();
-    let sent = match cast(threads, port, tray, DoorContent::Button(1)) {
-        Ok(sent) => sent,
-        Err(refused) => {
-            assert_eq!(rt; refused.refusal, Refusal::NoMemory);
-            assert_eq!(rt; refused.value, DoorContent::Button(1));
-            assert_eq!(rt; port.count(), before);
-            rt.retry();
-            match cast(threads, port, tray, refused.value) {
-                Ok(sent) => sent,
-                Err(_) => panic!(rt; "one allocation alone is refused"),
-            }
-        }
+    let refused = match cast(threads, port, tray, DoorContent::Button(1)) {
+        Ok(sent) => return sent,
+        Err(refused) => refused,
     };
-    assert_eq!(rt; port.count(), before + 1);
+    is_given_back(rt, &refused, DoorContent::Button(1));
+    holds(rt, "nothing was posted", port.count() == before);
+    let again = cast(threads, port, tray, refused.value);
+    got(rt, "one allocation alone is refused", again)
+}
+
+/// Presses the button 1, which is one event.
+fn press<R: Wait>(rt: &Host<impl Abort>, threads: &R, port: &mut Port<Door>, tray: &Tray) -> Sent {
+    let before = port.count();
+    let sent = pressed(rt, threads, port, tray);
+    holds(rt, "one event was posted", port.count() == before + 1);
     sent
 }
 
-/// Asks for the length of the code, in the same way.
+/// Asks for the length of the code. Where there is no memory, nothing was posted, and it is asked again.
+fn asked<R: Wait>(
+    rt: &Host<impl Abort>,
+    threads: &R,
+    port: &mut Port<Door>,
+    tray: &Tray,
+) -> (RequestId<Door>, Option<Token>) {
+    let before = port.count();
+    let refused = match send_request(threads, port, tray, DoorContent::CodeLength) {
+        Ok(asked) => return asked,
+        Err(refused) => refused,
+    };
+    is_given_back(rt, &refused, DoorContent::CodeLength);
+    holds(rt, "nothing was posted", port.count() == before);
+    let again = send_request(threads, port, tray, refused.value);
+    got(rt, "one allocation alone is refused", again)
+}
+
+/// Asks for the length of the code, which is one event.
 pub fn ask<R: Wait>(
     rt: &Host<impl Abort>,
     threads: &R,
@@ -51,21 +69,17 @@ pub fn ask<R: Wait>(
     tray: &Tray,
 ) -> (RequestId<Door>, Option<Token>) {
     let before = port.count();
-    let asked = match send_request(threads, port, tray, DoorContent::CodeLength) {
-        Ok(asked) => asked,
-        Err(refused) => {
-            assert_eq!(rt; refused.refusal, Refusal::NoMemory);
-            assert_eq!(rt; refused.value, DoorContent::CodeLength);
-            assert_eq!(rt; port.count(), before);
-            rt.retry();
-            match send_request(threads, port, tray, refused.value) {
-                Ok(asked) => asked,
-                Err(_) => panic!(rt; "one allocation alone is refused"),
-            }
-        }
-    };
-    assert_eq!(rt; port.count(), before + 1);
+    let asked = asked(rt, threads, port, tray);
+    holds(rt, "one event was posted", port.count() == before + 1);
     asked
+}
+
+/// The tray found no memory for a token, if one came back: it is put there again.
+fn is_scheduled(rt: &Host<impl Abort>, threads: &impl Wait, tray: &Tray, left: Option<Token>) {
+    if let Some(token) = left {
+        rt.retry();
+        holds(rt, "it is scheduled", tray.wake(threads, token) == Ok(()));
+    }
 }
 
 #[test]
@@ -77,20 +91,14 @@ fn a_token_is_scheduled_once(rt: HostRuntime) {
     let mut port = port(&rt, &threads, &machine);
     let tray = Tray::new(rt.alloc(), true);
     let first = press(&rt, &threads, &mut port, &tray);
-    assert_eq!(rt; first.number, 1);
-    if let Some(token) = first.left {
-        rt.retry();
-        assert_eq!(rt; tray.wake(&threads, token), Ok(()));
-    }
-    assert_eq!(rt;
-        press(&rt, &threads, &mut port, &tray),
-        Sent {
-            number: 2,
-            left: None
-        }
-    );
-    assert_eq!(rt; tray.len(&threads), 1);
-    assert_eq!(rt; tray.take(&threads), token(1));
+    holds(&rt, "the first event", first.number == 1);
+    is_scheduled(&rt, &threads, &tray, first.left);
+    let second = press(&rt, &threads, &mut port, &tray);
+    holds(&rt, "the second event", second.number == 2);
+    holds(&rt, "the token is outstanding", second.left == None);
+    holds(&rt, "one token waits", tray.len(&threads) == 1);
+    let taken = tray.take(&threads);
+    holds(&rt, "the door's token waits", taken == token(1));
     serve(&rt, &threads, &machine, token(1));
     rt.end();
 }
@@ -104,21 +112,17 @@ fn a_token_that_is_not_scheduled_comes_back(rt: HostRuntime) {
     let mut port = port(&rt, &threads, &machine);
     let tray = Tray::new(rt.alloc(), false);
     let sent = press(&rt, &threads, &mut port, &tray);
-    assert_eq!(rt;
-        sent,
-        Sent {
-            number: 1,
-            left: Some(token(1))
-        }
-    );
+    holds(&rt, "the first event", sent.number == 1);
+    holds(&rt, "its token comes back", sent.left == Some(token(1)));
     let (id, left) = ask(&rt, &threads, &mut port, &tray);
-    assert_eq!(rt; left, None);
-    assert_eq!(rt; checked(&rt, &threads, &id), Collected::Waiting);
+    holds(&rt, "the token is outstanding", left == None);
+    let waits = checked(&rt, &threads, &id) == Collected::Waiting;
+    holds(&rt, "the request waits", waits);
     serve(&rt, &threads, &machine, token(1));
-    assert_eq!(rt;
-        checked(&rt, &threads, &id),
-        Collected::Reply(DoorContent::Length(4))
-    );
-    assert_eq!(rt; checked(&rt, &threads, &id), Collected::Gone);
+    let reply = Collected::Reply(DoorContent::Length(4));
+    let is_replied = checked(&rt, &threads, &id) == reply;
+    holds(&rt, "the reply is collected", is_replied);
+    let is_gone = checked(&rt, &threads, &id) == Collected::Gone;
+    holds(&rt, "the reply is collected once", is_gone);
     rt.end();
 }

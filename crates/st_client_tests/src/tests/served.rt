@@ -1,6 +1,7 @@
 //! A machine is served, and a request is checked.
-use super::host::Host;
-use st_client::{Collected, Machine, Refusal, RequestId, Token, check};
+use super::begun::is_made_again;
+use super::host::{Host, holds};
+use st_client::{Collected, Machine, RequestId, Token, check};
 use st_door::{Door, DoorContent};
 use st_lock::Next;
 use std::process::Abort;
@@ -10,14 +11,11 @@ use std::sync::Wait;
 pub fn serve(rt: &Host<impl Abort>, threads: &impl Wait, machine: &Machine<Door>, token: Token) {
     for _ in threads.forever() {
         match machine.turn(threads, token, 0) {
-            Ok(Next::Again(again)) => assert_eq!(rt; again, token),
+            Ok(Next::Again(again)) => holds(rt, "the same token", again == token),
             Ok(Next::Rest) => return,
             Err(refused) => {
-                assert_eq!(rt;
-                    (refused.refusal, refused.value),
-                    (Refusal::NoMemory, token)
-                );
-                rt.retry();
+                holds(rt, "the token comes back", refused.value == token);
+                is_made_again(rt, refused.refusal);
             }
         }
     }
@@ -32,8 +30,7 @@ pub fn checked(
     match check(threads, id) {
         Ok(collected) => collected,
         Err(refusal) => {
-            assert_eq!(rt; refusal, Refusal::NoMemory);
-            rt.retry();
+            is_made_again(rt, refusal);
             check(threads, id).expect(rt, "one allocation alone is refused")
         }
     }

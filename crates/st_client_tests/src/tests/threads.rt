@@ -1,6 +1,6 @@
 //! Threads that call one door, which another thread serves or stops.
 use super::begun::{code, only_door, port};
-use super::host::Host;
+use super::host::{Host, got, holds};
 use super::served::serve;
 use super::tray::Tray;
 use st_client::{Called, Port, call};
@@ -38,13 +38,14 @@ fn two_threads_get_the_length_each(rt: HostRuntime) {
     let mut port = port(&rt, &threads, &machine);
     for _ in threads.forever() {
         serve(&rt, &threads, &machine, tray.take(&threads));
-        let look = port.look(&threads).expect(&rt, "a look");
+        let look = got(&rt, "a look", port.look(&threads));
         if look.waiting == 0 && look.entries >= 4 {
             break;
         }
     }
     for child in children {
-        assert_eq!(rt; child.join(&threads), Ok(4));
+        let length = child.join(&threads);
+        holds(&rt, "the length of the code", length == Ok(4));
     }
     rt.end_with_memory();
 }
@@ -60,8 +61,10 @@ fn a_call_ends_with_its_machine(rt: HostRuntime) {
     let theirs = Arc::try_clone(&tray).expect(&rt, "an owner");
     let child = thread::spawn(&threads, move || length_of(&threads, &mut port, &theirs));
     let child = child.expect(&rt, "a thread");
-    assert_eq!(rt; tray.take(&threads).wake, 1);
-    assert!(rt; machine.stop(&threads, 3).is_ok());
-    assert_eq!(rt; child.join(&threads), Err(Some(3)));
+    let token = tray.take(&threads);
+    holds(&rt, "the token is scheduled", token.wake == 1);
+    got(&rt, "it is stopped", machine.stop(&threads, 3));
+    let ended = child.join(&threads);
+    holds(&rt, "the reason is told", ended == Err(Some(3)));
     rt.end_with_memory();
 }

@@ -1,6 +1,6 @@
 //! Each accepted event waits or was finished once.
 use super::begin::begun;
-use super::host::Host;
+use super::host::{Host, holds, same};
 use super::reserved::with_reserved;
 use super::shown::Shown::{Posted, Reported};
 use super::shown::{Did, Shown, read};
@@ -30,14 +30,16 @@ impl Account {
     /// A number is accepted, also where it was before.
     fn accept(&mut self, rt: &Host<impl Abort>, number: u64) {
         if !self.accepted.as_slice().contains(&number) {
-            assert!(rt; self.accepted.push(number).is_ok());
+            let pushed = self.accepted.push(number);
+            holds(rt, "there is a place for each number", pushed.is_ok());
         }
     }
 
     /// A number is accepted that was not before, where there is one.
     fn accept_new(&mut self, rt: &Host<impl Abort>, number: Option<u64>) {
         if let Some(number) = number {
-            assert!(rt; !self.accepted.as_slice().contains(&number));
+            let is_new = !self.accepted.as_slice().contains(&number);
+            holds(rt, "a number is given once", is_new);
             self.accept(rt, number);
         }
     }
@@ -45,17 +47,21 @@ impl Account {
     /// What a turn did: its event and what it inserted are accepted, and its event may be finished, for
     /// the first time.
     fn read(&mut self, rt: &Host<impl Abort>, did: &Did<u32>) {
-        assert!(rt; did.inserted.is_whole());
+        holds(
+            rt,
+            "each that was inserted is shown",
+            did.inserted.is_whole(),
+        );
         self.accept_new(rt, did.inserted.first);
         self.accept_new(rt, did.inserted.second);
         self.accept_new(rt, did.inserted.third);
-        let Some(number) = did.event else {
-            panic!(rt; "a turn has an event");
-        };
+        let number = did.event.expect(rt, "a turn has an event");
         self.accept(rt, number);
-        assert!(rt; !self.finished.as_slice().contains(&number));
+        let is_left = !self.finished.as_slice().contains(&number);
+        holds(rt, "an event is finished once", is_left);
         if did.done == Done::Finished {
-            assert!(rt; self.finished.push(number).is_ok());
+            let pushed = self.finished.push(number);
+            holds(rt, "there is a place for each event", pushed.is_ok());
         }
     }
 
@@ -104,12 +110,16 @@ fn what_is_accepted_waits_or_is_finished(rt: HostRuntime) {
     for one in told {
         account.count(&rt, &read(&tell(&rt, &mut core, one)));
         let waiting = core.waiting();
-        assert_eq!(rt;
-            account.finished.len().checked_add(waiting),
-            Some(account.accepted.len())
+        let told_of = account.finished.len().checked_add(waiting);
+        let accepted = Some(account.accepted.len());
+        same(
+            &rt,
+            "what is accepted waits or is finished",
+            &told_of,
+            &accepted,
         );
     }
-    assert_eq!(rt; core.waiting(), 0);
-    assert_eq!(rt; account.accepted.len(), 10);
+    same(&rt, "nothing waits in the end", &core.waiting(), &0);
+    same(&rt, "ten were accepted", &account.accepted.len(), &10);
     rt.end();
 }

@@ -1,6 +1,6 @@
 //! How a machine of a test starts.
 use super::answers::started;
-use super::host::Host;
+use super::host::{Host, holds, same};
 use super::machine::{kept_in, see};
 use super::seen::{Kept, Seen, keeps, sees};
 use super::shown::{Did, reports};
@@ -15,7 +15,7 @@ use std::process::Abort;
 
 /// How a machine starts, the numbers of the events that its `init` inserts, and the timers that it sets.
 /// The number of the first event may be left out, and then it is 1.
-#[derive(Clone, Copy, Debug)]
+#[derive(Clone, Copy)]
 pub struct Begin<M, A> {
     pub module: M,
     pub arg: A,
@@ -34,8 +34,8 @@ fn call_start<M: Module + Copy>(
     match begin.first {
         None => Core::start(alloc, begin.module, ID, &begin.arg, begin.now),
         Some(first) => {
-            assert!(rt; first >= 1);
-            assert!(rt; first < 1 << 63);
+            holds(rt, "the first number is 1 or more", first >= 1);
+            holds(rt, "the first number can be given", first < 1 << 63);
             Core::start_from(alloc, begin.module, ID, &begin.arg, begin.now, first)
         }
     }
@@ -54,9 +54,9 @@ pub fn start<M: Module + Copy + Eq + Debug>(
     if refused.refusal != Refusal::NoMemory {
         return Err(refused);
     }
-    assert_eq!(rt; refused.value, begin.module);
+    same(rt, "the module comes back", &refused.value, &begin.module);
     // A start that is refused for its moment takes no memory.
-    assert!(rt; begin.now < 1 << 63);
+    holds(rt, "the moment is in range", begin.now < 1 << 63);
     rt.retry();
     call_start(rt, alloc, begin)
 }
@@ -80,14 +80,13 @@ fn running<M: Module + Copy + Eq + Debug>(
 where
     M::State: Debug,
 {
-    match start(rt, alloc, begin) {
-        Ok(Start::Running(core, report)) => {
+    match start(rt, alloc, begin).expect(rt, "the start is refused") {
+        Start::Running(core, report) => {
             reports(rt, &report, &wanted_of(begin, core.state()));
             core
         }
-        Ok(Start::Ignored) => panic!(rt; "the start was ignored"),
-        Ok(Start::Stopped(reason)) => panic!(rt; "the start stopped for {reason}"),
-        Err(refused) => panic!(rt; "the start was refused: {}", refused.refusal),
+        Start::Ignored => panic!(rt; "the start was ignored"),
+        Start::Stopped(reason) => panic!(rt; "the start stopped for {reason}"),
     }
 }
 
@@ -108,7 +107,7 @@ where
     };
     sees(rt, &see(core), &wanted);
     keeps(rt, &kept_in(core), &Kept::none());
-    assert_eq!(rt; core.id(), ID);
+    same(rt, "the id", &core.id(), &ID);
 }
 
 /// The laws hold of a machine and its module.

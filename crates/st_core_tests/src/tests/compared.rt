@@ -1,7 +1,7 @@
 //! The same commands by single calls, and by one run.
-use super::host::Host;
+use super::host::{Host, holds, same};
 use super::machine::{Machine, read_all};
-use super::seen::{Running, Seen, Whole, ends, same};
+use super::seen::{Running, Seen, Whole, ends, is_all};
 use super::shown::{Shown, agree, read};
 use super::tested::{does, run};
 use super::told::{Told, without_memory};
@@ -52,11 +52,12 @@ fn runs_alike<T: Machine>(
     whole: &Whole<T::State, T::Data, T::Content>,
 ) {
     if by_one_run(rt, alloc, at_once, without, steps) {
-        same(rt, &read_all(rt, at_once), whole);
+        is_all(rt, &read_all(rt, at_once), whole);
     } else {
         rt.retry();
-        assert!(rt; by_one_run(rt, alloc, again, without, steps));
-        same(rt, &read_all(rt, again), whole);
+        let found = by_one_run(rt, alloc, again, without, steps);
+        holds(rt, "one allocation alone is refused", found);
+        is_all(rt, &read_all(rt, again), whole);
     }
 }
 
@@ -70,13 +71,18 @@ fn by_one_run<T: Machine>(
     steps: &[(Told<T::Content>, Shown<T::State, T::Content>)],
 ) -> bool {
     let answers = run(rt, alloc, at_once, steps);
-    assert_eq!(rt; answers.len(), steps.len());
+    same(
+        rt,
+        "each command has its answer",
+        &answers.len(),
+        &steps.len(),
+    );
     let found = all_found_memory(answers.as_slice());
     if found {
         answers_agree(rt, answers.as_slice(), steps);
     } else {
         without_refused(rt, without, steps, answers.as_slice());
-        same(rt, &read_all(rt, at_once), &read_all(rt, without));
+        is_all(rt, &read_all(rt, at_once), &read_all(rt, without));
     }
     found
 }

@@ -2,16 +2,18 @@
 use super::answers::{handled, started, turn};
 use super::begin::{Begin, start};
 use super::few::Few;
-use super::host::Host;
+use super::host::{Host, same};
 use super::machine::{Machine, timers_of};
-use super::seen::Seen;
+use super::seen::{Seen, sees};
 use super::shown::Shown::{Idle, NotPosted, NotTurned, Posted, Ticked};
-use super::shown::read_report;
+use super::shown::reports;
 use super::table::Table;
 use super::table_machine::{BEGIN, answers_are, at_end, at_rest, cast, postponing, timers_are};
 use super::tested::does;
 use super::told::Told;
-use st_core::{Due, Kind, Refusal, Start, Time, Timer};
+use st_core::{Core, Due, Kind, Refusal, Report, Start, Time, Timer};
+use std::alloc::Global;
+use std::process::Abort;
 
 /// The machine of the table's module with this number.
 fn begin_as(number: u64) -> Begin<Table, u32> {
@@ -204,25 +206,34 @@ fn memory_is_wanted_inside_an_enter_call(rt: HostRuntime) {
     rt.end();
 }
 
+/// The machine whose first enter call stops, and the report of its start.
+fn stopped_at_once(rt: &Host<impl Abort>, alloc: Global) -> (Core<Table>, Report<u32>) {
+    match start(rt, alloc, &begin_as(70)) {
+        Ok(Start::Running(core, report)) => (core, report),
+        _ => panic!(rt; "no machine"),
+    }
+}
+
 /// The first enter call stops: there is a machine, and it has ended.
 #[test]
 fn the_first_enter_call_stops(rt: HostRuntime) {
     let rt = Host::new(rt);
-    match start(&rt, rt.alloc(), &begin_as(70)) {
-        Ok(Start::Running(mut core, report)) => {
-            assert_eq!(rt; read_report(&report), started(0).entered().ended(4, 7));
-            assert_eq!(rt; core.see(), at_end(4, 7, 7, 0));
-            assert_eq!(rt; timers_of(&rt, &core), Few::none());
-            does(&rt, &mut core, cast(6), &NotPosted(Refusal::Stopped(4), 6));
-            does(
-                &rt,
-                &mut core,
-                Told::Turn(5),
-                &NotTurned(Refusal::Stopped(4)),
-            );
-        }
-        _ => panic!(rt; "no machine"),
-    }
+    let (mut core, report) = stopped_at_once(&rt, rt.alloc());
+    reports(&rt, &report, &started(0).entered().ended(4, 7));
+    sees(&rt, &core.see(), &at_end(4, 7, 7, 0));
+    same(
+        &rt,
+        "no time-out runs",
+        &timers_of(&rt, &core),
+        &Few::none(),
+    );
+    does(&rt, &mut core, cast(6), &NotPosted(Refusal::Stopped(4), 6));
+    does(
+        &rt,
+        &mut core,
+        Told::Turn(5),
+        &NotTurned(Refusal::Stopped(4)),
+    );
     rt.end();
 }
 

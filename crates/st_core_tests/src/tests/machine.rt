@@ -1,6 +1,6 @@
 //! A machine as a test sees it: what it is told, and what can be read of it.
 use super::few::Few;
-use super::host::Host;
+use super::host::{Host, holds};
 use super::seen::{Kept, Running, Seen, Whole};
 use super::table::Table;
 use super::told::{Told, tag};
@@ -118,14 +118,14 @@ pub fn timers_of<T: Machine>(rt: &Host<impl Abort>, machine: &T) -> Few<Running>
     let running = match machine.try_timers() {
         Ok(running) => running,
         Err(refusal) => {
-            assert_eq!(rt; refusal, Refusal::NoMemory);
+            holds(rt, "memory was refused", refusal == Refusal::NoMemory);
             rt.retry();
             machine
                 .try_timers()
                 .expect(rt, "one allocation alone is refused")
         }
     };
-    assert!(rt; running.is_whole());
+    holds(rt, "each that runs is shown", running.is_whole());
     running
 }
 

@@ -3,7 +3,7 @@ use super::answers::{handled, turn};
 use super::begin::{Begin, begun};
 use super::host::Host;
 use super::machine::Machine;
-use super::seen::Seen;
+use super::seen::{Seen, sees};
 use super::shown::Shown::{Idle, NotPosted, NotTurned, Posted};
 use super::shown::{agree, read};
 use super::table_machine::{BEGIN, answers_are, at_rest, cast, postponing};
@@ -69,11 +69,11 @@ fn a_refused_turn_changes_nothing(rt: HostRuntime) {
         waiting: 2,
         ended: None,
     };
-    assert_eq!(rt; core.see(), before);
+    sees(&rt, &core.see(), &before);
     let (told, wanted) = turn(0, handled(2, Kind::Cast, 0, 1).put_off().inserting(&[3, 4]));
     let mut answer = core.call(told);
     if read(&answer).found_no_memory() {
-        assert_eq!(rt; core.see(), before);
+        sees(&rt, &core.see(), &before);
         rt.retry();
         answer = core.call(told);
     }

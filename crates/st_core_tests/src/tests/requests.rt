@@ -3,7 +3,7 @@ use super::answers::{handled, handled_call, turn};
 use super::begin::{Begin, begun};
 use super::host::Host;
 use super::machine::Machine;
-use super::seen::{Kept, Seen};
+use super::seen::{Kept, Seen, keeps};
 use super::shown::Shown::{
     Closed, Collected, Gone, Idle, NotPosted, NotTurned, Posted, Replied, Stopped, Waiting,
 };
@@ -192,17 +192,17 @@ fn a_reply_is_shown(rt: HostRuntime) {
     let mut core = begun(&rt, rt.alloc(), &BEGIN);
     does(&rt, &mut core, call(0), &Posted(1));
     does(&rt, &mut core, call(0), &Posted(2));
-    assert_eq!(rt; core.kept(), Kept::none());
+    keeps(&rt, &core.kept(), &Kept::none());
     does(&rt, &mut core, Told::Reply(SECOND, 6), &Replied(true));
     let shown = Kept {
         second: Some(6),
         ..Kept::none()
     };
-    assert_eq!(rt; core.kept(), shown);
+    keeps(&rt, &core.kept(), &shown);
     does(&rt, &mut core, Told::Stop(5), &Stopped(7));
-    assert_eq!(rt; core.kept(), shown);
+    keeps(&rt, &core.kept(), &shown);
     does(&rt, &mut core, Told::Collect(SECOND), &Collected(6));
-    assert_eq!(rt; core.kept(), Kept::none());
+    keeps(&rt, &core.kept(), &Kept::none());
     rt.end();
 }
 

@@ -3,6 +3,7 @@ use super::answers::{handled, turn};
 use super::begin::{Begin, begun};
 use super::host::Host;
 use super::machine::Machine;
+use super::seen::sees;
 use super::shown::Shown::{Idle, NotPosted, NotTurned, Posted};
 use super::table_machine::{BEGIN, answers_are, at_rest, cast, info};
 use super::told::Told;
@@ -83,7 +84,7 @@ fn refused_memory_changes_nothing(rt: HostRuntime) {
         ..BEGIN
     };
     let core = begun(&rt, rt.alloc(), &begin);
-    assert_eq!(rt; core.see(), at_rest(0, 7, 12));
+    sees(&rt, &core.see(), &at_rest(0, 7, 12));
     let begin = Begin {
         first: Some(9_223_372_036_854_775_803),
         ..begin

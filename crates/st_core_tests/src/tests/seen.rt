@@ -1,6 +1,6 @@
 //! What can be read of a machine.
 use super::few::Few;
-use super::host::Host;
+use super::host::{Host, same};
 use st_core::{Due, Reason, Timer};
 use std::alloc::AllocError;
 use std::fmt::Debug;
@@ -68,12 +68,12 @@ impl<S: Copy, D: Copy, C: Copy> Clone for Whole<S, D, C> {
 }
 
 /// Looks that all is the same that can be read of a machine.
-pub fn same<S: Eq + Debug, D: Eq + Debug, C: Eq + Debug>(
+pub fn is_all<S: Eq + Debug, D: Eq + Debug, C: Eq + Debug>(
     rt: &Host<impl Abort>,
     whole: &Whole<S, D, C>,
     wanted: &Whole<S, D, C>,
 ) {
-    assert_eq!(rt; *whole, *wanted);
+    same(rt, "all that can be read", whole, wanted);
 }
 
 /// Looks that commands end as is wanted, with these time-outs.
@@ -84,7 +84,12 @@ pub fn ends<S: Eq + Debug, D: Eq + Debug, C>(
     timers: &[Running],
 ) {
     sees(rt, &whole.seen, seen);
-    assert_eq!(rt; whole.timers, Few::of(timers));
+    same(
+        rt,
+        "the time-outs that run",
+        &whole.timers,
+        &Few::of(timers),
+    );
 }
 
 /// Looks that a machine is seen as is wanted.
@@ -93,10 +98,10 @@ pub fn sees<S: Eq + Debug, D: Eq + Debug>(
     seen: &Seen<S, D>,
     wanted: &Seen<S, D>,
 ) {
-    assert_eq!(rt; *seen, *wanted);
+    same(rt, "what is seen", seen, wanted);
 }
 
 /// Looks that the replies that are kept are those that are wanted.
 pub fn keeps<C: Eq + Debug>(rt: &Host<impl Abort>, kept: &Kept<C>, wanted: &Kept<C>) {
-    assert_eq!(rt; *kept, *wanted);
+    same(rt, "the replies that are kept", kept, wanted);
 }

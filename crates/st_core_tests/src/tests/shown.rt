@@ -1,6 +1,6 @@
 //! Answers and reports as values that can be copied and compared.
 use super::few::Few;
-use super::host::Host;
+use super::host::{Host, same};
 use st_core::{
     Answer, Call, Collected, Done, Kind, Reason, Refusal, Report, Tag, Time, Timer, Turned,
 };
@@ -111,12 +111,12 @@ pub fn agree<S: Copy + Eq + Debug, C: Copy + Eq + Debug>(
     answer: &Answer<S, C>,
     wanted: &Shown<S, C>,
 ) {
-    assert_eq!(rt; read(answer), *wanted);
+    same(rt, "the answer", &read(answer), wanted);
 }
 
 /// Looks that a report says what is wanted.
 pub fn reports<S: Copy + Eq + Debug>(rt: &Host<impl Abort>, report: &Report<S>, wanted: &Did<S>) {
-    assert_eq!(rt; read_report(report), *wanted);
+    same(rt, "the report", &read_report(report), wanted);
 }
 
 impl<S, C> Shown<S, C> {

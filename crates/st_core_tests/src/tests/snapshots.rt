@@ -1,9 +1,9 @@
 //! Snapshots.
 use super::answers::{handled, handled_call, turn};
 use super::begin::begun;
-use super::host::Host;
+use super::host::{Host, holds, same};
 use super::machine::read_all;
-use super::seen::same;
+use super::seen::is_all;
 use super::shown::Shown::{Posted, Stopped, Ticked};
 use super::table::Table;
 use super::table_machine::{BEGIN, call, cast};
@@ -12,15 +12,16 @@ use super::told::{ID, Told, tag};
 use st_core::{
     Core, Due, Event, Item, Kind, Refusal, Request, RequestState, Running, Snapshot, Time, Timer,
 };
+use std::alloc::Global;
 use std::process::Abort;
 
 /// A machine's snapshot, which changes nothing that can be read. Where it finds no memory, it is made again.
 fn snapped(rt: &Host<impl Abort>, machine: &mut Core<Table>) -> Snapshot<Table> {
     let before = read_all(rt, machine);
     let mut snapshot = machine.snapshot();
-    same(rt, &read_all(rt, machine), &before);
+    is_all(rt, &read_all(rt, machine), &before);
     if let Err(refusal) = &snapshot {
-        assert_eq!(rt; *refusal, Refusal::NoMemory);
+        holds(rt, "memory was refused", *refusal == Refusal::NoMemory);
         rt.retry();
         snapshot = machine.snapshot();
     }
@@ -37,10 +38,8 @@ fn a_cast(number: u64, content: u32) -> Event<u32> {
 }
 
 /// A machine with a reply that is kept and a request that is open, an event that is postponed, one that was inserted,
-/// one that was posted, and an expiry that waits. Then it is stopped.
-#[test]
-fn a_snapshot_is_the_whole_machine(rt: HostRuntime) {
-    let rt = Host::new(rt);
+/// one that was posted, and an expiry that waits.
+fn with_all(rt: &Host<impl Abort>, alloc: Global) -> Core<Table> {
     let steps = [
         (call(5), Posted(1)),
         (call(0), Posted(2)),
@@ -57,13 +56,15 @@ fn a_snapshot_is_the_whole_machine(rt: HostRuntime) {
         turn(0, handled(7, Kind::Internal, 0, 0)),
         (Told::Tick(5), Ticked(1)),
     ];
-    let mut machine = begun(&rt, rt.alloc(), &BEGIN);
+    let mut machine = begun(rt, alloc, &BEGIN);
     for (told, wanted) in &steps {
-        does(&rt, &mut machine, *told, wanted);
+        does(rt, &mut machine, *told, wanted);
     }
-    let whole = snapped(&rt, &mut machine);
-    assert!(rt; whole.id == ID, "the id");
-    assert_eq!(rt; (whole.state, whole.data, whole.latest), (0, 7, 5));
+    machine
+}
+
+/// Looks at the events and the time-outs of its snapshot.
+fn schedule_is_whole(rt: &Host<impl Abort>, whole: &Snapshot<Table>) {
     let pending = [
         Item::Received(a_cast(4, 12)),
         Item::Received(a_cast(8, 21)),
@@ -76,16 +77,18 @@ fn a_snapshot_is_the_whole_machine(rt: HostRuntime) {
         due: Due::At(5),
         content: 0,
     }];
-    assert!(rt;
-        whole.schedule.pending.as_slice() == pending.as_slice(),
-        "what waits"
-    );
-    assert_eq!(rt; whole.schedule.postponed.as_slice(), [4].as_slice());
-    assert!(rt;
-        whole.schedule.running.as_slice() == running.as_slice(),
-        "what runs"
-    );
-    assert_eq!(rt; whole.schedule.next_number, 9);
+    let schedule = &whole.schedule;
+    let waits = schedule.pending.as_slice() == pending.as_slice();
+    holds(rt, "what waits", waits);
+    let is_postponed = schedule.postponed.as_slice() == [4].as_slice();
+    holds(rt, "what is postponed", is_postponed);
+    let runs = schedule.running.as_slice() == running.as_slice();
+    holds(rt, "what runs", runs);
+    same(rt, "the next number", &schedule.next_number, &9);
+}
+
+/// Looks at the requests of its snapshot.
+fn requests_are_whole(rt: &Host<impl Abort>, whole: &Snapshot<Table>) {
     let requests = [
         Request {
             tag: tag(1),
@@ -96,24 +99,43 @@ fn a_snapshot_is_the_whole_machine(rt: HostRuntime) {
             held: RequestState::Open,
         },
     ];
-    assert!(rt;
-        whole.requests.as_slice() == requests.as_slice(),
-        "the requests"
-    );
-    assert!(rt; whole.ended == None, "it runs");
-    assert!(rt; whole == snapped(&rt, &mut machine), "another snapshot");
-    does(&rt, &mut machine, Told::Stop(9), &Stopped(7));
-    let end = snapped(&rt, &mut machine);
-    assert!(rt; whole != end, "the end");
-    assert!(rt; end.schedule.pending.as_slice().is_empty());
-    assert!(rt; end.ended == Some((9, 7)), "the reason and the word");
+    let are_same = whole.requests.as_slice() == requests.as_slice();
+    holds(rt, "the requests", are_same);
+}
+
+/// Looks at the snapshot that follows a stop.
+fn is_closed(rt: &Host<impl Abort>, end: &Snapshot<Table>) {
     let closed = Request {
         tag: tag(2),
         held: RequestState::Stopped(9),
     };
-    assert!(rt;
-        end.requests.as_slice().last() == Some(&closed),
-        "the open one is closed"
+    holds(
+        rt,
+        "nothing waits",
+        end.schedule.pending.as_slice().is_empty(),
     );
+    holds(rt, "the reason and the word", end.ended == Some((9, 7)));
+    let is_closed = end.requests.as_slice().last() == Some(&closed);
+    holds(rt, "the open one is closed", is_closed);
+}
+
+/// A snapshot of a machine, another of the same, and one after it is stopped.
+#[test]
+fn a_snapshot_is_the_whole_machine(rt: HostRuntime) {
+    let rt = Host::new(rt);
+    let mut machine = with_all(&rt, rt.alloc());
+    let whole = snapped(&rt, &mut machine);
+    holds(&rt, "the id", whole.id == ID);
+    let parts = (whole.state, whole.data, whole.latest);
+    same(&rt, "state, data and moment", &parts, &(0, 7, 5));
+    schedule_is_whole(&rt, &whole);
+    requests_are_whole(&rt, &whole);
+    holds(&rt, "it runs", whole.ended == None);
+    let again = snapped(&rt, &mut machine);
+    holds(&rt, "another snapshot is equal", whole == again);
+    does(&rt, &mut machine, Told::Stop(9), &Stopped(7));
+    let end = snapped(&rt, &mut machine);
+    holds(&rt, "the end is another", whole != end);
+    is_closed(&rt, &end);
     rt.end();
 }

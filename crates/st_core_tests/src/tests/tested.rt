@@ -1,7 +1,7 @@
 //! Calls of a machine: where one finds no memory, the machine is looked at, and the call is made again.
-use super::host::Host;
+use super::host::{Host, got, holds};
 use super::machine::{Machine, read_all};
-use super::seen::same;
+use super::seen::is_all;
 use super::shown::{Shown, agree, read};
 use super::told::{Told, are_commands, commands, without_memory};
 use st_core::{Answer, Refusal};
@@ -17,7 +17,7 @@ fn try_tell<T: Machine>(
     let before = read_all(rt, machine);
     let answer = machine.call(told);
     if read(&answer).refusal().is_some() {
-        same(rt, &read_all(rt, machine), &before);
+        is_all(rt, &read_all(rt, machine), &before);
     }
     answer
 }
@@ -36,7 +36,7 @@ pub fn tell<T: Machine>(
     agree(rt, &answer, &without_memory(told));
     rt.retry();
     let again = try_tell(rt, machine, told);
-    assert!(rt; read(&again).takes_memory());
+    holds(rt, "it has taken memory", read(&again).takes_memory());
     again
 }
 
@@ -64,12 +64,18 @@ pub fn run<T: Machine>(
         Ok(answers) => return answers,
         Err(refused) => refused,
     };
-    assert_eq!(rt; refused.refusal, Refusal::NoMemory);
-    same(rt, &read_all(rt, machine), &before);
-    assert!(rt; are_commands(refused.value.as_slice(), steps));
+    holds(
+        rt,
+        "memory was refused",
+        refused.refusal == Refusal::NoMemory,
+    );
+    is_all(rt, &read_all(rt, machine), &before);
+    let are_back = are_commands(refused.value.as_slice(), steps);
+    holds(rt, "the commands come back", are_back);
     rt.retry();
-    match machine.call_run(refused.value) {
-        Ok(answers) => answers,
-        Err(_) => panic!(rt; "one allocation alone is refused"),
-    }
+    got(
+        rt,
+        "one allocation alone is refused",
+        machine.call_run(refused.value),
+    )
 }

@@ -1,9 +1,9 @@
 //! Commands that can be told again.
-use super::host::Host;
+use super::host::{Host, holds};
 use super::reserved::with_reserved;
 use super::shown::Shown;
 use st_core::{Command, Entry, MachineId, Reason, Refusal, Tag};
-use std::alloc::Global;
+use std::alloc::{AllocError, Global};
 use std::process::Abort;
 
 pub const ID: MachineId = MachineId { slot: 0, serial: 1 };
@@ -17,7 +17,7 @@ pub fn tag(request: u64) -> Tag {
 }
 
 /// A command that can be told again.
-#[derive(Clone, Copy, Debug)]
+#[derive(Copy)]
 pub enum Told<C> {
     Post(Entry, C),
     Tick(u64),
@@ -25,6 +25,12 @@ pub enum Told<C> {
     Reply(Tag, C),
     Collect(Tag),
     Stop(Reason),
+}
+
+impl<C: Copy> Clone for Told<C> {
+    fn clone(&self) -> Result<Told<C>, AllocError> {
+        Ok(*self)
+    }
 }
 
 /// What a command answers that finds no memory. A reply and a collect take none, so they always answer.
@@ -51,23 +57,6 @@ fn command_of<C: Copy>(told: Told<C>) -> Command<C> {
     }
 }
 
-/// Says whether it is that command.
-fn is_command<C: Copy + Eq>(command: &Command<C>, told: Told<C>) -> bool {
-    match (command, told) {
-        (Command::Post(entry, content), Told::Post(other_entry, other)) => {
-            *entry == other_entry && *content == other
-        }
-        (Command::Tick(now), Told::Tick(other)) => *now == other,
-        (Command::Turn(now), Told::Turn(other)) => *now == other,
-        (Command::Reply(tag, content), Told::Reply(other_tag, other)) => {
-            *tag == other_tag && *content == other
-        }
-        (Command::Collect(tag), Told::Collect(other)) => *tag == other,
-        (Command::Stop(reason), Told::Stop(other)) => *reason == other,
-        _ => false,
-    }
-}
-
 /// The commands of a run. Where memory was refused, it is asked for again.
 pub fn commands<S, C: Copy>(
     rt: &Host<impl Abort>,
@@ -76,7 +65,8 @@ pub fn commands<S, C: Copy>(
 ) -> Vec<Command<C>> {
     let mut commands = with_reserved(rt, alloc, steps.len());
     for (told, _) in steps {
-        assert!(rt; commands.push(command_of(*told)).is_ok());
+        let pushed = commands.push(command_of(*told));
+        holds(rt, "there is a place for each command", pushed.is_ok());
     }
     commands
 }
@@ -87,7 +77,7 @@ pub fn are_commands<S, C: Copy + Eq>(
     steps: &[(Told<C>, Shown<S, C>)],
 ) -> bool {
     for (command, (told, _)) in commands.iter().zip(steps.iter()) {
-        if !is_command(command, *told) {
+        if *command != command_of(*told) {
             return false;
         }
     }

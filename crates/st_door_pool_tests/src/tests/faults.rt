@@ -48,7 +48,7 @@ fn ends_at_each_write<R: Runtime>(
 fn each_worked_script_ends_at_each_failure(rt: HostRuntime) {
     let threads = rt;
     let rt = Host::new(rt);
-    if rt.is_left_out() {
+    if rt.end() {
         return;
     }
     for worked in ALL {

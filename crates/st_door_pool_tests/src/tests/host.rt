@@ -1,7 +1,9 @@
 //! What a test runs on.
+ghost use Rattle.std.specs.Prelude.{◌≡◌, IsTrue};
+
 use std::alloc::Global;
 use std::cell::Cell;
-use std::fmt::Display;
+use std::fmt::{Debug, Display};
 use std::io::Print;
 use std::process::Abort;
 
@@ -27,6 +29,17 @@ impl<R: AllocGlobal> Host<R> {
     pub fn alloc(&self) -> Global {
         self.rt.alloc()
     }
+
+    /// The allocation that is refused, if one is, is one made here: the test's own find memory.
+    pub fn with_memory(rt: R) -> Host<R> {
+        let host = Host::new(rt);
+        for _ in 0..10_000 {
+            if Box::new(host.alloc(), 'x').is_err() {
+                return host;
+            }
+        }
+        host
+    }
 }
 
 impl<R: Abort> Host<R> {
@@ -39,21 +52,23 @@ impl<R: Abort> Host<R> {
 
 impl<R: Abort + AllocGlobal + Print> Host<R> {
     /// Ends a test. Where none of its allocations was refused, one of those made here may be: then no call may have
-    /// been made again, and it prints a line that `tools/refuse-each` reads.
-    pub fn end(&self) {
-        let _ = self.is_left_out();
-    }
-
-    /// Says whether an allocation is to be refused, and then prints the line: a long test is left out.
-    pub fn is_left_out(&self) -> bool {
+    /// been made again, and it prints a line that `tools/refuse-each` reads. It says whether it did.
+    pub fn end(&self) -> bool {
         for _ in 0..10_000 {
             if Box::new(self.alloc(), 'x').is_err() {
                 assert_eq!(self; self.retries.get(), 0);
-                let _ = println!(self.rt; "nothing was refused");
+                self.end_with_memory();
                 return true;
             }
         }
         false
+    }
+}
+
+impl<R: Print> Host<R> {
+    /// Ends a test that began with memory: none of its own allocations was refused, and it says so.
+    pub fn end_with_memory(&self) {
+        let _ = println!(self.rt; "nothing was refused");
     }
 }
 
@@ -68,5 +83,28 @@ impl<R: Abort> Abort for Host<R> {
 
     fn panic<D: Display + Drop>(&self, message: D) -> ! {
         self.rt.panic(message)
+    }
+}
+
+/// Ends the test with this word where the fact does not hold. A macro in a test's body would branch there, and each
+/// branch is proved.
+pub fn holds(rt: &impl Abort, word: &str, fact: bool)
+    ensures { IsTrue fact }
+{
+    assert!(rt; fact, "{word}");
+}
+
+/// Ends the test with this word and both values where they differ.
+pub fn same<T: PartialEq + Debug>(rt: &impl Abort, word: &str, found: &T, wanted: &T) {
+    assert!(rt; found == wanted, "{word}: {found:?} in place of {wanted:?}");
+}
+
+/// What a call gave. Ends the test with this word where it was refused.
+pub fn got<T: Drop, E: Drop>(rt: &impl Abort, word: &str, outcome: Result<T, E>) -> T
+    ensures { outcome ≡ Ok result }
+{
+    match outcome {
+        Ok(value) => value,
+        Err(_) => panic!(rt; "{word}"),
     }
 }

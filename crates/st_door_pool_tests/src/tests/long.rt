@@ -17,18 +17,18 @@ fn add(script: &mut Vec<u8>, lines: &[u8], times: usize) -> Result<(), AllocErro
 /// count; and much time passes in small steps.
 pub fn long_script(alloc: Global) -> Result<Vec<u8>, AllocError> {
     let mut script = with_reserved(alloc, 16_384);
-    add(
-        &mut script,
-        b"new a 1\nnew b 23\nbutton a 1\nbutton b 2\nbutton b 3\n",
-        1,
-    )?;
-    add(&mut script, b"button a 1\nbutton b 4\nlength a\n", BUTTONS)?;
-    add(&mut script, b"at 10000\nshow a\nshow b\n", 1)?;
-    add(&mut script, b"at 10000\n", BUTTONS)?;
-    add(
-        &mut script,
-        b"at 40000\nshow a\nshow b\nstop a 1\nremove a\nnames\n",
-        1,
-    )?;
+    let rows = [
+        (
+            b"new a 1\nnew b 23\nbutton a 1\nbutton b 2\nbutton b 3\n".as_slice(),
+            1,
+        ),
+        (b"button a 1\nbutton b 4\nlength a\n", BUTTONS),
+        (b"at 10000\nshow a\nshow b\n", 1),
+        (b"at 10000\n", BUTTONS),
+        (b"at 40000\nshow a\nshow b\nstop a 1\nremove a\nnames\n", 1),
+    ];
+    for (lines, times) in rows {
+        add(&mut script, lines, times)?;
+    }
     Ok(script)
 }

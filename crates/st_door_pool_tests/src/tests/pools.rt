@@ -1,5 +1,5 @@
 //! What pools of workers print.
-use super::host::Host;
+use super::host::{Host, same};
 use super::long::long_script;
 use super::streams::{by, ends, run_once};
 use super::worked::ALL;
@@ -22,12 +22,12 @@ fn print_the_worked<R: Runtime>(rt: &Host<impl Abort + AllocGlobal>, threads: R,
 fn workers_print_what_run_script_prints(rt: HostRuntime) {
     let threads = rt;
     let rt = Host::new(rt);
-    if rt.is_left_out() {
+    if rt.end() {
         return;
     }
     let long = long_script(rt.alloc()).expect(&rt, "memory");
     let (wanted, output) = run_once(threads, rt.alloc(), long.as_slice(), by(0));
-    assert_eq!(rt; wanted, Ok(0));
+    same(&rt, "the long script's answer", &wanted, &Ok(0));
     for workers in WORKERS {
         print_the_worked(&rt, threads, workers);
         let way = by(workers.min(16));

@@ -2,7 +2,7 @@
 ghost use Rattle.std.specs.Prelude.{◌≡◌, ◌<◌, ◌≤◌};
 ghost use Rattle.std.specs.Io.{ReadsAtMost};
 
-use super::host::Host;
+use super::host::{Host, holds, same};
 use st_door::{Counted, Mode, ScriptFault, run_script};
 use st_door_pool::{Runtime, run_pool};
 use std::alloc::Global;
@@ -12,7 +12,7 @@ use std::process::Abort;
 use std::sync::ledger::{Blank, Ledger};
 
 /// By how many workers a script is run, and how it is read and written.
-#[derive(Clone, Copy, Debug)]
+#[derive(Clone, Copy)]
 pub struct Way {
     /// How many workers there are. With none, it is `run_script`.
     pub workers: usize,
@@ -164,10 +164,11 @@ pub fn ends<R: Runtime>(
 ) {
     let (mut answer, mut held) = run_once(threads, rt.alloc(), script, way);
     if answer == Err(ScriptFault::Memory) {
-        assert!(rt; output.starts_with(held.as_slice()));
+        let is_front = output.starts_with(held.as_slice());
+        holds(rt, "a front is written where memory is refused", is_front);
         rt.retry();
         (answer, held) = run_once(threads, rt.alloc(), script, way);
     }
-    assert_eq!(rt; held.as_slice(), output, "{way:?}");
-    assert_eq!(rt; answer, wanted, "{way:?}");
+    same(rt, "what is written", &held.as_slice(), &output);
+    same(rt, "the answer", &answer, &wanted);
 }

@@ -1,7 +1,7 @@
 //! Scripts whose outputs are worked out by hand.
 
 /// A script, what it prints, and its status.
-#[derive(Clone, Copy, Debug)]
+#[derive(Clone, Copy)]
 pub struct Worked {
     pub script: &'static [u8],
     pub output: &'static str,

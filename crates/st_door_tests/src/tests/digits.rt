@@ -1,6 +1,6 @@
 //! Lists of digits, one call at a time.
 
-use super::host::Host;
+use super::host::{Host, holds, same};
 use st_door::Digits;
 use std::alloc::Global;
 use std::process::Abort;
@@ -18,8 +18,8 @@ pub fn digits(rt: &Host<impl Abort>, alloc: Global, digits: &[u8]) -> Digits {
 
 /// Sees that a list has these digits.
 pub fn has_digits(rt: &Host<impl Abort>, list: &Digits, digits: &[u8]) {
-    assert_eq!(rt; list.as_slice(), digits);
-    assert_eq!(rt; list.len(), digits.len());
+    same(rt, "the digits", &list.as_slice(), &digits);
+    same(rt, "how many digits there are", &list.len(), &digits.len());
 }
 
 /// Puts a digit at the end of a list. Where there is no memory, the list stays, and the call is made again.
@@ -28,7 +28,11 @@ fn push(rt: &Host<impl Abort>, list: &mut Digits, digit: u8, before: &[u8]) {
     if list.push(digit).is_err() {
         has_digits(rt, list, before);
         rt.retry();
-        assert!(rt; list.push(digit).is_ok());
+        holds(
+            rt,
+            "one allocation alone is refused",
+            list.push(digit).is_ok(),
+        );
     }
 }
 

@@ -1,7 +1,7 @@
 //! The door's callbacks, called as a machine calls them, row by row.
 
 use super::digits::{digits, has_digits};
-use super::host::Host;
+use super::host::{Host, holds, same};
 use st_door::{
     Action, Actions, Digits, Door, DoorContent, DoorData, DoorState, EnterAction, EnterActions,
     EnterOutcome, Init, Kind, MachineId, Module, Outcome, Reason, Tag, Time, Timer,
@@ -147,9 +147,10 @@ fn enter_action_of(actions: &EnterActions<DoorContent>) -> Asked {
     }
 }
 
-/// An event at a door with these buttons, its answer, and the buttons of its data, if it has some.
+/// What is shown, an event at a door with these buttons, its answer, and the buttons of its data, if it has some.
 #[derive(Clone, Copy)]
 struct Row {
+    word: &'static str,
     kind: Kind,
     content: DoorContent,
     state: DoorState,
@@ -177,18 +178,17 @@ fn answer_of(rt: &Host<impl Abort>, outcome: &Handled, buttons: &[u8]) -> Answer
 }
 
 /// Sees that a door answers an event as its row says.
-fn holds(rt: &Host<impl Abort>, alloc: Global, row: Row) {
+fn answers(rt: &Host<impl Abort>, alloc: Global, row: Row) {
     let held = data_with(rt, alloc, row.buttons);
     let outcome = handled(rt, alloc, row.kind, &row.content, row.state, &held);
     let answer = answer_of(rt, &outcome.expect(rt, "memory"), row.after);
-    let (kind, content, state) = (row.kind, row.content, row.state);
-    assert!(rt; answer == row.answer, "{kind:?} {content:?} {state:?}");
+    holds(rt, row.word, answer == row.answer);
 }
 
 /// A test of these rows.
-fn hold(rt: &Host<impl Abort + Print + AllocGlobal>, rows: &[Row]) {
+fn all_answer(rt: &Host<impl Abort + Print + AllocGlobal>, rows: &[Row]) {
     for row in rows {
-        holds(rt, rt.alloc(), *row);
+        answers(rt, rt.alloc(), *row);
     }
     rt.end();
 }
@@ -210,6 +210,7 @@ fn enter_answer_of(rt: &Host<impl Abort>, outcome: &Entered, buttons: &[u8]) -> 
 fn enters(
     rt: &Host<impl Abort>,
     alloc: Global,
+    word: &str,
     old: DoorState,
     state: DoorState,
     buttons: &[u8],
@@ -218,7 +219,7 @@ fn enters(
     let held = data_with(rt, alloc, buttons);
     let outcome = entered(rt, alloc, old, state, &held).expect(rt, "memory");
     let answer = enter_answer_of(rt, &outcome, &[]);
-    assert!(rt; answer == wanted, "{old:?} {state:?}");
+    holds(rt, word, answer == wanted);
 }
 
 /// A request.
@@ -227,22 +228,30 @@ const TAG: Tag = Tag {
     request: 5,
 };
 
+/// Sees that a start leads to a locked door with no button, and asks for nothing.
+fn is_locked(rt: &Host<impl Abort>, begun: &Started) {
+    match begun {
+        Init::Ok(state, held, actions) => {
+            same(rt, "the first state", state, &DoorState::Locked);
+            has(rt, held, &[]);
+            holds(rt, "nothing is asked for", actions.is_empty());
+        }
+        _ => panic!(rt; "no door"),
+    }
+}
+
 #[test]
 fn a_door_begins_locked(rt: HostRuntime) {
     let rt = Host::new(rt);
     let code = digits(&rt, rt.alloc(), CODE);
     let begun = started(&rt, rt.alloc(), &code).expect(&rt, "memory");
-    let Init::Ok(state, held, actions) = begun else {
-        panic!(rt; "no door");
-    };
-    assert_eq!(rt; state, DoorState::Locked);
-    has(&rt, &held, &[]);
-    assert!(rt; actions.is_empty());
+    is_locked(&rt, &begun);
     rt.end();
 }
 
 /// A button at a locked door with these buttons, which goes to a state with those.
 fn button(
+    word: &'static str,
     digit: u8,
     buttons: &'static [u8],
     state: DoorState,
@@ -250,6 +259,7 @@ fn button(
     asked: Asked,
 ) -> Row {
     Row {
+        word,
         kind: Kind::Cast,
         content: DoorContent::Button(digit),
         state: DoorState::Locked,
@@ -265,22 +275,22 @@ fn a_button_counts_for_30000_milliseconds_while_the_door_is_locked(rt: HostRunti
     let time = Time::After(30_000);
     let asked = Asked::Sets(Timer::Event, time, DoorContent::Nothing);
     let rows = [
-        button(1, &[], DoorState::Locked, &[1], asked),
-        button(2, &[2], DoorState::Locked, &[2, 2], asked),
-        button(9, &[2, 1], DoorState::Locked, &[1, 9], asked),
-        button(1, &[3, 3], DoorState::Locked, &[3, 1], asked),
+        button("the first", 1, &[], DoorState::Locked, &[1], asked),
+        button("the second", 2, &[2], DoorState::Locked, &[2, 2], asked),
+        button("the third", 9, &[2, 1], DoorState::Locked, &[1, 9], asked),
+        button("a right one", 1, &[3, 3], DoorState::Locked, &[3, 1], asked),
     ];
-    hold(&rt, &rows);
+    all_answer(&rt, &rows);
 }
 
 #[test]
 fn the_last_digit_of_the_code_opens_the_door(rt: HostRuntime) {
     let rt = Host::new(rt);
     let rows = [
-        button(2, &[1], DoorState::Open, &[], Asked::Nothing),
-        button(2, &[3, 1], DoorState::Open, &[], Asked::Nothing),
+        button("the code", 2, &[1], DoorState::Open, &[], Asked::Nothing),
+        button("its end", 2, &[3, 1], DoorState::Open, &[], Asked::Nothing),
     ];
-    hold(&rt, &rows);
+    all_answer(&rt, &rows);
 }
 
 #[test]
@@ -288,6 +298,7 @@ fn a_button_of_an_open_door_is_postponed(rt: HostRuntime) {
     let rt = Host::new(rt);
     for digit in [1, 2] {
         let row = Row {
+            word: "each digit is postponed",
             kind: Kind::Cast,
             content: DoorContent::Button(digit),
             state: DoorState::Open,
@@ -295,14 +306,21 @@ fn a_button_of_an_open_door_is_postponed(rt: HostRuntime) {
             answer: Answer::Stays(Asked::Postpones),
             after: &[],
         };
-        holds(&rt, rt.alloc(), row);
+        answers(&rt, rt.alloc(), row);
     }
     rt.end();
 }
 
 /// The time-out of a timer at a door with the button 1.
-fn time_out(timer: Timer, state: DoorState, answer: Answer, after: &'static [u8]) -> Row {
+fn time_out(
+    word: &'static str,
+    timer: Timer,
+    state: DoorState,
+    answer: Answer,
+    after: &'static [u8],
+) -> Row {
     Row {
+        word,
         kind: Kind::Timeout(timer),
         content: DoorContent::Nothing,
         state,
@@ -315,17 +333,18 @@ fn time_out(timer: Timer, state: DoorState, answer: Answer, after: &'static [u8]
 #[test]
 fn a_timeout_locks_the_door_or_forgets_its_buttons(rt: HostRuntime) {
     let rt = Host::new(rt);
-    let locked = Answer::Goes(DoorState::Locked, Asked::Nothing);
+    let (locked, open) = (DoorState::Locked, DoorState::Open);
+    let locks = Answer::Goes(locked, Asked::Nothing);
     let stays = Answer::Stays(Asked::Nothing);
     let rows = [
-        time_out(Timer::Event, DoorState::Locked, locked, &[]),
-        time_out(Timer::State, DoorState::Open, locked, &[1]),
-        time_out(Timer::Event, DoorState::Open, stays, &[]),
-        time_out(Timer::State, DoorState::Locked, stays, &[]),
-        time_out(Timer::Named(0), DoorState::Locked, stays, &[]),
-        time_out(Timer::Named(1), DoorState::Open, stays, &[]),
+        time_out("it forgets", Timer::Event, locked, locks, &[]),
+        time_out("it locks", Timer::State, open, locks, &[1]),
+        time_out("open, of the event", Timer::Event, open, stays, &[]),
+        time_out("locked, of the state", Timer::State, locked, stays, &[]),
+        time_out("locked, named", Timer::Named(0), locked, stays, &[]),
+        time_out("open, named", Timer::Named(1), open, stays, &[]),
     ];
-    hold(&rt, &rows);
+    all_answer(&rt, &rows);
 }
 
 #[test]
@@ -333,10 +352,15 @@ fn a_locked_door_is_entered_with_no_button(rt: HostRuntime) {
     let rt = Host::new(rt);
     let (locked, open) = (DoorState::Locked, DoorState::Open);
     let wanted = Answer::Holds(Asked::Nothing);
-    assert!(rt; Door.enters());
-    enters(&rt, rt.alloc(), locked, locked, &[], wanted);
-    enters(&rt, rt.alloc(), open, locked, &[], wanted);
-    enters(&rt, rt.alloc(), open, locked, &[2, 1], wanted);
+    holds(&rt, "a door has enter calls", Door.enters());
+    let rows = [
+        ("at the start", locked, [].as_slice()),
+        ("with no button", open, &[]),
+        ("with two buttons", open, &[2, 1]),
+    ];
+    for (word, old, buttons) in rows {
+        enters(&rt, rt.alloc(), word, old, locked, buttons, wanted);
+    }
     rt.end();
 }
 
@@ -346,14 +370,8 @@ fn an_open_door_is_entered_for_10000_milliseconds(rt: HostRuntime) {
     let time = Time::After(10_000);
     let asked = Asked::Sets(Timer::State, time, DoorContent::Nothing);
     let wanted = Answer::Stays(asked);
-    enters(
-        &rt,
-        rt.alloc(),
-        DoorState::Locked,
-        DoorState::Open,
-        &[],
-        wanted,
-    );
+    let (locked, open) = (DoorState::Locked, DoorState::Open);
+    enters(&rt, rt.alloc(), "it opens", locked, open, &[], wanted);
     rt.end();
 }
 
@@ -362,6 +380,7 @@ fn a_call_is_told_how_long_the_code_is(rt: HostRuntime) {
     let rt = Host::new(rt);
     for state in [DoorState::Locked, DoorState::Open] {
         let row = Row {
+            word: "each state replies",
             kind: Kind::Call(TAG),
             content: DoorContent::CodeLength,
             state,
@@ -369,26 +388,35 @@ fn a_call_is_told_how_long_the_code_is(rt: HostRuntime) {
             answer: Answer::Stays(Asked::Replies(TAG, DoorContent::Length(2))),
             after: &[],
         };
-        holds(&rt, rt.alloc(), row);
+        answers(&rt, rt.alloc(), row);
     }
     rt.end();
 }
 
 /// What changes nothing in any state.
-const ELSE: &[(Kind, DoorContent)] = &[
-    (Kind::Call(TAG), DoorContent::Button(1)),
-    (Kind::Call(TAG), DoorContent::Length(1)),
-    (Kind::Call(TAG), DoorContent::Nothing),
-    (Kind::Cast, DoorContent::CodeLength),
-    (Kind::Cast, DoorContent::Length(1)),
-    (Kind::Cast, DoorContent::Nothing),
-    (Kind::Info, DoorContent::Button(1)),
-    (Kind::Internal, DoorContent::Button(1)),
+const ELSE: &[(&str, Kind, DoorContent)] = &[
+    (
+        "a button as a call",
+        Kind::Call(TAG),
+        DoorContent::Button(1),
+    ),
+    (
+        "a length as a call",
+        Kind::Call(TAG),
+        DoorContent::Length(1),
+    ),
+    ("nothing as a call", Kind::Call(TAG), DoorContent::Nothing),
+    ("a question as a cast", Kind::Cast, DoorContent::CodeLength),
+    ("a length as a cast", Kind::Cast, DoorContent::Length(1)),
+    ("nothing as a cast", Kind::Cast, DoorContent::Nothing),
+    ("a button as an info", Kind::Info, DoorContent::Button(1)),
+    ("an inserted button", Kind::Internal, DoorContent::Button(1)),
 ];
 
 /// An event that changes nothing, at a door with the button 1.
-fn unchanging(kind: Kind, content: DoorContent, state: DoorState) -> Row {
+fn unchanging(word: &'static str, kind: Kind, content: DoorContent, state: DoorState) -> Row {
     Row {
+        word,
         kind,
         content,
         state,
@@ -401,9 +429,10 @@ fn unchanging(kind: Kind, content: DoorContent, state: DoorState) -> Row {
 #[test]
 fn all_else_changes_nothing(rt: HostRuntime) {
     let rt = Host::new(rt);
-    for (kind, content) in ELSE {
+    for (word, kind, content) in ELSE {
         for state in [DoorState::Locked, DoorState::Open] {
-            holds(&rt, rt.alloc(), unchanging(*kind, *content, state));
+            let row = unchanging(word, *kind, *content, state);
+            answers(&rt, rt.alloc(), row);
         }
     }
     rt.end();
@@ -419,23 +448,29 @@ fn has_last_word(
     word: u32,
 ) {
     let held = data_with(rt, alloc, buttons);
-    assert_eq!(rt; Door.terminate(reason, state, &held), word);
+    let last = Door.terminate(reason, state, &held);
+    same(rt, "the last word", &last, &word);
 }
 
 #[test]
 fn the_last_word_counts_the_buttons(rt: HostRuntime) {
     let rt = Host::new(rt);
-    has_last_word(&rt, rt.alloc(), 7, DoorState::Locked, &[], 0);
-    has_last_word(&rt, rt.alloc(), 0, DoorState::Locked, &[1], 1);
-    has_last_word(&rt, rt.alloc(), Reason::MAX, DoorState::Locked, &[9, 1], 2);
-    has_last_word(&rt, rt.alloc(), 7, DoorState::Open, &[], 0);
+    let rows = [
+        (7, DoorState::Locked, [].as_slice(), 0),
+        (0, DoorState::Locked, &[1], 1),
+        (Reason::MAX, DoorState::Locked, &[9, 1], 2),
+        (7, DoorState::Open, &[], 0),
+    ];
+    for (reason, state, buttons, word) in rows {
+        has_last_word(&rt, rt.alloc(), reason, state, buttons, word);
+    }
     rt.end();
 }
 
 /// Sees that the copy of a content is equal to it.
 fn has_equal_copy(rt: &Host<impl Abort>, alloc: Global, content: DoorContent) {
     let copy = copied_content(rt, alloc, &content).expect(rt, "memory");
-    assert!(rt; copy == content);
+    holds(rt, "the copy is equal", copy == content);
 }
 
 #[test]

@@ -1,6 +1,6 @@
 //! Reads, writes and allocations that fail.
 
-use super::host::Host;
+use super::host::{Host, same};
 use super::streams::{Failure, PLAIN, Way, ends, shows};
 use super::worked::ALL;
 use st_door::ScriptFault;
@@ -89,7 +89,7 @@ fn a_write_that_takes_nothing_ends_the_script(rt: HostRuntime) {
 #[test]
 fn each_worked_script_is_the_same_a_byte_at_a_time(rt: HostRuntime) {
     let rt = Host::new(rt);
-    if rt.is_left_out() {
+    if rt.end() {
         return;
     }
     for worked in ALL {
@@ -108,7 +108,7 @@ fn each_worked_script_is_the_same_a_byte_at_a_time(rt: HostRuntime) {
 #[test]
 fn each_worked_script_ends_at_each_read_that_fails(rt: HostRuntime) {
     let rt = Host::new(rt);
-    if rt.is_left_out() {
+    if rt.end() {
         return;
     }
     for worked in ALL {
@@ -121,7 +121,7 @@ fn each_worked_script_ends_at_each_read_that_fails(rt: HostRuntime) {
 
 /// A test that fails at each write of each worked script in turn, a byte a write.
 fn fail_each_write(rt: &Host<impl Abort + Print + AllocGlobal>, failure: Failure) {
-    if rt.is_left_out() {
+    if rt.end() {
         return;
     }
     for worked in ALL {
@@ -175,15 +175,21 @@ fn has_text(rt: &Host<impl Abort>, alloc: Global, fault: ScriptFault, text: &str
         }
         printed => printed,
     };
-    assert_eq!(rt; printed.expect(rt, "memory").as_str(), text);
+    let printed = printed.expect(rt, "memory");
+    same(rt, "the text of a fault", &printed.as_str(), &text);
 }
 
 #[test]
 fn each_fault_has_its_text(rt: HostRuntime) {
     let rt = Host::new(rt);
-    has_text(&rt, rt.alloc(), ScriptFault::Read, "read fault");
-    has_text(&rt, rt.alloc(), ScriptFault::TooLong, "input too long");
-    has_text(&rt, rt.alloc(), ScriptFault::Write, "write fault");
-    has_text(&rt, rt.alloc(), ScriptFault::Memory, "no memory");
+    let rows = [
+        (ScriptFault::Read, "read fault"),
+        (ScriptFault::TooLong, "input too long"),
+        (ScriptFault::Write, "write fault"),
+        (ScriptFault::Memory, "no memory"),
+    ];
+    for (fault, text) in rows {
+        has_text(&rt, rt.alloc(), fault, text);
+    }
     rt.end();
 }

@@ -1,6 +1,6 @@
 //! Scripts at their limits and one past them.
 
-use super::host::Host;
+use super::host::{Host, holds, same};
 use super::streams::{PLAIN, Way, ends, prints, shows, with_reserved};
 use st_door::{INPUT_LIMIT, ScriptFault};
 use std::alloc::{AllocError, Global};
@@ -8,12 +8,12 @@ use std::alloc::{AllocError, Global};
 #[test]
 fn a_line_has_256_bytes_at_most(rt: HostRuntime) {
     let rt = Host::new(rt);
-    let spaces = [b' '; 257];
-    prints(&rt, rt.alloc(), &spaces[..256], "", 0);
-    prints(&rt, rt.alloc(), &spaces, "line 1 malformed\n", 1);
-    let comment = [b'#'; 257];
-    prints(&rt, rt.alloc(), &comment[..256], "", 0);
-    prints(&rt, rt.alloc(), &comment, "line 1 malformed\n", 1);
+    // A line without words, and a comment.
+    for byte in [b' ', b'#'] {
+        let line = [byte; 257];
+        prints(&rt, rt.alloc(), &line[..256], "", 0);
+        prints(&rt, rt.alloc(), &line, "line 1 malformed\n", 1);
+    }
     rt.end();
 }
 
@@ -78,12 +78,13 @@ fn a_reason_has_10_digits_and_is_4294967295_at_most(rt: HostRuntime) {
 #[test]
 fn an_input_has_1048576_bytes_at_most(rt: HostRuntime) {
     let rt = Host::new(rt);
-    if rt.is_left_out() {
+    if rt.end() {
         return;
     }
-    assert_eq!(rt; INPUT_LIMIT, 1_048_576);
+    same(&rt, "the limit", &INPUT_LIMIT, &1_048_576);
     let mut input = with_reserved(rt.alloc(), 1_048_577);
-    assert!(rt; input.resize(1_048_577, b'\n').is_ok());
+    let resized = input.resize(1_048_577, b'\n');
+    holds(&rt, "there is memory", resized.is_ok());
     prints(&rt, rt.alloc(), &input.as_slice()[1..], "", 0);
     let wanted = Err(ScriptFault::TooLong);
     ends(&rt, rt.alloc(), input.as_slice(), PLAIN, wanted, b"");
@@ -130,7 +131,7 @@ fn many_doors(alloc: Global) -> Result<(Vec<u8>, Vec<u8>), AllocError> {
 #[test]
 fn there_are_65536_doors_at_most(rt: HostRuntime) {
     let rt = Host::new(rt);
-    if rt.is_left_out() {
+    if rt.end() {
         return;
     }
     let (script, output) = many_doors(rt.alloc()).expect(&rt, "memory");

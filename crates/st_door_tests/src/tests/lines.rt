@@ -2,8 +2,6 @@
 
 use super::host::Host;
 use super::streams::{all_show, prints, shows};
-use std::alloc::Global;
-use std::process::Abort;
 
 /// What a script of one line prints that is malformed.
 const MALFORMED: &str = "line 1 malformed\n";
@@ -103,35 +101,21 @@ fn a_last_line_may_be_a_carriage_return(rt: HostRuntime) {
     shows(&rt, b"names\n\r", "names\n", 0);
 }
 
-/// Sees that a script is refused at its last line, which tells how many lines stand before it.
-fn is_refused(rt: &Host<impl Abort>, alloc: Global, script: &[u8], output: &str) {
-    prints(rt, alloc, script, output, 1);
-}
-
+/// Each script is refused at its last line, which tells how many lines stand before it.
 #[test]
 fn only_an_empty_last_piece_is_no_line(rt: HostRuntime) {
     let rt = Host::new(rt);
-    is_refused(&rt, rt.alloc(), b"show a", "line 1 refused 8\n");
-    is_refused(&rt, rt.alloc(), b"show a\n", "line 1 refused 8\n");
-    is_refused(&rt, rt.alloc(), b"\nshow a", "line 2 refused 8\n");
-    is_refused(&rt, rt.alloc(), b"\r\nshow a", "line 2 refused 8\n");
-    is_refused(
-        &rt,
-        rt.alloc(),
-        b"names\nshow a",
-        "names\nline 2 refused 8\n",
-    );
-    is_refused(
-        &rt,
-        rt.alloc(),
-        b"names\n\r\nshow a",
-        "names\nline 3 refused 8\n",
-    );
-    is_refused(
-        &rt,
-        rt.alloc(),
-        b"names\n\nshow a",
-        "names\nline 3 refused 8\n",
-    );
+    let rows = [
+        (b"show a".as_slice(), "line 1 refused 8\n"),
+        (b"show a\n", "line 1 refused 8\n"),
+        (b"\nshow a", "line 2 refused 8\n"),
+        (b"\r\nshow a", "line 2 refused 8\n"),
+        (b"names\nshow a", "names\nline 2 refused 8\n"),
+        (b"names\n\r\nshow a", "names\nline 3 refused 8\n"),
+        (b"names\n\nshow a", "names\nline 3 refused 8\n"),
+    ];
+    for (script, output) in rows {
+        prints(&rt, rt.alloc(), script, output, 1);
+    }
     rt.end();
 }

@@ -2,7 +2,7 @@
 ghost use Rattle.std.specs.Prelude.{◌≡◌, ◌<◌};
 ghost use Rattle.std.specs.Io.{ReadsAtMost};
 
-use super::host::Host;
+use super::host::{Host, holds, same};
 use st_door::{Counted, Mode, ScriptFault, run_script};
 use std::alloc::Global;
 use std::io::{self, ErrorKind, Print, Read, Write};
@@ -11,14 +11,14 @@ use std::process::Abort;
 use std::sync::ledger::{Blank, Ledger};
 
 /// How a write fails.
-#[derive(Clone, Copy, Debug, PartialEq, Eq)]
+#[derive(Clone, Copy)]
 pub enum Failure {
     Error,
     TakesNothing,
 }
 
 /// How a script is run, read and written.
-#[derive(Clone, Copy, Debug)]
+#[derive(Clone, Copy)]
 pub struct Way {
     pub mode: Mode,
     /// How many bytes a read gives or a write takes, at most.
@@ -164,14 +164,16 @@ pub fn ends(
 ) {
     let (mut answer, mut writer) = run_once(alloc, script, way);
     if answer == Err(ScriptFault::Memory) {
-        assert!(rt; output.starts_with(writer.held.as_slice()));
+        let is_front = output.starts_with(writer.held.as_slice());
+        holds(rt, "a front is written where memory is refused", is_front);
         rt.retry();
         (answer, writer) = run_once(alloc, script, way);
     }
-    assert_eq!(rt; writer.held.as_slice(), output, "{way:?}");
-    assert_eq!(rt; answer, wanted, "{way:?}");
+    same(rt, "what is written", &writer.held.as_slice(), &output);
+    same(rt, "the answer", &answer, &wanted);
     // A writer that takes all is handed each line by one write. Traces come a door at a time.
-    assert!(rt; writer.by_lines || way.most < usize::MAX || way.mode == Mode::Trace);
+    let comes_by_lines = writer.by_lines || way.most < usize::MAX || way.mode == Mode::Trace;
+    holds(rt, "each line comes by one write", comes_by_lines);
 }
 
 /// Sees that a script prints this and has this status.

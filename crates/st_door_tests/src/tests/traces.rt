@@ -23,7 +23,7 @@ const PRESSED: &[u8] = b"machine 0 1 front\n\
 #[test]
 fn each_worked_script_prints_its_traces(rt: HostRuntime) {
     let rt = Host::new(rt);
-    if rt.is_left_out() {
+    if rt.end() {
         return;
     }
     for worked in ALL {
@@ -49,7 +49,7 @@ fn no_memory_ends_a_traced_script(rt: HostRuntime) {
 #[test]
 fn a_traced_script_ends_at_each_write_that_fails(rt: HostRuntime) {
     let rt = Host::new(rt);
-    if rt.is_left_out() {
+    if rt.end() {
         return;
     }
     let trace = RETRYING.trace.as_bytes();

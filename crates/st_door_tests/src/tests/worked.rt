@@ -6,7 +6,7 @@ use std::io::Print;
 use std::process::Abort;
 
 /// A script, what its lines print, the traces of the doors that are left at its end, and its status.
-#[derive(Clone, Copy, Debug)]
+#[derive(Clone, Copy)]
 pub struct Worked {
     pub script: &'static [u8],
     pub output: &'static str,

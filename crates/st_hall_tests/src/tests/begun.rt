@@ -1,7 +1,7 @@
 //! How halls, their machines and pools begin and end. All find memory.
 ghost use Rattle.std.specs.Prelude.{◌≤◌};
 
-use super::host::Host;
+use super::host::{Host, got};
 use super::mark::Mark;
 use super::plain::Plain;
 use st_hall::{Hall, Machine, MachineId, Port, Registry, Started};
@@ -38,6 +38,14 @@ pub fn filled<R: Wait + Drop>(
     Arc::new(rt.alloc(), hall).expect(rt, "a hall")
 }
 
+/// The id of a machine that was started, and has no work.
+fn running(rt: &impl Abort, started: Started) -> MachineId {
+    match started {
+        Started::Running { id, wake: None } => id,
+        _ => panic!(rt; "it runs, and has no work"),
+    }
+}
+
 /// Starts a machine under a name, or under none, and answers its id.
 pub fn start<R: Wait + Drop>(
     rt: &Host<impl Abort>,
@@ -46,10 +54,10 @@ pub fn start<R: Wait + Drop>(
     name: Option<&str>,
 ) -> MachineId {
     let plain = Plain::new(mark).expect(rt, "an owner");
-    match hall.start(name, plain, &(), 0) {
-        Ok(Started::Running { id, wake: None }) => id,
-        _ => panic!(rt; "it runs, and has no work"),
-    }
+    running(
+        rt,
+        got(rt, "it is started", hall.start(name, plain, &(), 0)),
+    )
 }
 
 /// A port of the machine of an id.
@@ -74,9 +82,7 @@ pub fn ports<R: Runtime>(
     for slot in 0..count {
         let serial = (slot as u64).saturating_add(1);
         let port = port(rt, &threads, hall, id(slot, serial));
-        if ports.push(port).is_err() {
-            panic!(rt; "a place");
-        }
+        ports.push(port).expect(rt, "a place");
     }
     ports
 }
@@ -100,8 +106,5 @@ where
 
 /// Closes a pool.
 pub fn closes<R: Runtime>(rt: &Host<impl Abort>, pool: &mut Pool<R>) -> PoolEnd {
-    match pool.close() {
-        Ok(end) => end,
-        Err(_) => panic!(rt; "there is memory"),
-    }
+    got(rt, "there is memory", pool.close())
 }

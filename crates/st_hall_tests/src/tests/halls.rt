@@ -1,6 +1,6 @@
 //! A hall's calls, one after another.
 use super::begun::{hall, id, mark, port, start};
-use super::host::Host;
+use super::host::{Host, got, holds};
 use super::plain::Plain;
 use st_hall::{Hall, MachineId, Port, Refusal, Token};
 use st_lock::Entry;
@@ -8,47 +8,53 @@ use std::process::Abort;
 use std::sync::Wait;
 
 /// Posts an event that inserts one more to a machine at rest, and answers the token that it was issued.
-fn posted(rt: &Host<impl Abort>, threads: &impl Wait, port: &mut Port<Plain>) -> Token {
-    match port.post(threads, Entry::Cast, 2) {
-        Ok(posted) => posted.wake.expect(rt, "it was at rest"),
-        Err(_) => panic!(rt; "it is posted"),
-    }
+fn posted(rt: &impl Abort, threads: &impl Wait, port: &mut Port<Plain>) -> Token {
+    let posted = got(rt, "it is posted", port.post(threads, Entry::Cast, 2));
+    posted.wake.expect(rt, "it was at rest")
 }
 
 /// Serves a machine that has two events by its token. A turn at a moment that is too late leaves the token outstanding.
-fn is_served_twice<R: Wait + Drop>(rt: &Host<impl Abort>, hall: &Hall<Plain, R>, token: Token) {
-    assert_eq!(rt; hall.turn(token, 1 << 63), Some(token));
-    assert_eq!(rt; hall.turn(token, 5), Some(token));
-    assert_eq!(rt; hall.turn(token, 5), None);
-    assert_eq!(rt; hall.turn(token, 5), None);
+fn is_served_twice<R: Wait + Drop>(rt: &impl Abort, hall: &Hall<Plain, R>, token: Token) {
+    let late = hall.turn(token, 1 << 63);
+    holds(rt, "it is too late for a turn", late == Some(token));
+    let first = hall.turn(token, 5);
+    holds(rt, "one more event waits", first == Some(token));
+    let second = hall.turn(token, 5);
+    holds(rt, "no event waits", second == None);
+    let third = hall.turn(token, 5);
+    holds(rt, "the token was retired", third == None);
 }
 
 /// Stops a machine.
 fn stop<R: Wait + Drop>(
-    rt: &Host<impl Abort>,
+    rt: &impl Abort,
     threads: &impl Wait,
     hall: &Hall<Plain, R>,
     id: MachineId,
 ) {
     let machine = hall.machine(id).expect(rt, "it is there");
-    assert_eq!(rt; machine.id(), id);
-    assert_eq!(rt; machine.stop(threads, 3), Ok(7));
+    holds(rt, "its id", machine.id() == id);
+    holds(rt, "the last word", machine.stop(threads, 3) == Ok(7));
 }
 
 /// Removes a machine once it has ended, and looks that its name and its id name nothing then.
 fn is_removed<R: Wait + Drop>(
-    rt: &Host<impl Abort>,
+    rt: &impl Abort,
     threads: &impl Wait,
     hall: &Hall<Plain, R>,
     id: MachineId,
     name: &str,
 ) {
-    assert_eq!(rt; hall.remove_stopped(id), Err(Refusal::NotStopped));
+    let early = hall.remove_stopped(id);
+    holds(rt, "it runs", early == Err(Refusal::NotStopped));
     stop(rt, threads, hall, id);
-    assert_eq!(rt; hall.remove_stopped(id), Ok(()));
-    assert_eq!(rt; hall.remove_stopped(id), Err(Refusal::NoSuchMachine));
-    assert_eq!(rt; hall.whereis(name), Err(Refusal::NoSuchName));
-    assert!(rt; hall.machine(id).err() == Some(Refusal::NoSuchMachine));
+    holds(rt, "it is removed", hall.remove_stopped(id) == Ok(()));
+    let late = hall.remove_stopped(id);
+    holds(rt, "it was removed", late == Err(Refusal::NoSuchMachine));
+    let named = hall.whereis(name);
+    holds(rt, "its name is gone", named == Err(Refusal::NoSuchName));
+    let found = hall.machine(id).err();
+    holds(rt, "it is gone", found == Some(Refusal::NoSuchMachine));
 }
 
 #[test]
@@ -56,19 +62,25 @@ fn a_machine_is_found_served_and_removed(rt: HostRuntime) {
     let threads = rt;
     let rt = Host::with_memory(rt);
     let hall = hall(&rt, threads);
-    assert!(rt; hall.is_empty());
+    holds(&rt, "it is empty at first", hall.is_empty());
     let id = start(&rt, &hall, &mark(&rt, true), Some("front"));
-    assert_eq!(rt; hall.whereis("front"), Ok(id));
-    assert_eq!(rt; hall.len(), 1);
+    holds(&rt, "it is found", hall.whereis("front") == Ok(id));
+    holds(&rt, "it is the only one", hall.len() == 1);
     let mut port = port(&rt, &threads, &hall, id);
     let first = posted(&rt, &threads, &mut port);
     is_served_twice(&rt, &hall, first);
     let second = posted(&rt, &threads, &mut port);
-    assert!(rt; second != first);
+    holds(&rt, "the tokens differ", second != first);
     is_removed(&rt, &threads, &hall, id, "front");
-    assert_eq!(rt; hall.turn(second, 5), None);
-    assert!(rt; hall.is_empty());
+    holds(&rt, "its token rests", hall.turn(second, 5) == None);
+    holds(&rt, "it is empty at last", hall.is_empty());
     rt.end_with_memory();
+}
+
+/// Looks that this is a name, and the machine that it names.
+fn is_named(rt: &impl Abort, found: &(String, MachineId), name: &str, id: MachineId) {
+    holds(rt, "the name", found.0.as_str() == name);
+    holds(rt, "its machine", found.1 == id);
 }
 
 #[test]
@@ -80,12 +92,15 @@ fn names_stand_in_order(rt: HostRuntime) {
     for name in ["front", "back", "side"] {
         start(&rt, &hall, &mark, Some(name));
     }
-    assert_eq!(rt; hall.unregister("back"), Ok(()));
-    assert_eq!(rt; hall.unregister("back"), Err(Refusal::NoSuchName));
-    assert_eq!(rt; hall.len(), 3);
-    let names = hall.names(rt.alloc()).expect(&rt, "there is memory");
-    assert_eq!(rt; names.len(), 2);
-    assert!(rt; names[0].0.as_str() == "front" && names[0].1 == id(0, 1));
-    assert!(rt; names[1].0.as_str() == "side" && names[1].1 == id(2, 3));
+    let first = hall.unregister("back");
+    holds(&rt, "the name is let go", first == Ok(()));
+    let second = hall.unregister("back");
+    let is_gone = second == Err(Refusal::NoSuchName);
+    holds(&rt, "the name was let go", is_gone);
+    holds(&rt, "three machines are left", hall.len() == 3);
+    let names = got(&rt, "there is memory", hall.names(rt.alloc()));
+    holds(&rt, "two names are left", names.len() == 2);
+    is_named(&rt, &names[0], "front", id(0, 1));
+    is_named(&rt, &names[1], "side", id(2, 3));
     rt.end_with_memory();
 }

@@ -1,6 +1,6 @@
 //! A hall where one allocation is refused: nothing changes, what was handed in comes back, and the call is made again.
 use super::begun::{hall, id};
-use super::host::Host;
+use super::host::{Host, holds};
 use super::mark::Mark;
 use super::plain::Plain;
 use st_hall::{Hall, MachineId, Refusal, Started};
@@ -30,9 +30,11 @@ fn start<R: Wait + Drop>(
         Ok(started) => return Some(started),
         Err(refused) => refused,
     };
-    assert_eq!(rt; refused.refusal, Refusal::NoMemory);
-    assert!(rt; hall.is_empty());
-    assert_eq!(rt; hall.whereis(name), Err(Refusal::NoSuchName));
+    let refusal = refused.refusal;
+    holds(rt, "memory was refused", refusal == Refusal::NoMemory);
+    holds(rt, "there is no machine", hall.is_empty());
+    let named = hall.whereis(name);
+    holds(rt, "there is no name", named == Err(Refusal::NoSuchName));
     rt.retry();
     hall.start(Some(name), refused.value, &(), 0).ok()
 }
@@ -61,9 +63,12 @@ fn a_refused_call_changes_nothing(rt: HostRuntime) {
     let hall = hall(&rt, threads);
     let started = start(&rt, &hall, plain, "front");
     let id = id(0, 1);
-    assert_eq!(rt; started, Some(Started::Running { id, wake: None }));
+    let wanted = Some(Started::Running { id, wake: None });
+    holds(&rt, "it runs, and has no work", started == wanted);
     let names = names(&rt, &hall, rt.alloc());
-    assert_eq!(rt; names.len(), 1);
-    assert!(rt; names[0].0.as_str() == "front" && names[0].1 == id);
+    holds(&rt, "there is one name", names.len() == 1);
+    let (name, named) = &names[0];
+    holds(&rt, "its name", name.as_str() == "front");
+    holds(&rt, "its machine", *named == id);
     rt.end();
 }

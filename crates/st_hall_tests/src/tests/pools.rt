@@ -1,7 +1,7 @@
 //! A pool serves all machines of a hall.
 use super::begun::{closes, filled, mark, ports, started};
 use super::cast::{are_at_rest, casts_each};
-use super::host::Host;
+use super::host::{Host, holds};
 use super::plain::Plain;
 use super::silent::Silent;
 use st_hall::Port;
@@ -10,7 +10,7 @@ use std::process::Abort;
 
 /// Casts through each port five events, each of which inserts one more.
 fn casts_five<R: Runtime>(
-    rt: &Host<impl Abort>,
+    rt: &impl Abort,
     threads: R,
     pool: &Pool<R>,
     ports: &mut Vec<Port<Plain>>,
@@ -35,7 +35,7 @@ fn a_thousand_machines_make_ten_turns_each(rt: HostRuntime) {
     // Five posts and ten turns.
     are_at_rest(&rt, &threads, &mut ports, 15);
     let end = closes(&rt, &mut pool);
-    assert_eq!(rt; end.turns, 10_000);
-    assert!(rt; end.left.is_empty());
+    holds(&rt, "ten turns each", end.turns == 10_000);
+    holds(&rt, "no token is left", end.left.is_empty());
     rt.end_with_memory();
 }

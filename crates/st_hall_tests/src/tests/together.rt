@@ -3,7 +3,7 @@ ghost use Rattle.std.specs.Prelude.{◌≤◌};
 
 use super::begun::{closes, filled, mark, ports, started};
 use super::cast::casts;
-use super::host::Host;
+use super::host::{Host, holds};
 use super::mark::Mark;
 use super::plain::Plain;
 use super::silent::Silent;
@@ -15,16 +15,15 @@ use std::sync::Arc;
 
 /// Casts one content to the first machine, and then another to the second.
 fn casts_both<R: Runtime>(
-    rt: &Host<impl Abort>,
+    rt: &impl Abort,
     threads: R,
     pool: &Pool<R>,
     ports: &mut Vec<Port<Plain>>,
     contents: (u32, u32),
 ) {
     let scheduler = pool.scheduler().expect(rt, "a scheduler");
-    let (Some(mut second), Some(mut first)) = (ports.pop(), ports.pop()) else {
-        panic!(rt; "two ports");
-    };
+    let mut second = ports.pop().expect(rt, "two ports");
+    let mut first = ports.pop().expect(rt, "two ports");
     casts(rt, &threads, &mut first, &scheduler, contents.0);
     casts(rt, &threads, &mut second, &scheduler, contents.1);
 }
@@ -46,8 +45,8 @@ fn serves_both<R: Runtime, G: Gate + Drop + Send + Sync + 'static>(
     casts_both(rt, threads, &pool, &mut ports, contents);
     pool.drain();
     let end = closes(rt, &mut pool);
-    assert_eq!(rt; end.turns, 2);
-    assert!(rt; end.left.is_empty());
+    holds(rt, "a turn each", end.turns == 2);
+    holds(rt, "no token is left", end.left.is_empty());
 }
 
 /// How often the first machine's token waited in vain, before its turn, for the second one's turn.
@@ -82,8 +81,10 @@ fn waits_in_a_turn<R: Runtime>(
 fn two_workers_serve_two_machines_at_once_and_one_does_not(rt: HostRuntime) {
     let threads = rt;
     let rt = Host::with_memory(rt);
-    assert_eq!(rt; waits_at_the_gate(&rt, threads, 2), 0);
-    assert_eq!(rt; waits_at_the_gate(&rt, threads, 1), 1);
+    let of_two = waits_at_the_gate(&rt, threads, 2);
+    holds(&rt, "two workers do not wait in vain", of_two == 0);
+    let of_one = waits_at_the_gate(&rt, threads, 1);
+    holds(&rt, "one worker waits in vain", of_one == 1);
     rt.end_with_memory();
 }
 
@@ -91,7 +92,9 @@ fn two_workers_serve_two_machines_at_once_and_one_does_not(rt: HostRuntime) {
 fn a_machine_is_served_while_another_is_in_its_turn(rt: HostRuntime) {
     let threads = rt;
     let rt = Host::with_memory(rt);
-    assert_eq!(rt; waits_in_a_turn(&rt, threads, 2), 0);
-    assert_eq!(rt; waits_in_a_turn(&rt, threads, 1), 1);
+    let of_two = waits_in_a_turn(&rt, threads, 2);
+    holds(&rt, "two workers do not wait in vain", of_two == 0);
+    let of_one = waits_in_a_turn(&rt, threads, 1);
+    holds(&rt, "one worker waits in vain", of_one == 1);
     rt.end_with_memory();
 }

@@ -5,7 +5,7 @@ use st_lock::{Journal, Look, Next};
 use st_scheduled::{Posted, Ticked};
 
 /// A call of a cell, which can be made again.
-#[derive(Clone, Copy, Debug)]
+#[derive(Clone, Copy)]
 pub enum Asked {
     Port,
     Post(u64, Entry, u32),
@@ -22,8 +22,8 @@ pub enum Asked {
     Removable,
 }
 
-/// What a call answers.
-#[derive(Debug, PartialEq, Eq, Drop)]
+/// An answer that is compared as a whole.
+#[derive(PartialEq, Drop)]
 pub enum Answered {
     Port(Result<u64, Refusal>),
     Posted(Result<Posted, Refused<u32>>),
@@ -32,12 +32,14 @@ pub enum Answered {
     Collected(Result<Collected<u32>, Refusal>),
     Replied(Result<bool, Refused<u32>>),
     Stopped(Result<u32, Refusal>),
-    Looked(Result<Look<u32, u32>, Refusal>),
-    Journal(Result<Journal<u32, u32>, Refusal>),
     Cut(Result<(), Refusal>),
     Ports(usize),
     Token(Option<Token>),
     Removable(bool),
+    /// There is no look.
+    Unseen(Refusal),
+    /// There is no copy of the journal.
+    Uncopied(Refusal),
     /// No call was made, for the port is not open.
     NotOpen,
 }
@@ -53,9 +55,9 @@ impl Answered {
             Answered::Collected(Err(refusal)) => Some(*refusal),
             Answered::Replied(Err(refused)) => Some(refused.refusal),
             Answered::Stopped(Err(refusal)) => Some(*refusal),
-            Answered::Looked(Err(refusal)) => Some(*refusal),
-            Answered::Journal(Err(refusal)) => Some(*refusal),
             Answered::Cut(Err(refusal)) => Some(*refusal),
+            Answered::Unseen(refusal) => Some(*refusal),
+            Answered::Uncopied(refusal) => Some(*refusal),
             _ => None,
         }
     }
@@ -72,9 +74,51 @@ pub fn refused(asked: Asked, refusal: Refusal) -> Answered {
         Asked::Collect(_) => Answered::Collected(Err(refusal)),
         Asked::Reply(_, content) => Answered::Replied(Err(Refused::new(refusal, content))),
         Asked::Stop(_) => Answered::Stopped(Err(refusal)),
-        Asked::Look(_) => Answered::Looked(Err(refusal)),
-        Asked::Journal(_) => Answered::Journal(Err(refusal)),
+        Asked::Look(_) => Answered::Unseen(refusal),
+        Asked::Journal(_) => Answered::Uncopied(refusal),
         Asked::Cut => Answered::Cut(Err(refusal)),
         Asked::Ports | Asked::Token | Asked::Removable => Answered::NotOpen,
+    }
+}
+
+/// What a call comes to: an answer, or what is compared part by part.
+#[derive(Drop)]
+pub enum Given {
+    Answer(Answered),
+    Look(Look<u32, u32>),
+    Journal(Journal<u32, u32>),
+}
+
+impl Given {
+    /// Why the call was refused, if it was.
+    pub fn refusal(&self) -> Option<Refusal> {
+        match self {
+            Given::Answer(answered) => answered.refusal(),
+            _ => None,
+        }
+    }
+
+    /// Says whether this is an answer, and this one.
+    pub fn is(&self, wanted: &Answered) -> bool {
+        match self {
+            Given::Answer(answered) => *answered == *wanted,
+            _ => false,
+        }
+    }
+}
+
+/// What a look came to.
+pub fn looked(look: Result<Look<u32, u32>, Refusal>) -> Given {
+    match look {
+        Ok(look) => Given::Look(look),
+        Err(refusal) => Given::Answer(Answered::Unseen(refusal)),
+    }
+}
+
+/// What a copy of the journal came to.
+pub fn copied(journal: Result<Journal<u32, u32>, Refusal>) -> Given {
+    match journal {
+        Ok(journal) => Given::Journal(journal),
+        Err(refusal) => Given::Answer(Answered::Uncopied(refusal)),
     }
 }

@@ -1,5 +1,5 @@
 //! How a cell of a test begins.
-use super::host::Host;
+use super::host::{Host, got, holds};
 use super::plain::Plain;
 use super::twin::{snapshot_of, steps};
 use st_core::{
@@ -23,10 +23,16 @@ pub fn tag(number: u64) -> Tag {
     Tag::new(ID, number)
 }
 
+/// A call was refused for want of memory, and is made again.
+pub fn is_made_again(rt: &Host<impl Abort>, refusal: Refusal) {
+    holds(rt, "memory was refused", refusal == Refusal::NoMemory);
+    rt.retry();
+}
+
 /// Makes the call of a start, at the moment 0. Where it finds no memory, it is made again.
 fn start(rt: &Host<impl Abort>, alloc: Global, first: u64) -> Result<Start<Plain>, Refused<Plain>> {
-    assert!(rt; first >= 1);
-    assert!(rt; first < 1 << 63);
+    holds(rt, "the first number is above 0", first >= 1);
+    holds(rt, "the first number is below 2^63", first < 1 << 63);
     let started = Core::start_from(alloc, Plain, ID, &(), 0, first);
     if matches!(&started, Err(refused) if refused.refusal == Refusal::NoMemory) {
         rt.retry();
@@ -35,16 +41,21 @@ fn start(rt: &Host<impl Abort>, alloc: Global, first: u64) -> Result<Start<Plain
     started
 }
 
+/// The machine that was started.
+fn running(rt: &impl Abort, started: Start<Plain>) -> Core<Plain> {
+    match started {
+        Start::Running(core, _) => core,
+        _ => panic!(rt; "there is no machine"),
+    }
+}
+
 /// A machine whose first event gets this number, and to which casts with these contents were posted.
 pub fn machine(rt: &Host<impl Abort>, alloc: Global, first: u64, contents: &[u32]) -> Core<Plain> {
-    let mut core = match start(rt, alloc, first) {
-        Ok(Start::Running(core, _)) => core,
-        Ok(_) => panic!(rt; "there is no machine"),
-        Err(refused) => panic!(rt; "the start was refused: {}", refused.refusal),
-    };
+    let started = got(rt, "the machine is started", start(rt, alloc, first));
+    let mut core = running(rt, started);
     for content in contents {
         let answer = steps(rt, &mut core, &Command::Post(Entry::Cast, *content));
-        assert!(rt; matches!(answer, Answer::Post(Ok(_))));
+        holds(rt, "it is posted", matches!(answer, Answer::Post(Ok(_))));
     }
     core
 }
@@ -61,17 +72,15 @@ fn cell_of(
         Ok(begun) => return begun,
         Err(refused) => refused,
     };
-    assert_eq!(rt; refused.refusal, Refusal::NoMemory);
+    is_made_again(rt, refused.refusal);
     let mut core = refused.value;
-    assert!(rt;
-        snapshot_of(rt, &mut core) == *base,
-        "a refusal changes nothing"
-    );
-    rt.retry();
-    match Cell::new(alloc, core) {
-        Ok(begun) => begun,
-        Err(_) => panic!(rt; "one allocation alone is refused"),
-    }
+    let is_as_before = snapshot_of(rt, &mut core) == *base;
+    holds(rt, "a refusal changes nothing", is_as_before);
+    got(
+        rt,
+        "one allocation alone is refused",
+        Cell::new(alloc, core),
+    )
 }
 
 /// A cell whose machine gives its first event this number, and to which casts with these contents were posted; this is
@@ -87,7 +96,7 @@ pub fn begun(
     let base = snapshot_of(rt, &mut twin);
     let core = machine(rt, alloc, first, contents);
     let (cell, token) = cell_of(rt, alloc, core, &base);
-    assert_eq!(rt; token, wake);
+    holds(rt, "the token at first", token == wake);
     (cell, twin)
 }
 

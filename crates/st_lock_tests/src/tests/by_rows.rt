@@ -1,10 +1,12 @@
 //! A machine is posted events and served, and its journal is cut.
-use super::asked::Asked;
+use super::asked::{Answered, Asked};
 use super::begun::{just_begun, token};
 use super::did::handled;
 use super::host::Host;
-use super::played::plays;
-use super::row::{Row, Sight, looks, opens, posts, refuses, removable, rests, stops, turns};
+use super::played::plays_all;
+use super::row::{
+    Row, Sight, answers, looks, opens, posts, refuses, removable, rests, stops, turns,
+};
 use st_core::{Entry, Kind, Refusal};
 use st_lock::Next;
 
@@ -103,17 +105,18 @@ pub fn after_a_cut() -> [Row; 3] {
 #[test]
 fn a_cell_by_rows(rt: HostRuntime) {
     let rt = Host::new(rt);
-    let (mut cell, mut twin) = just_begun(&rt, rt.alloc());
-    plays(&rt, &mut cell, &mut twin, until_a_stop().as_slice());
+    let rows = until_a_stop();
+    plays_all(&rt, just_begun(&rt, rt.alloc()), &[rows.as_slice()]);
     rt.end();
 }
 
 #[test]
 fn a_journal_is_cut(rt: HostRuntime) {
     let rt = Host::new(rt);
-    let (mut cell, mut twin) = just_begun(&rt, rt.alloc());
-    plays(&rt, &mut cell, &mut twin, before_a_cut().as_slice());
-    plays(&rt, &mut cell, &mut twin, after_a_cut().as_slice());
-    assert_eq!(rt; cell.ports(), 1);
+    let before = before_a_cut();
+    let after = after_a_cut();
+    let ports = [answers(Asked::Ports, Answered::Ports(1))];
+    let lists = [before.as_slice(), after.as_slice(), ports.as_slice()];
+    plays_all(&rt, just_begun(&rt, rt.alloc()), lists.as_slice());
     rt.end();
 }

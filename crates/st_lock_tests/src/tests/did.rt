@@ -1,11 +1,11 @@
 //! What a turn is to do.
-use super::host::Host;
+use super::shows::shows;
 use st_core::{Call, Done, Kind, Report, Tag, Time, Timer};
 use std::process::Abort;
 
 /// What a turn is to do in the state 0: the event that is handled, how it ends, the requests that are answered, the
 /// events that are inserted, and the timers that are set.
-#[derive(Clone, Copy, Debug)]
+#[derive(Clone, Copy)]
 pub struct Did {
     number: u64,
     kind: Kind,
@@ -68,25 +68,34 @@ const TERMINATE: Call<u32> = Call::Terminate {
 };
 
 /// Looks that these callbacks were made.
-fn calls_are(rt: &Host<impl Abort>, report: &Report<u32>, calls: &[Call<u32>]) {
-    assert!(rt; report.calls.as_slice() == calls, "the calls of {report:?}");
+fn calls_are(rt: &impl Abort, row: usize, report: &Report<u32>, calls: &[Call<u32>]) {
+    shows(rt, row, "the calls", report.calls.as_slice() == calls);
 }
 
-/// Looks that a report says what is wanted, and no more.
-pub fn reports(rt: &Host<impl Abort>, report: &Report<u32>, did: &Did) {
-    assert_eq!(rt; report.event, Some(did.number));
-    assert_eq!(rt; report.done, did.done);
+/// Looks that the event was handled in the state 0, and that the machine ended where it was to end.
+fn are_called(rt: &impl Abort, row: usize, report: &Report<u32>, did: &Did) {
     let handle = Call::Handle {
         number: did.number,
         kind: did.kind,
         state: 0,
     };
     match did.done {
-        Done::Ended(_, _) => calls_are(rt, report, [handle, TERMINATE].as_slice()),
-        _ => calls_are(rt, report, [handle].as_slice()),
+        Done::Ended(_, _) => calls_are(rt, row, report, [handle, TERMINATE].as_slice()),
+        _ => calls_are(rt, row, report, [handle].as_slice()),
     }
-    assert_eq!(rt; (report.before, report.after), (0, 0));
-    assert!(rt; report.replied.as_slice() == did.replied, "{report:?}");
-    assert!(rt; report.inserted.as_slice() == did.inserted, "{report:?}");
-    assert!(rt; report.set.as_slice() == did.set, "{report:?}");
+}
+
+/// Looks that a report says what is wanted of a row, and no more.
+pub fn reports(rt: &impl Abort, row: usize, report: &Report<u32>, did: &Did) {
+    shows(rt, row, "the event", report.event == Some(did.number));
+    shows(rt, row, "how the turn ends", report.done == did.done);
+    are_called(rt, row, report, did);
+    shows(rt, row, "the state before", report.before == 0);
+    shows(rt, row, "the state after", report.after == 0);
+    let replied = report.replied.as_slice() == did.replied;
+    shows(rt, row, "the requests that are answered", replied);
+    let inserted = report.inserted.as_slice() == did.inserted;
+    shows(rt, row, "the events that are inserted", inserted);
+    let set = report.set.as_slice() == did.set;
+    shows(rt, row, "the timers that are set", set);
 }

@@ -3,7 +3,7 @@ use super::asked::Asked;
 use super::begun::{ID, just_begun, tag, token};
 use super::did::handled;
 use super::host::Host;
-use super::played::plays;
+use super::played::plays_all;
 use super::row::{
     Sight, collects, collects_nothing, collects_reason, copies, has_token, looks, opens, posts,
     refuses, removable, replies, rests, stops, turns,
@@ -30,7 +30,6 @@ const TOO_LATE: u64 = 9_223_372_036_854_775_808;
 #[test]
 fn requests_and_the_end(rt: HostRuntime) {
     let rt = Host::new(rt);
-    let (mut cell, mut twin) = just_begun(&rt, rt.alloc());
     let replied = handled(1, Kind::Call(tag(1))).replying(&[FIRST]);
     let rows = [
         opens(1),
@@ -48,7 +47,6 @@ fn requests_and_the_end(rt: HostRuntime) {
         refuses(Asked::Turn(token(0), 0), Refusal::NotQueued),
         refuses(Asked::Turn(FOREIGN, 0), Refusal::NotQueued),
     ];
-    plays(&rt, &mut cell, &mut twin, rows.as_slice());
     let end = [
         removable(false),
         stops(8, 3, 7),
@@ -67,14 +65,14 @@ fn requests_and_the_end(rt: HostRuntime) {
         replies(11, tag(3), 62, false),
         copies("front", 0),
     ];
-    plays(&rt, &mut cell, &mut twin, end.as_slice());
+    let lists = [rows.as_slice(), end.as_slice()];
+    plays_all(&rt, just_begun(&rt, rt.alloc()), lists.as_slice());
     rt.end();
 }
 
 #[test]
 fn a_machine_ends_by_its_turn(rt: HostRuntime) {
     let rt = Host::new(rt);
-    let (mut cell, mut twin) = just_begun(&rt, rt.alloc());
     let rows = [
         opens(1),
         posts(1, (1, Entry::Cast, 1), 1, Some(token(1))),
@@ -97,6 +95,6 @@ fn a_machine_ends_by_its_turn(rt: HostRuntime) {
             },
         ),
     ];
-    plays(&rt, &mut cell, &mut twin, rows.as_slice());
+    plays_all(&rt, just_begun(&rt, rt.alloc()), &[rows.as_slice()]);
     rt.end();
 }

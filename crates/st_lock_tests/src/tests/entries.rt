@@ -3,7 +3,7 @@ use super::asked::{Answered, Asked};
 use super::begun::{just_begun, tag, token};
 use super::did::handled;
 use super::host::Host;
-use super::played::plays;
+use super::played::plays_all;
 use super::row::{Sight, answers, copies, looks, opens, posts, ticks, turns};
 use st_core::{Entry, Kind, Time, Timer};
 use st_lock::Next;
@@ -11,7 +11,6 @@ use st_lock::Next;
 #[test]
 fn two_ports_count_apart(rt: HostRuntime) {
     let rt = Host::new(rt);
-    let (mut cell, mut twin) = just_begun(&rt, rt.alloc());
     let rows = [
         opens(1),
         opens(2),
@@ -41,7 +40,6 @@ fn two_ports_count_apart(rt: HostRuntime) {
         ),
         copies("", 0),
     ];
-    plays(&rt, &mut cell, &mut twin, rows.as_slice());
     let later = [
         turns(
             4,
@@ -72,14 +70,14 @@ fn two_ports_count_apart(rt: HostRuntime) {
             },
         ),
     ];
-    plays(&rt, &mut cell, &mut twin, later.as_slice());
+    let lists = [rows.as_slice(), later.as_slice()];
+    plays_all(&rt, just_begun(&rt, rt.alloc()), lists.as_slice());
     rt.end();
 }
 
 #[test]
 fn ticks_and_turns(rt: HostRuntime) {
     let rt = Host::new(rt);
-    let (mut cell, mut twin) = just_begun(&rt, rt.alloc());
     let again = Next::Again(token(1));
     let asked = handled(1, Kind::Cast)
         .inserting(&[3])
@@ -94,7 +92,6 @@ fn ticks_and_turns(rt: HostRuntime) {
         turns(6, token(1), 3, Next::Rest, handled(2, Kind::Cast).put_off()),
         copies("front", 0),
     ];
-    plays(&rt, &mut cell, &mut twin, rows.as_slice());
     let time_out = handled(4, Kind::Timeout(Timer::State));
     let later = [
         copies("front", 3),
@@ -112,6 +109,7 @@ fn ticks_and_turns(rt: HostRuntime) {
             },
         ),
     ];
-    plays(&rt, &mut cell, &mut twin, later.as_slice());
+    let lists = [rows.as_slice(), later.as_slice()];
+    plays_all(&rt, just_begun(&rt, rt.alloc()), lists.as_slice());
     rt.end();
 }

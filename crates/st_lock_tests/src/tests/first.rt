@@ -3,7 +3,7 @@ use super::asked::Asked;
 use super::begun::{begun, tag, token};
 use super::did::handled;
 use super::host::Host;
-use super::played::plays;
+use super::played::plays_all;
 use super::row::{Sight, copies, has_token, looks, opens, posts, refuses, rests, stops, turns};
 use st_core::{Entry, Kind, Refusal};
 use st_lock::Next;
@@ -18,7 +18,6 @@ const LAST_BUT_ONE: u64 = 9_223_372_036_854_775_806;
 fn an_event_comes_first(rt: HostRuntime) {
     let rt = Host::new(rt);
     let wake = Some(token(0));
-    let (mut cell, mut twin) = begun(&rt, rt.alloc(), 1, [2].as_slice(), wake);
     let rows = [
         has_token(wake),
         turns(
@@ -33,14 +32,14 @@ fn an_event_comes_first(rt: HostRuntime) {
         posts(3, (1, Entry::Cast, 0), 3, Some(token(3))),
         copies("front", 0),
     ];
-    plays(&rt, &mut cell, &mut twin, rows.as_slice());
+    let begun = begun(&rt, rt.alloc(), 1, [2].as_slice(), wake);
+    plays_all(&rt, begun, &[rows.as_slice()]);
     rt.end();
 }
 
 #[test]
 fn the_last_number_is_given_once(rt: HostRuntime) {
     let rt = Host::new(rt);
-    let (mut cell, mut twin) = begun(&rt, rt.alloc(), LAST, [].as_slice(), None);
     let rows = [
         opens(1),
         posts(1, (1, Entry::Call, 0), LAST, Some(token(1))),
@@ -54,14 +53,14 @@ fn the_last_number_is_given_once(rt: HostRuntime) {
         ),
         refuses(Asked::Post(1, Entry::Call, 8), Refusal::Exhausted),
     ];
-    plays(&rt, &mut cell, &mut twin, rows.as_slice());
+    let begun = begun(&rt, rt.alloc(), LAST, [].as_slice(), None);
+    plays_all(&rt, begun, &[rows.as_slice()]);
     rt.end();
 }
 
 #[test]
 fn a_turn_without_numbers_keeps_its_token(rt: HostRuntime) {
     let rt = Host::new(rt);
-    let (mut cell, mut twin) = begun(&rt, rt.alloc(), LAST_BUT_ONE, [].as_slice(), None);
     let rows = [
         opens(1),
         posts(1, (1, Entry::Cast, 7), LAST_BUT_ONE, Some(token(1))),
@@ -81,6 +80,7 @@ fn a_turn_without_numbers_keeps_its_token(rt: HostRuntime) {
         rests(token(1), 0),
         has_token(None),
     ];
-    plays(&rt, &mut cell, &mut twin, rows.as_slice());
+    let begun = begun(&rt, rt.alloc(), LAST_BUT_ONE, [].as_slice(), None);
+    plays_all(&rt, begun, &[rows.as_slice()]);
     rt.end();
 }

@@ -1,12 +1,12 @@
 //! A cell as a test sees it: what it is asked, and what can be read of it.
-use super::asked::{Answered, Asked};
+use super::asked::{Answered, Asked, Given, copied, looked};
 use super::plain::Plain;
 use st_core::{Entry, MachineState, Reason, Refusal};
 use st_events::Token;
 use st_lock::{Cell, JournalEntry, Look};
 
 /// What can be read of a cell that takes no memory, but its journal and its base.
-#[derive(Clone, Copy, Debug, PartialEq, Eq)]
+#[derive(Clone, Copy, PartialEq)]
 pub struct Seen {
     pub state: u32,
     pub held: u32,
@@ -23,7 +23,7 @@ pub struct Seen {
 /// A cell. What is done with any cell is proved with no contract of the cell at hand, which makes these proofs short.
 pub trait Kept: Drop {
     /// Makes a call. It is not made through a port that is not open.
-    fn ask(&mut self, asked: Asked) -> Answered;
+    fn ask(&mut self, asked: Asked) -> Given;
 
     /// What can be read that takes no memory.
     fn see(&self) -> Seen;
@@ -47,12 +47,11 @@ fn post(cell: &mut Cell<Plain>, port: u64, entry: Entry, content: u32) -> Answer
 }
 
 /// Looks through a port.
-fn look(cell: &Cell<Plain>, port: u64) -> Answered {
-    match cell.try_look(port) {
-        Ok(Some(look)) => Answered::Looked(Ok(look)),
-        Ok(None) => Answered::NotOpen,
-        Err(refusal) => Answered::Looked(Err(refusal)),
+fn look(cell: &Cell<Plain>, port: u64) -> Given {
+    if !cell.is_open(port) {
+        return Given::Answer(Answered::NotOpen);
     }
+    looked(cell.look(port))
 }
 
 /// Makes a call of the machine.
@@ -77,11 +76,9 @@ fn ask_cell(cell: &mut Cell<Plain>, asked: Asked) -> Answered {
     }
 }
 
-/// Reads.
-fn read(cell: &Cell<Plain>, asked: Asked) -> Answered {
+/// Reads a value.
+fn value(cell: &Cell<Plain>, asked: Asked) -> Answered {
     match asked {
-        Asked::Look(port) => look(cell, port),
-        Asked::Journal(label) => Answered::Journal(cell.journal(label)),
         Asked::Ports => Answered::Ports(cell.ports()),
         Asked::Token => Answered::Token(cell.token()),
         Asked::Removable => Answered::Removable(cell.removable()),
@@ -89,14 +86,23 @@ fn read(cell: &Cell<Plain>, asked: Asked) -> Answered {
     }
 }
 
+/// Reads.
+fn read(cell: &Cell<Plain>, asked: Asked) -> Given {
+    match asked {
+        Asked::Look(port) => look(cell, port),
+        Asked::Journal(label) => copied(cell.journal(label)),
+        _ => Given::Answer(value(cell, asked)),
+    }
+}
+
 impl Kept for Cell<Plain> {
-    fn ask(&mut self, asked: Asked) -> Answered {
+    fn ask(&mut self, asked: Asked) -> Given {
         match asked {
             Asked::Post(_, _, _) | Asked::Turn(_, _) | Asked::Tick(_) | Asked::Stop(_) => {
-                ask_machine(self, asked)
+                Given::Answer(ask_machine(self, asked))
             }
             Asked::Collect(_) | Asked::Reply(_, _) | Asked::Port | Asked::Cut => {
-                ask_cell(self, asked)
+                Given::Answer(ask_cell(self, asked))
             }
             _ => read(self, asked),
         }

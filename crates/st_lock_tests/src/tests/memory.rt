@@ -3,7 +3,7 @@ use super::asked::Asked;
 use super::begun::{just_begun, tag, token};
 use super::did::handled;
 use super::host::Host;
-use super::played::plays;
+use super::played::plays_all;
 use super::row::{
     Row, Sight, collects, copies, looks, opens, posts, refuses, replies, rests, stops, ticks, turns,
 };
@@ -52,8 +52,8 @@ pub fn each_call() -> [Row; 12] {
 #[test]
 fn each_call_is_made_again(rt: HostRuntime) {
     let rt = Host::new(rt);
-    let (mut cell, mut twin) = just_begun(&rt, rt.alloc());
-    plays(&rt, &mut cell, &mut twin, each_call().as_slice());
+    let rows = each_call();
+    plays_all(&rt, just_begun(&rt, rt.alloc()), &[rows.as_slice()]);
     rt.end();
 }
 
@@ -61,21 +61,17 @@ fn each_call_is_made_again(rt: HostRuntime) {
 #[test]
 fn a_stop_takes_no_memory(rt: HostRuntime) {
     let rt = Host::new(rt);
-    let (mut cell, mut twin) = just_begun(&rt, rt.alloc());
     let at_once = [stops(1, 3, 7), refuses(Asked::Stop(4), Refusal::Stopped(3))];
-    plays(&rt, &mut cell, &mut twin, at_once.as_slice());
-    let (mut cell, mut twin) = just_begun(&rt, rt.alloc());
-    let before = [opens(1)];
-    plays(&rt, &mut cell, &mut twin, before.as_slice());
-    let after = [stops(1, 3, 7)];
-    plays(&rt, &mut cell, &mut twin, after.as_slice());
-    let (mut cell, mut twin) = just_begun(&rt, rt.alloc());
+    plays_all(&rt, just_begun(&rt, rt.alloc()), &[at_once.as_slice()]);
+    let (before, after) = ([opens(1)], [stops(1, 3, 7)]);
+    let lists = [before.as_slice(), after.as_slice()];
+    plays_all(&rt, just_begun(&rt, rt.alloc()), lists.as_slice());
     let posted = [
         opens(1),
         posts(1, (1, Entry::Cast, 0), 1, Some(token(1))),
         stops(2, 3, 7),
         rests(token(1), 0),
     ];
-    plays(&rt, &mut cell, &mut twin, posted.as_slice());
+    plays_all(&rt, just_begun(&rt, rt.alloc()), &[posted.as_slice()]);
     rt.end();
 }

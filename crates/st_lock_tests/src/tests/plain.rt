@@ -27,7 +27,7 @@ use std::alloc::{AllocError, Global};
 /// | 6 | replies 50 where it is a call |
 /// | 7 | inserts 0 as internal twice |
 /// | other | keeps both |
-#[derive(Clone, Copy, Debug, PartialEq, Eq)]
+#[derive(Clone, Copy)]
 pub struct Plain;
 
 impl Module for Plain {

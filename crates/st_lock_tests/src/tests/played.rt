@@ -1,55 +1,55 @@
 //! Rows one after another: where a call finds no memory, the cell is looked at, and the call is made again.
-use super::asked::{Answered, Asked, refused};
+use super::asked::{Answered, Asked, Given, refused};
 use super::begun::ID;
 use super::did::reports;
-use super::host::Host;
+use super::host::{Host, holds};
 use super::kept::Kept;
+use super::plain::Plain;
 use super::row::{Line, Row, Sight, Told, Wanted, answers};
+use super::shows::shows;
 use super::twin::{Twin, replays, snapshot_of};
-use super::whole::read_all;
-use st_core::{Answer, MachineState, Refusal, Turned};
-use st_lock::{Journal, JournalEntry, Look};
+use super::whole::{Whole, read_all};
+use st_core::{Answer, Core, MachineState, Refusal, Turned};
+use st_lock::{Cell, Journal, JournalEntry, Look};
 use std::process::Abort;
 
-/// Looks that an answer in a journal is the one that is wanted.
-fn is_told(rt: &Host<impl Abort>, answer: &Answer<u32, u32>, told: &Told) {
+/// Looks that an answer in a journal is the one that is wanted of a row.
+fn is_told(rt: &impl Abort, row: usize, answer: &Answer<u32, u32>, told: &Told) {
     match (answer, told) {
-        (_, Told::Answer(other)) => {
-            assert!(rt; *answer == *other, "{answer:?} in place of {other:?}");
+        (_, Told::Answer(other)) => shows(rt, row, "the answer in its entry", *answer == *other),
+        (Answer::Turn(Ok(Turned::Reported(report))), Told::Turned(did)) => {
+            reports(rt, row, report, did);
         }
-        (Answer::Turn(Ok(Turned::Reported(report))), Told::Turned(did)) => reports(rt, report, did),
-        _ => panic!(rt; "{answer:?} in place of {told:?}"),
+        _ => shows(rt, row, "its entry has a report", false),
     }
 }
 
-/// Looks that an entry is the one that is wanted.
-fn is_line(rt: &Host<impl Abort>, entry: &JournalEntry<u32, u32>, line: &Line) {
-    assert_eq!(rt; entry.number, line.number);
-    assert_eq!(rt; entry.port, line.port);
-    assert!(rt;
-        entry.command == line.command,
-        "{entry:?} in place of {line:?}"
-    );
-    is_told(rt, &entry.answer, &line.told);
+/// Looks that an entry is the one that is wanted of a row.
+fn is_line(rt: &impl Abort, row: usize, entry: &JournalEntry<u32, u32>, line: &Line) {
+    shows(rt, row, "the entry's number", entry.number == line.number);
+    shows(rt, row, "the entry's port", entry.port == line.port);
+    let is_asked = entry.command == line.command;
+    shows(rt, row, "the entry's command", is_asked);
+    is_told(rt, row, &entry.answer, &line.told);
+}
+
+/// Looks that there is an entry, which is the one that is wanted of a row.
+fn is_there(rt: &impl Abort, row: usize, entry: Option<&JournalEntry<u32, u32>>, line: &Line) {
+    match entry {
+        Some(entry) => is_line(rt, row, entry, line),
+        None => shows(rt, row, "there is an entry", false),
+    }
 }
 
 /// Looks that a journal has the entries of the first rows, so many, and no other.
-pub fn are_lines(
-    rt: &Host<impl Abort>,
-    entries: &[JournalEntry<u32, u32>],
-    rows: &[Row],
-    done: usize,
-) {
+pub fn are_lines(rt: &impl Abort, entries: &[JournalEntry<u32, u32>], rows: &[Row], done: usize) {
     let mut left = entries.iter();
-    for row in rows.iter().take(done) {
+    for (place, row) in rows.iter().take(done).enumerate() {
         if let Some(line) = &row.line {
-            match left.next() {
-                Some(entry) => is_line(rt, entry, line),
-                None => panic!(rt; "there is no entry in place of {line:?}"),
-            }
+            is_there(rt, place, left.next(), line);
         }
     }
-    assert!(rt; left.next().is_none(), "there is an entry more");
+    holds(rt, "there is no entry more", left.next().is_none());
 }
 
 /// What a cell's journal is to be: the entries of the first rows, so many, over this base.
@@ -61,86 +61,118 @@ struct Past<'a> {
 }
 
 /// Looks that a cell's journal is what it is to be.
-fn is_kept<T: Kept>(rt: &Host<impl Abort>, cell: &T, past: &Past<'_>) {
+fn is_kept<T: Kept>(rt: &impl Abort, cell: &T, past: &Past<'_>) {
     are_lines(rt, cell.read_entries(), past.rows, past.done);
-    assert!(rt; *cell.read_base() == *past.base, "the base");
+    let is_base = *cell.read_base() == *past.base;
+    shows(rt, past.done, "the base before it", is_base);
     if let Some(last) = cell.read_entries().last() {
-        assert_eq!(rt; cell.see().count, last.number);
+        let is_count = cell.see().count == last.number;
+        shows(rt, past.done, "the count before it", is_count);
     }
 }
 
-/// Makes one call. A refusal changes nothing that can be read. Where the call finds no memory, what it was given comes
-/// back, and the same call is made again.
-fn tell<T: Kept>(rt: &Host<impl Abort>, cell: &mut T, row: &Row, past: &Past<'_>) -> Answered {
-    let before = read_all(rt, cell);
-    let answered = cell.ask(row.asked);
-    let Some(refusal) = answered.refusal() else {
-        return answered;
+/// Looks that a call that found no memory may find none, and that what it was given came back.
+pub fn is_given_back(rt: &impl Abort, place: usize, row: &Row, given: &Given) {
+    shows(rt, place, "it takes no memory", row.takes_memory());
+    let wanted = refused(row.asked, Refusal::NoMemory);
+    shows(rt, place, "what it was given comes back", given.is(&wanted));
+}
+
+/// Looks that a refusal changed nothing that can be read, and says whether there was no memory for the call, which is
+/// made again then. What it was given came back.
+fn found_no_memory<T: Kept>(
+    rt: &Host<impl Abort>,
+    cell: &T,
+    row: &Row,
+    past: &Past<'_>,
+    given: &Given,
+    before: &Whole,
+) -> bool {
+    let Some(refusal) = given.refusal() else {
+        return false;
     };
-    assert!(rt;
-        read_all(rt, cell) == before,
-        "{:?} changes nothing",
-        row.asked
-    );
+    let is_as_before = read_all(rt, cell) == *before;
+    shows(rt, past.done, "a refusal changes nothing", is_as_before);
     is_kept(rt, cell, past);
     if refusal != Refusal::NoMemory {
-        return answered;
+        return false;
     }
-    assert!(rt; row.takes_memory(), "{:?} takes no memory", row.asked);
-    assert!(rt;
-        answered == refused(row.asked, Refusal::NoMemory),
-        "{answered:?}"
-    );
+    is_given_back(rt, past.done, row, given);
     rt.retry();
-    cell.ask(row.asked)
+    true
 }
 
-/// Looks that a look is the one that is wanted.
-pub fn is_sight(rt: &Host<impl Abort>, look: &Look<u32, u32>, sight: &Sight) {
-    assert_eq!(rt; (look.state, look.held), (0, 7));
-    assert_eq!(rt; look.waiting, sight.waiting);
-    assert_eq!(rt; look.entries, sight.entries);
-    assert_eq!(rt; look.mine, sight.mine);
-    assert_eq!(rt; look.numbers.as_slice(), sight.numbers);
-    assert_eq!(rt; look.ended, sight.ended);
+/// Makes one call. Where it finds no memory, the same call is made again.
+fn tell<T: Kept>(rt: &Host<impl Abort>, cell: &mut T, row: &Row, past: &Past<'_>) -> Given {
+    let before = read_all(rt, cell);
+    let given = cell.ask(row.asked);
+    if found_no_memory(rt, cell, row, past, &given, &before) {
+        return cell.ask(row.asked);
+    }
+    given
+}
+
+/// Looks that a look is the one that is wanted of a row.
+pub fn is_sight(rt: &impl Abort, row: usize, look: &Look<u32, u32>, sight: &Sight) {
+    shows(rt, row, "the state that is seen", look.state == 0);
+    shows(rt, row, "the data that are seen", look.held == 7);
+    shows(rt, row, "how many wait", look.waiting == sight.waiting);
+    shows(rt, row, "how many entries", look.entries == sight.entries);
+    shows(rt, row, "how many are mine", look.mine == sight.mine);
+    let are_mine = look.numbers.as_slice() == sight.numbers;
+    shows(rt, row, "the numbers of mine", are_mine);
+    shows(rt, row, "how it ended", look.ended == sight.ended);
+}
+
+/// Looks that a copy of a journal has the machine's id, this label and this moment.
+pub fn is_labelled(
+    rt: &impl Abort,
+    row: usize,
+    journal: &Journal<u32, u32>,
+    label: &str,
+    from: u64,
+) {
+    shows(rt, row, "whose journal it is", journal.id == ID);
+    shows(rt, row, "the label", journal.label.as_str() == label);
+    shows(rt, row, "the moment of the base", journal.from == from);
 }
 
 /// Looks that a copy of a cell's journal is the whole journal, with this label and this moment.
 fn is_copy<T: Kept>(
-    rt: &Host<impl Abort>,
+    rt: &impl Abort,
+    row: usize,
     cell: &T,
     journal: &Journal<u32, u32>,
     label: &str,
     from: u64,
 ) {
-    assert_eq!(rt; journal.id, ID);
-    assert_eq!(rt; journal.label.as_str(), label);
-    assert_eq!(rt; journal.from, from);
-    assert_eq!(rt; cell.read_base().latest, from);
-    assert!(rt;
-        journal.entries.as_slice() == cell.read_entries(),
-        "{journal:?}"
+    is_labelled(rt, row, journal, label, from);
+    shows(
+        rt,
+        row,
+        "the base's moment",
+        cell.read_base().latest == from,
     );
+    let is_whole = journal.entries.as_slice() == cell.read_entries();
+    shows(rt, row, "the whole journal", is_whole);
 }
 
-/// Looks that an answer is the one that is wanted.
-fn agrees<T: Kept>(rt: &Host<impl Abort>, cell: &T, answered: &Answered, wanted: &Wanted) {
-    match (answered, wanted) {
-        (_, Wanted::Answer(other)) => {
-            assert!(rt; *answered == *other, "{answered:?} in place of {other:?}");
+/// Looks that what a call came to is what is wanted of its row.
+fn agrees<T: Kept>(rt: &impl Abort, row: usize, cell: &T, given: &Given, wanted: &Wanted) {
+    match (given, wanted) {
+        (_, Wanted::Answer(other)) => shows(rt, row, "the answer", given.is(other)),
+        (Given::Look(look), Wanted::Look(sight)) => is_sight(rt, row, look, sight),
+        (Given::Journal(journal), Wanted::Journal(label, from)) => {
+            is_copy(rt, row, cell, journal, label, *from);
         }
-        (Answered::Looked(Ok(look)), Wanted::Look(sight)) => is_sight(rt, look, sight),
-        (Answered::Journal(Ok(journal)), Wanted::Journal(label, from)) => {
-            is_copy(rt, cell, journal, label, *from);
-        }
-        _ => panic!(rt; "{answered:?} in place of {wanted:?}"),
+        _ => shows(rt, row, "a look or a copy", false),
     }
 }
 
 /// Makes one call, and looks at its answer.
 fn does<T: Kept>(rt: &Host<impl Abort>, cell: &mut T, row: &Row, past: &Past<'_>) {
-    let answered = tell(rt, cell, row, past);
-    agrees(rt, cell, &answered, &row.wanted);
+    let given = tell(rt, cell, row, past);
+    agrees(rt, past.done, cell, &given, &row.wanted);
 }
 
 /// The journal is told to the twin, which answers what the journal says, and cut. The base is what the twin is then,
@@ -151,15 +183,17 @@ fn cuts<T: Kept, U: Twin>(rt: &Host<impl Abort>, cell: &mut T, twin: &mut U, pas
     let before = cell.see();
     let row = answers(Asked::Cut, Answered::Cut(Ok(())));
     does(rt, cell, &row, past);
-    assert_eq!(rt; cell.see(), before);
-    assert!(rt; cell.read_entries().is_empty());
-    assert!(rt; *cell.read_base() == base, "the base");
+    holds(rt, "a cut changes nothing else", cell.see() == before);
+    let is_empty = cell.read_entries().is_empty();
+    holds(rt, "the journal is empty behind a cut", is_empty);
+    let is_twin = *cell.read_base() == base;
+    holds(rt, "the base is the twin behind a cut", is_twin);
 }
 
 /// Makes calls one after another of a cell whose journal is empty, and looks at their answers, and at the whole journal
 /// and the base before each call and after the last one. Then the journal is cut. The twin is what the cell's machine
 /// was before the first call, and becomes what it is after the last one.
-pub fn plays<T: Kept, U: Twin>(rt: &Host<impl Abort>, cell: &mut T, twin: &mut U, rows: &[Row]) {
+fn plays<T: Kept, U: Twin>(rt: &Host<impl Abort>, cell: &mut T, twin: &mut U, rows: &[Row]) {
     let base = snapshot_of(rt, twin);
     for (done, row) in rows.iter().enumerate() {
         let past = Past {
@@ -177,4 +211,13 @@ pub fn plays<T: Kept, U: Twin>(rt: &Host<impl Abort>, cell: &mut T, twin: &mut U
     };
     is_kept(rt, cell, &past);
     cuts(rt, cell, twin, &past);
+}
+
+/// Plays lists of rows one after another over a cell, beside a machine that has begun alike. Behind each list the
+/// journal is cut.
+pub fn plays_all(rt: &Host<impl Abort>, begun: (Cell<Plain>, Core<Plain>), lists: &[&[Row]]) {
+    let (mut cell, mut twin) = begun;
+    for rows in lists {
+        plays(rt, &mut cell, &mut twin, rows);
+    }
 }

@@ -7,7 +7,7 @@ use st_lock::Next;
 use st_scheduled::{Posted, Ticked};
 
 /// What is to be seen through a port, of a machine in the state 0 with the data 7.
-#[derive(Clone, Copy, Debug)]
+#[derive(Clone, Copy)]
 pub struct Sight {
     pub waiting: usize,
     pub entries: u64,
@@ -17,7 +17,7 @@ pub struct Sight {
 }
 
 /// What a call is to answer.
-#[derive(Debug, Drop)]
+#[derive(Drop)]
 pub enum Wanted {
     /// This answer.
     Answer(Answered),
@@ -28,7 +28,7 @@ pub enum Wanted {
 }
 
 /// What an entry is to say that was answered.
-#[derive(Debug, Drop)]
+#[derive(Drop)]
 pub enum Told {
     /// This answer.
     Answer(Answer<u32, u32>),
@@ -37,7 +37,7 @@ pub enum Told {
 }
 
 /// The entry that a call is to have.
-#[derive(Debug, Drop)]
+#[derive(Drop)]
 pub struct Line {
     pub number: u64,
     pub port: Option<u64>,
@@ -46,7 +46,7 @@ pub struct Line {
 }
 
 /// A call, what it is to answer, and the entry that it is to have.
-#[derive(Debug, Drop)]
+#[derive(Drop)]
 pub struct Row {
     pub asked: Asked,
     pub wanted: Wanted,

@@ -2,13 +2,14 @@
 ghost use Rattle.std.specs.Prelude.{◌≡◌};
 ghost use Rattle.st_lock.specs.Machines.{id_for};
 
-use super::asked::{Answered, Asked, refused};
-use super::begun::{ID, machine};
-use super::host::Host;
+use super::asked::{Answered, Asked, Given, copied, looked};
+use super::begun::{ID, is_made_again, machine};
+use super::host::{Host, got, holds};
 use super::plain::Plain;
-use super::played::{are_lines, is_sight};
+use super::played::{are_lines, is_given_back, is_labelled, is_sight};
 use super::row::{Row, Wanted, answers};
-use st_lock::{Entry, Journal, Look, Machine, MachineId, MachineRoom, Port, Refusal};
+use super::shows::shows;
+use st_lock::{Core, Entry, Journal, Look, Machine, MachineId, MachineRoom, Port, Refusal, Token};
 use std::alloc::Global;
 use std::process::Abort;
 use std::sync::{Arc, Wait};
@@ -21,36 +22,48 @@ pub struct Shared {
 }
 
 /// What can be read of a machine of at most two ports, but its journal.
-#[derive(Debug, PartialEq, Eq, Drop)]
+#[derive(PartialEq, Drop)]
 struct Reading {
     looks: [Option<Look<u32, u32>>; 2],
     removable: bool,
 }
 
-/// A machine that has just started, and has no port. Where memory was refused, it is made again, and had come back.
-pub fn share(rt: &Host<impl Abort>, alloc: Global) -> Shared {
-    let core = machine(rt, alloc, 1, [].as_slice());
-    let made = match Machine::new(alloc, core) {
-        Ok(made) => Ok(made),
-        Err(refused) => {
-            assert_eq!(rt; refused.refusal, Refusal::NoMemory);
-            rt.retry();
-            Machine::new(alloc, refused.value)
-        }
+/// Makes a machine. Where memory was refused, its core had come back, and it is made again.
+fn made(
+    rt: &Host<impl Abort>,
+    alloc: Global,
+    core: Core<Plain>,
+) -> (Machine<Plain>, Option<Token>) {
+    let refused = match Machine::new(alloc, core) {
+        Ok(made) => return made,
+        Err(refused) => refused,
     };
-    let Ok((machine, token)) = made else {
-        panic!(rt; "one allocation alone is refused")
-    };
-    assert_eq!(rt; token, None);
-    let machine = match Arc::new(alloc, machine) {
+    is_made_again(rt, refused.refusal);
+    got(
+        rt,
+        "one allocation alone is refused",
+        Machine::new(alloc, refused.value),
+    )
+}
+
+/// Makes a machine that threads may own. Where memory was refused, it had come back, and that is made again.
+fn owned(rt: &Host<impl Abort>, alloc: Global, machine: Machine<Plain>) -> Arc<Machine<Plain>> {
+    match Arc::new(alloc, machine) {
         Ok(machine) => machine,
         Err(failed) => {
             rt.retry();
             Arc::new(alloc, failed.value).expect(rt, "one allocation alone is refused")
         }
-    };
+    }
+}
+
+/// A machine that has just started, and has no port. Where memory was refused, it is made again, and had come back.
+pub fn share(rt: &Host<impl Abort>, alloc: Global) -> Shared {
+    let core = machine(rt, alloc, 1, [].as_slice());
+    let (machine, token) = made(rt, alloc, core);
+    holds(rt, "it has no work", token == None);
     Shared {
-        machine,
+        machine: owned(rt, alloc, machine),
         ports: Vec::new(alloc),
     }
 }
@@ -62,31 +75,39 @@ fn room(rt: &Host<impl Abort>, alloc: Global, id: MachineId) -> MachineRoom<Plai
     match MachineRoom::new(alloc, id) {
         Ok(room) => room,
         Err(refusal) => {
-            assert_eq!(rt; refusal, Refusal::NoMemory);
-            rt.retry();
+            is_made_again(rt, refusal);
             MachineRoom::new(alloc, id).expect(rt, "one allocation alone is refused")
         }
     }
 }
 
-/// A machine that has just started, and was put where room was made for it. Where memory was refused, it had come back,
-/// and is put where room is made anew.
+/// Puts a machine where room is made for it. Where memory was refused, it had come back, and is put where room is made
+/// anew.
+fn put(
+    rt: &Host<impl Abort>,
+    threads: &impl Wait,
+    alloc: Global,
+    core: Core<Plain>,
+) -> (Arc<Machine<Plain>>, Option<Token>) {
+    let id = core.id();
+    let refused = match room(rt, alloc, id).fill(alloc, threads, core) {
+        Ok(put) => return put,
+        Err(refused) => refused,
+    };
+    is_made_again(rt, refused.refusal);
+    got(
+        rt,
+        "one allocation alone is refused",
+        room(rt, alloc, id).fill(alloc, threads, refused.value),
+    )
+}
+
+/// A machine that has just started, and was put where room was made for it.
 pub fn share_in_room(rt: &Host<impl Abort>, threads: &impl Wait, alloc: Global) -> Shared {
     let core = machine(rt, alloc, 1, [].as_slice());
-    let id = core.id();
-    let put = match room(rt, alloc, id).fill(alloc, threads, core) {
-        Ok(put) => Ok(put),
-        Err(refused) => {
-            assert_eq!(rt; refused.refusal, Refusal::NoMemory);
-            rt.retry();
-            room(rt, alloc, id).fill(alloc, threads, refused.value)
-        }
-    };
-    let Ok((machine, token)) = put else {
-        panic!(rt; "one allocation alone is refused")
-    };
-    assert_eq!(rt; token, None);
-    assert_eq!(rt; machine.id(), ID);
+    let (machine, token) = put(rt, threads, alloc, core);
+    holds(rt, "it has no work", token == None);
+    holds(rt, "it has the id of its room", machine.id() == ID);
     Shared {
         machine,
         ports: Vec::new(alloc),
@@ -111,37 +132,54 @@ impl Shared {
     }
 
     /// Looks through a port.
-    fn look(&mut self, threads: &impl Wait, port: u64) -> Answered {
+    fn look(&mut self, threads: &impl Wait, port: u64) -> Given {
         match self.ports.get_mut(port.saturating_sub(1) as usize) {
-            Some(port) => Answered::Looked(port.look(threads)),
-            None => Answered::NotOpen,
+            Some(port) => looked(port.look(threads)),
+            None => Given::Answer(Answered::NotOpen),
         }
     }
 
-    /// Makes a call of the machine.
+    /// Makes a call of the machine that is about no request.
     fn ask_machine(&self, threads: &impl Wait, asked: Asked) -> Answered {
         match asked {
             Asked::Turn(token, now) => Answered::Turned(self.machine.turn(threads, token, now)),
             Asked::Tick(now) => Answered::Ticked(self.machine.tick(threads, now)),
             Asked::Stop(reason) => Answered::Stopped(self.machine.stop(threads, reason)),
+            Asked::Cut => Answered::Cut(self.machine.cut(threads)),
+            _ => Answered::NotOpen,
+        }
+    }
+
+    /// Makes a call that is about a request, or asks whether the machine can be removed.
+    fn ask_request(&self, threads: &impl Wait, asked: Asked) -> Answered {
+        match asked {
             Asked::Collect(tag) => Answered::Collected(self.machine.collect(threads, tag)),
             Asked::Reply(tag, content) => {
                 Answered::Replied(self.machine.reply(threads, tag, content))
             }
-            Asked::Cut => Answered::Cut(self.machine.cut(threads)),
-            Asked::Journal(label) => Answered::Journal(self.machine.journal(threads, label)),
             Asked::Removable => Answered::Removable(self.machine.removable(threads)),
             _ => Answered::NotOpen,
         }
     }
 
-    /// Makes a call.
-    fn ask(&mut self, threads: &impl Wait, asked: Asked) -> Answered {
+    /// Makes a call that has an answer.
+    fn answer(&mut self, threads: &impl Wait, asked: Asked) -> Answered {
         match asked {
             Asked::Port => Answered::Port(self.open(threads)),
             Asked::Post(port, entry, content) => self.post(threads, port, entry, content),
+            Asked::Turn(_, _) | Asked::Tick(_) | Asked::Stop(_) | Asked::Cut => {
+                self.ask_machine(threads, asked)
+            }
+            _ => self.ask_request(threads, asked),
+        }
+    }
+
+    /// Makes a call.
+    fn ask(&mut self, threads: &impl Wait, asked: Asked) -> Given {
+        match asked {
             Asked::Look(port) => self.look(threads, port),
-            _ => self.ask_machine(threads, asked),
+            Asked::Journal(label) => copied(self.machine.journal(threads, label)),
+            _ => Given::Answer(self.answer(threads, asked)),
         }
     }
 
@@ -171,8 +209,7 @@ fn read(rt: &Host<impl Abort>, threads: &impl Wait, shared: &mut Shared) -> Read
     match shared.try_read(threads) {
         Ok(reading) => reading,
         Err(refusal) => {
-            assert_eq!(rt; refusal, Refusal::NoMemory);
-            rt.retry();
+            is_made_again(rt, refusal);
             shared
                 .try_read(threads)
                 .expect(rt, "one allocation alone is refused")
@@ -185,8 +222,7 @@ fn journal(rt: &Host<impl Abort>, threads: &impl Wait, shared: &Shared) -> Journ
     match shared.machine.journal(threads, "front") {
         Ok(journal) => journal,
         Err(refusal) => {
-            assert_eq!(rt; refusal, Refusal::NoMemory);
-            rt.retry();
+            is_made_again(rt, refusal);
             shared
                 .machine
                 .journal(threads, "front")
@@ -201,8 +237,33 @@ fn is_kept(rt: &Host<impl Abort>, threads: &impl Wait, shared: &Shared, rows: &[
     are_lines(rt, journal.entries.as_slice(), rows, done);
 }
 
-/// Makes one call, behind the rows that were done. A refusal changes nothing that can be read. Where the call finds no
-/// memory, what it was given comes back, and the same call is made again.
+/// Looks that a refusal changed nothing that can be read, behind the rows that were done, and says whether there was no
+/// memory for the call, which is made again then. What it was given came back.
+fn found_no_memory(
+    rt: &Host<impl Abort>,
+    threads: &impl Wait,
+    shared: &mut Shared,
+    row: &Row,
+    rows: &[Row],
+    done: usize,
+    given: &Given,
+    before: &Reading,
+) -> bool {
+    let Some(refusal) = given.refusal() else {
+        return false;
+    };
+    let is_as_before = read(rt, threads, shared) == *before;
+    shows(rt, done, "a refusal changes nothing", is_as_before);
+    is_kept(rt, threads, shared, rows, done);
+    if refusal != Refusal::NoMemory {
+        return false;
+    }
+    is_given_back(rt, done, row, given);
+    rt.retry();
+    true
+}
+
+/// Makes one call, behind the rows that were done. Where it finds no memory, the same call is made again.
 fn tell(
     rt: &Host<impl Abort>,
     threads: &impl Wait,
@@ -210,44 +271,25 @@ fn tell(
     row: &Row,
     rows: &[Row],
     done: usize,
-) -> Answered {
+) -> Given {
     let before = read(rt, threads, shared);
-    let answered = shared.ask(threads, row.asked);
-    let Some(refusal) = answered.refusal() else {
-        return answered;
-    };
-    assert!(rt;
-        read(rt, threads, shared) == before,
-        "{:?} changes nothing",
-        row.asked
-    );
-    is_kept(rt, threads, shared, rows, done);
-    if refusal != Refusal::NoMemory {
-        return answered;
+    let given = shared.ask(threads, row.asked);
+    if found_no_memory(rt, threads, shared, row, rows, done, &given, &before) {
+        return shared.ask(threads, row.asked);
     }
-    assert!(rt; row.takes_memory(), "{:?} takes no memory", row.asked);
-    assert!(rt;
-        answered == refused(row.asked, Refusal::NoMemory),
-        "{answered:?}"
-    );
-    rt.retry();
-    shared.ask(threads, row.asked)
+    given
 }
 
-/// Looks that an answer is the one that is wanted of a row, behind so many others.
-fn agrees(rt: &Host<impl Abort>, answered: &Answered, row: &Row, rows: &[Row], done: usize) {
-    match (answered, &row.wanted) {
-        (_, Wanted::Answer(other)) => {
-            assert!(rt; *answered == *other, "{answered:?} in place of {other:?}");
-        }
-        (Answered::Looked(Ok(look)), Wanted::Look(sight)) => is_sight(rt, look, sight),
-        (Answered::Journal(Ok(journal)), Wanted::Journal(label, from)) => {
-            assert_eq!(rt; journal.id, ID);
-            assert_eq!(rt; journal.label.as_str(), *label);
-            assert_eq!(rt; journal.from, *from);
+/// Looks that what a call came to is what is wanted of a row, behind so many others.
+fn agrees(rt: &impl Abort, given: &Given, row: &Row, rows: &[Row], done: usize) {
+    match (given, &row.wanted) {
+        (_, Wanted::Answer(other)) => shows(rt, done, "the answer", given.is(other)),
+        (Given::Look(look), Wanted::Look(sight)) => is_sight(rt, done, look, sight),
+        (Given::Journal(journal), Wanted::Journal(label, from)) => {
+            is_labelled(rt, done, journal, label, *from);
             are_lines(rt, journal.entries.as_slice(), rows, done);
         }
-        (_, wanted) => panic!(rt; "{answered:?} in place of {wanted:?}"),
+        _ => shows(rt, done, "a look or a copy", false),
     }
 }
 
@@ -255,12 +297,12 @@ fn agrees(rt: &Host<impl Abort>, answered: &Answered, row: &Row, rows: &[Row], d
 /// behind the last one. Then the journal is cut.
 pub fn plays_shared(rt: &Host<impl Abort>, threads: &impl Wait, shared: &mut Shared, rows: &[Row]) {
     for (done, row) in rows.iter().enumerate() {
-        let answered = tell(rt, threads, shared, row, rows, done);
-        agrees(rt, &answered, row, rows, done);
+        let given = tell(rt, threads, shared, row, rows, done);
+        agrees(rt, &given, row, rows, done);
     }
     is_kept(rt, threads, shared, rows, rows.len());
     let cut = answers(Asked::Cut, Answered::Cut(Ok(())));
-    let answered = tell(rt, threads, shared, &cut, rows, rows.len());
-    assert!(rt; answered == Answered::Cut(Ok(())), "{answered:?}");
+    let given = tell(rt, threads, shared, &cut, rows, rows.len());
+    holds(rt, "the journal is cut", given.is(&Answered::Cut(Ok(()))));
     is_kept(rt, threads, shared, rows, 0);
 }

@@ -1,6 +1,6 @@
 //! Threads that share a machine: each posts through a port of its own, or waits for a reply.
 use super::begun::{machine, tag};
-use super::host::Host;
+use super::host::{Host, got, holds};
 use super::plain::Plain;
 use st_lock::{Collected, Entry, Machine, Port, Posted};
 use std::alloc::Global;
@@ -10,13 +10,15 @@ use std::thread;
 
 /// A machine that has just started, which threads may share.
 fn begun_shared(rt: &Host<impl Abort>, alloc: Global) -> Arc<Machine<Plain>> {
-    match Machine::new(alloc, machine(rt, alloc, 1, [].as_slice())) {
-        Ok((machine, token)) => {
-            assert_eq!(rt; token, None);
-            Arc::new(alloc, machine).expect(rt, "there is memory")
-        }
-        Err(refused) => panic!(rt; "the machine was refused: {}", refused.refusal),
-    }
+    let core = machine(rt, alloc, 1, [].as_slice());
+    let (machine, token) = got(rt, "a machine", Machine::new(alloc, core));
+    holds(rt, "it has no work", token == None);
+    Arc::new(alloc, machine).expect(rt, "there is memory")
+}
+
+/// A port of its own for a thread.
+fn port(rt: &impl Abort, threads: &impl Wait, machine: &Arc<Machine<Plain>>) -> Port<Plain> {
+    got(rt, "a port", Machine::port(machine, threads))
 }
 
 /// Posts a cast, and answers its number; 0 where it was refused.
@@ -47,6 +49,18 @@ fn rise(numbers: &[u64]) -> bool {
     true
 }
 
+/// Looks that a hundred of four hundred casts were posted through a port, with numbers that rise.
+fn is_one_of_four(rt: &impl Abort, threads: &impl Wait, port: &mut Port<Plain>) {
+    holds(rt, "it has posted 100", port.count() == 100);
+    let look = got(rt, "a look", port.look(threads));
+    holds(rt, "100 are mine", look.mine == 100);
+    holds(rt, "there are 400 entries", look.entries == 400);
+    holds(rt, "400 wait", look.waiting == 400);
+    let numbers = look.numbers.as_slice();
+    holds(rt, "100 numbers are mine", numbers.len() == 100);
+    holds(rt, "the numbers rise", rise(numbers));
+}
+
 #[test]
 fn four_threads_post_through_ports_of_their_own(rt: HostRuntime) {
     let threads = rt;
@@ -54,7 +68,7 @@ fn four_threads_post_through_ports_of_their_own(rt: HostRuntime) {
     let machine = begun_shared(&rt, rt.alloc());
     let mut children = Vec::new(rt.alloc());
     for content in 10..14 {
-        let port = Machine::port(&machine, &threads).expect(&rt, "a port");
+        let port = port(&rt, &threads, &machine);
         let child = thread::spawn(&threads, move || cast_hundred(&threads, port, content));
         children
             .push(child.expect(&rt, "a thread"))
@@ -65,11 +79,7 @@ fn four_threads_post_through_ports_of_their_own(rt: HostRuntime) {
         ports.push(child.join(&threads)).expect(&rt, "a place");
     }
     for mut port in ports {
-        assert_eq!(rt; port.count(), 100);
-        let look = port.look(&threads).expect(&rt, "a look");
-        assert_eq!(rt; (look.mine, look.entries, look.waiting), (100, 400, 400));
-        assert_eq!(rt; look.numbers.as_slice().len(), 100);
-        assert!(rt; rise(look.numbers.as_slice()));
+        is_one_of_four(&rt, &threads, &mut port);
     }
     rt.end_with_memory();
 }
@@ -82,30 +92,54 @@ fn waits(rt: &impl Wait, machine: &Machine<Plain>, request: u64) -> Collected<u3
     }
 }
 
+/// Posts the machine's first two requests.
+fn calls_twice(rt: &impl Abort, threads: &impl Wait, port: &mut Port<Plain>) {
+    for number in 1..3 {
+        let posted = got(rt, "the call", port.post(threads, Entry::Call, 0));
+        holds(rt, "the request's number", posted.number == number);
+    }
+}
+
 #[test]
 fn one_waits_for_a_reply_and_another_for_the_end(rt: HostRuntime) {
     let threads = rt;
     let rt = Host::with_memory(rt);
     let machine = begun_shared(&rt, rt.alloc());
-    let mut port = Machine::port(&machine, &threads).expect(&rt, "a port");
-    for number in 1..3 {
-        match port.post(&threads, Entry::Call, 0) {
-            Ok(posted) => assert_eq!(rt; posted.number, number),
-            Err(refused) => panic!(rt; "the call was refused: {}", refused.refusal),
-        }
-    }
+    let mut port = port(&rt, &threads, &machine);
+    calls_twice(&rt, &threads, &mut port);
     let theirs = Arc::try_clone(&machine).expect(&rt, "an owner");
     let first = thread::spawn(&threads, move || waits(&threads, &theirs, 1));
     let theirs = Arc::try_clone(&machine).expect(&rt, "an owner");
     let second = thread::spawn(&threads, move || waits(&threads, &theirs, 2));
-    assert!(rt; machine.reply(&threads, tag(1), 60) == Ok(true));
-    assert_eq!(rt; machine.stop(&threads, 3), Ok(7));
+    let replied = machine.reply(&threads, tag(1), 60);
+    holds(&rt, "the reply is taken", replied == Ok(true));
+    let stopped = machine.stop(&threads, 3);
+    holds(&rt, "the last word", stopped == Ok(7));
     let first = first.expect(&rt, "a thread").join(&threads);
+    holds(&rt, "the first reply", first == Collected::Reply(60));
     let second = second.expect(&rt, "a thread").join(&threads);
-    assert_eq!(rt; first, Collected::Reply(60));
-    assert_eq!(rt; second, Collected::Stopped(3));
-    assert!(rt; machine.removable(&threads));
+    holds(&rt, "the reason", second == Collected::Stopped(3));
+    holds(&rt, "it can be removed", machine.removable(&threads));
     rt.end_with_memory();
+}
+
+/// Looks at the last casts: one more through the port of a thread that has ended, and one through a new port, after two
+/// hundred casts through two ports, of which one was dropped.
+fn are_the_last(
+    rt: &impl Abort,
+    threads: &impl Wait,
+    machine: &Arc<Machine<Plain>>,
+    old: Port<Plain>,
+) {
+    let mut second = old;
+    let mut third = port(rt, threads, machine);
+    holds(rt, "the number 201", cast(threads, &mut second, 10) == 201);
+    holds(rt, "the number 202", cast(threads, &mut third, 12) == 202);
+    let look = got(rt, "a look", third.look(threads));
+    holds(rt, "one is the new port's", look.mine == 1);
+    holds(rt, "there are 202 entries", look.entries == 202);
+    holds(rt, "the old port has posted 101", second.count() == 101);
+    holds(rt, "the new port has posted 1", third.count() == 1);
 }
 
 #[test]
@@ -113,16 +147,11 @@ fn a_port_that_is_dropped_harms_nobody(rt: HostRuntime) {
     let threads = rt;
     let rt = Host::with_memory(rt);
     let machine = begun_shared(&rt, rt.alloc());
-    let first = Machine::port(&machine, &threads).expect(&rt, "a port");
-    let second = Machine::port(&machine, &threads).expect(&rt, "a port");
+    let first = port(&rt, &threads, &machine);
+    let second = port(&rt, &threads, &machine);
     let child = thread::spawn(&threads, move || cast_hundred(&threads, second, 10));
     drop(cast_hundred(&threads, first, 11));
-    let mut second = child.expect(&rt, "a thread").join(&threads);
-    let mut third = Machine::port(&machine, &threads).expect(&rt, "a port");
-    assert_eq!(rt; cast(&threads, &mut second, 10), 201);
-    assert_eq!(rt; cast(&threads, &mut third, 12), 202);
-    let look = third.look(&threads).expect(&rt, "a look");
-    assert_eq!(rt; (look.mine, look.entries), (1, 202));
-    assert_eq!(rt; (second.count(), third.count()), (101, 1));
+    let second = child.expect(&rt, "a thread").join(&threads);
+    are_the_last(&rt, &threads, &machine, second);
     rt.end_with_memory();
 }

@@ -1,5 +1,6 @@
 //! A machine that is told what a cell's journal says.
-use super::host::Host;
+use super::begun::is_made_again;
+use super::host::{Host, holds};
 use super::plain::Plain;
 use st_core::{Answer, Command, Core, MachineState, Refusal};
 use st_lock::JournalEntry;
@@ -65,8 +66,7 @@ pub fn snapshot_of<U: Twin>(rt: &Host<impl Abort>, twin: &mut U) -> MachineState
     match twin.try_snapshot() {
         Ok(snapshot) => snapshot,
         Err(refusal) => {
-            assert_eq!(rt; refusal, Refusal::NoMemory);
-            rt.retry();
+            is_made_again(rt, refusal);
             twin.try_snapshot()
                 .expect(rt, "one allocation alone is refused")
         }
@@ -76,11 +76,7 @@ pub fn snapshot_of<U: Twin>(rt: &Host<impl Abort>, twin: &mut U) -> MachineState
 /// Does the commands of a journal, and looks that each is answered as the journal says.
 pub fn replays<U: Twin>(rt: &Host<impl Abort>, twin: &mut U, entries: &[JournalEntry<u32, u32>]) {
     for entry in entries {
-        let answer = steps(rt, twin, &entry.command);
-        assert!(rt;
-            answer == entry.answer,
-            "{answer:?} in place of {:?}",
-            entry.answer
-        );
+        let is_told = steps(rt, twin, &entry.command) == entry.answer;
+        holds(rt, "the twin answers as the journal says", is_told);
     }
 }

@@ -1,12 +1,12 @@
 //! All that can be read of a cell, but its journal and its base.
-use super::host::Host;
+use super::begun::is_made_again;
+use super::host::{Host, holds};
 use super::kept::{Kept, Seen};
-use st_core::Refusal;
 use st_lock::Look;
 use std::process::Abort;
 
 /// What can be read of a cell of at most two ports, but its journal and its base: of each port there is its look.
-#[derive(Debug, PartialEq, Eq, Drop)]
+#[derive(PartialEq, Drop)]
 pub struct Whole {
     seen: Seen,
     looks: [Option<Look<u32, u32>>; 2],
@@ -17,8 +17,7 @@ fn look<T: Kept>(rt: &Host<impl Abort>, cell: &T, port: u64) -> Option<Look<u32,
     match cell.try_look(port) {
         Ok(look) => look,
         Err(refusal) => {
-            assert_eq!(rt; refusal, Refusal::NoMemory);
-            rt.retry();
+            is_made_again(rt, refusal);
             cell.try_look(port)
                 .expect(rt, "one allocation alone is refused")
         }
@@ -28,7 +27,7 @@ fn look<T: Kept>(rt: &Host<impl Abort>, cell: &T, port: u64) -> Option<Look<u32,
 /// All that can be read of a cell, but its journal and its base.
 pub fn read_all<T: Kept>(rt: &Host<impl Abort>, cell: &T) -> Whole {
     let seen = cell.see();
-    assert!(rt; seen.ports <= 2);
+    holds(rt, "there are two ports at most", seen.ports <= 2);
     Whole {
         seen,
         looks: [look(rt, cell, 1), look(rt, cell, 2)],

@@ -1,7 +1,7 @@
 //! Many steps as they come: each machine that has work has one token, which stands in one place.
 ghost use Rattle.std.specs.Prelude.{◌<◌};
 
-use super::host::Host;
+use super::host::{Host, holds};
 use super::opened::{machine_id, opened};
 use super::pooled::Pooled;
 use super::whole::{callers, lane};
@@ -69,20 +69,51 @@ impl Numbers {
         Tag::new(id, self.below(20))
     }
 
-    /// A step at a moment: seldom a stop.
-    fn step<T: Pooled>(&mut self, pool: &T, now: u64) -> Step<u32> {
-        let id = self.machine();
-        match self.below(100) {
+    /// A caller stops a machine, which is seldom, or posts to it, or tells it the moment.
+    fn of_machine(&mut self, number: u64, id: MachineId, now: u64) -> Step<u32> {
+        match number {
             0 => Step::Stop(id, 9),
             1..=14 => Step::Post(id, self.entry(), self.content()),
-            15..=17 => Step::Tick(id, now),
+            _ => Step::Tick(id, now),
+        }
+    }
+
+    /// A token is given to a lane, or is taken from one.
+    fn of_lane<T: Pooled>(&mut self, number: u64, pool: &T, id: MachineId) -> Step<u32> {
+        match number {
             18..=32 => Step::Give(token_for(pool, id), self.place()),
-            33..=60 => Step::Take(self.place(), self.place()),
-            61..=87 => Step::Turn(self.place(), now),
-            88..=90 => Step::PutBack(self.place()),
-            91..=93 => Step::Drop(self.place()),
-            94..=96 => Step::Reply(id, self.tag(id), 50),
-            _ => Step::Collect(id, self.tag(id)),
+            _ => Step::Take(self.place(), self.place()),
+        }
+    }
+
+    /// What a worker does with the token in its hand.
+    fn of_hand(&mut self, number: u64, now: u64) -> Step<u32> {
+        let worker = self.place();
+        match number {
+            61..=87 => Step::Turn(worker, now),
+            88..=90 => Step::PutBack(worker),
+            _ => Step::Drop(worker),
+        }
+    }
+
+    /// A request is answered or collected.
+    fn of_request(&mut self, number: u64, id: MachineId) -> Step<u32> {
+        let tag = self.tag(id);
+        match number {
+            94..=96 => Step::Reply(id, tag, 50),
+            _ => Step::Collect(id, tag),
+        }
+    }
+
+    /// A step at a moment.
+    fn step<T: Pooled>(&mut self, pool: &T, now: u64) -> Step<u32> {
+        let id = self.machine();
+        let number = self.below(100);
+        match number {
+            0..=17 => self.of_machine(number, id, now),
+            18..=60 => self.of_lane(number, pool, id),
+            61..=93 => self.of_hand(number, now),
+            _ => self.of_request(number, id),
         }
     }
 }
@@ -99,10 +130,10 @@ fn token_for<T: Pooled>(pool: &T, id: MachineId) -> Token {
 }
 
 /// Adds those of some tokens that are a machine's to others.
-fn add_of(rt: &Host<impl Abort>, found: &mut Vec<Token>, id: MachineId, tokens: &[Token]) {
+fn add_of(rt: &impl Abort, found: &mut Vec<Token>, id: MachineId, tokens: &[Token]) {
     for token in tokens {
         if token.machine == id {
-            assert!(rt; found.push(*token).is_ok());
+            found.push(*token).expect(rt, "there is memory");
         }
     }
 }
@@ -117,10 +148,8 @@ fn standing<T: Pooled>(
     let mut found = Vec::new(alloc);
     add_of(rt, &mut found, id, callers(rt, pool).as_slice());
     for number in 0..4 {
-        match lane(rt, pool, number) {
-            Some(tokens) => add_of(rt, &mut found, id, tokens.as_slice()),
-            None => panic!(rt; "there is no lane {number}"),
-        }
+        let tokens = lane(rt, pool, number).expect(rt, "there is such a lane");
+        add_of(rt, &mut found, id, tokens.as_slice());
         if let Some(token) = pool.in_hand(number) {
             add_of(rt, &mut found, id, [token].as_slice());
         }
@@ -134,14 +163,15 @@ fn is_balanced<T: Pooled>(rt: &Host<impl Abort>, alloc: Global, pool: &T, id: Ma
     let found = standing(rt, alloc, pool, id);
     let token = pool.token_of(id);
     match token {
-        Some(token) => assert_eq!(rt; found.as_slice(), [token].as_slice()),
-        None => assert!(rt; found.is_empty()),
+        Some(token) => {
+            let is_alone = found.as_slice() == [token].as_slice();
+            holds(rt, "its token stands in one place", is_alone);
+        }
+        None => holds(rt, "no token stands anywhere", found.is_empty()),
     }
-    match pool.see(id) {
-        Some(seen) if seen.ended.is_none() => assert_eq!(rt; token.is_some(), seen.is_ready),
-        Some(_) => {}
-        None => panic!(rt; "there is no such machine"),
-    }
+    let seen = pool.see(id).expect(rt, "there is such a machine");
+    let is_fit = seen.ended.is_some() | (token.is_some() == seen.is_ready);
+    holds(rt, "it has a token where it has work", is_fit);
 }
 
 #[test]
@@ -160,12 +190,12 @@ fn each_ready_machine_has_one_token(rt: HostRuntime) {
     for now in 0..300 {
         let step = numbers.step(&pool, now);
         if let StepAnswer::Turned(_) = pool.step(step) {
-            assert!(rt; turns.push(now).is_ok());
+            turns.push(now).expect(&rt, "there is memory");
         }
         for id in &ids {
             is_balanced(&rt, rt.alloc(), &pool, *id);
         }
     }
-    assert!(rt; turns.len() >= 20, "{} turns", turns.len());
+    holds(&rt, "there are 20 turns", turns.len() >= 20);
     rt.end_with_memory();
 }

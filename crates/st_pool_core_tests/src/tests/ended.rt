@@ -1,7 +1,7 @@
 //! Machines end, and requests are counted.
-use super::host::Host;
+use super::host::{Host, holds};
 use super::opened::{machine_id, opened};
-use super::shown::{Shown, moved, posted, refusing};
+use super::shown::{Shown, moved, posted, refusing, stopped};
 use super::told::{Wanted, cast, does_all, hands_free};
 use st_core::{Collected, Entry, Kind, Refusal, Tag};
 use st_events::Token;
@@ -22,12 +22,7 @@ fn tag(number: u64) -> Tag {
 
 /// A step and what it is to answer, where the first hand holds the machine's first token after it.
 fn held(step: Step<u32>, answer: Shown, count: u64) -> Wanted {
-    Wanted {
-        step,
-        answer,
-        count,
-        hands: [Some(first_token()), None],
-    }
+    hands_free(step, answer, count).holding([Some(first_token()), None])
 }
 
 /// A reply, and whether it is taken.
@@ -42,11 +37,6 @@ fn collect(number: u64, collected: Collected<u32>, count: u64) -> Wanted {
     hands_free(step, Shown::Answer(StepAnswer::Collected(collected)), count)
 }
 
-/// A stop, and the last word.
-fn stopped() -> Shown {
-    Shown::Answer(StepAnswer::Stopped(7))
-}
-
 #[test]
 fn a_stopped_machine_rests(rt: HostRuntime) {
     let rt = Host::new(rt);
@@ -59,10 +49,11 @@ fn a_stopped_machine_rests(rt: HostRuntime) {
         held(Step::Stop(id, 9), stopped(), 2),
     ];
     does_all(&rt, &mut pool, steps.as_slice());
-    assert_eq!(rt; pool.token(id), Some(first_token()));
+    let outstanding = pool.token(id) == Some(first_token());
+    holds(&rt, "its token is outstanding", outstanding);
     let rests = hands_free(Step::Turn(1, 0), Shown::Answer(StepAnswer::Rested), 2);
     does_all(&rt, &mut pool, [rests].as_slice());
-    assert_eq!(rt; pool.token(id), None);
+    holds(&rt, "its token is retired", pool.token(id) == None);
     rt.end();
 }
 
@@ -82,7 +73,7 @@ fn a_machine_ends_by_its_turn(rt: HostRuntime) {
         hands_free(cast(id), late, 3),
     ];
     does_all(&rt, &mut pool, steps.as_slice());
-    assert_eq!(rt; pool.token(id), None);
+    holds(&rt, "its token is retired", pool.token(id) == None);
     rt.end();
 }
 

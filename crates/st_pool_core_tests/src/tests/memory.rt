@@ -1,12 +1,12 @@
 //! Each call where one allocation is refused: nothing that can be read changes, and it is made again.
-use super::host::Host;
-use super::opened::{cores, machine_id, opened_with};
+use super::host::{Host, got, holds};
+use super::opened::{cores, is_made_again, machine_id, opened_with};
 use super::plain::Plain;
 use super::played::plays;
 use super::shown::{Shown, moved, posted};
 use super::told::{cast, does_all, hands_free};
-use super::whole::{callers, lane};
-use st_core::{Core, Entry, Kind, Module, Refusal};
+use super::whole::{has_lane, have_callers};
+use st_core::{Core, Entry, Kind, Module};
 use st_events::Token;
 use st_pool_core::{PoolWorld, Step, StepAnswer};
 use std::alloc::Global;
@@ -15,9 +15,9 @@ use std::process::Abort;
 /// Posts a cast to a machine that is in no pool yet. Where it finds no memory, it is posted again.
 fn post<M: Module<Content = u32>>(rt: &Host<impl Abort>, core: &mut Core<M>, content: u32) {
     if let Err(refused) = core.post(Entry::Cast, content) {
-        assert_eq!(rt; refused.refusal, Refusal::NoMemory);
-        rt.retry();
-        assert!(rt; core.post(Entry::Cast, refused.value).is_ok());
+        is_made_again(rt, refused.refusal);
+        let again = core.post(Entry::Cast, refused.value);
+        got(rt, "one allocation alone is refused", again);
     }
 }
 
@@ -55,32 +55,20 @@ fn each_call_is_made_again(rt: HostRuntime) {
     let mut pool = with_event(&rt, rt.alloc());
     let mut without = with_event(&rt, rt.alloc());
     let mut again = with_event(&rt, rt.alloc());
-    let at_first = callers(&rt, &single);
-    assert_eq!(rt; at_first.as_slice(), [ready].as_slice());
-    let mut steps = [
+    have_callers(&rt, &single, ready);
+    let steps = [
         hands_free(Step::Give(ready, 0), moved(), 0),
-        hands_free(Step::Take(1, 0), moved(), 0),
+        hands_free(Step::Take(1, 0), moved(), 0).holding([Some(ready), None]),
         hands_free(Step::PutBack(1), moved(), 0),
-        hands_free(Step::Take(2, 1), moved(), 0),
+        hands_free(Step::Take(2, 1), moved(), 0).holding([None, Some(ready)]),
         hands_free(Step::Turn(2, 0), Shown::Handled(1, Kind::Cast), 1),
         hands_free(Step::Tick(first, 5), Shown::Answer(ticked), 2),
         hands_free(cast(second), posted(1, Some(later)), 2),
         hands_free(Step::Give(later, 2), moved(), 2),
     ];
-    for one in steps.iter_mut() {
-        match one.step {
-            Step::Take(1, 0) => one.hands = [Some(ready), None],
-            Step::Take(2, 1) => one.hands = [None, Some(ready)],
-            _ => {}
-        }
-    }
     does_all(&rt, &mut single, steps.as_slice());
-    let left = callers(&rt, &single);
-    assert_eq!(rt; left.as_slice(), [expired].as_slice());
-    match lane(&rt, &single, 2) {
-        Some(tokens) => assert_eq!(rt; tokens.as_slice(), [later].as_slice()),
-        None => panic!(rt; "there is no such lane"),
-    }
+    have_callers(&rt, &single, expired);
+    has_lane(&rt, &single, 2, later);
     let pools = (&mut pool, &mut without, &mut again);
     plays(&rt, rt.alloc(), pools, steps.as_slice());
     rt.end();

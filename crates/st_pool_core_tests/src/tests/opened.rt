@@ -1,5 +1,5 @@
 //! How a pool of a test is opened.
-use super::host::Host;
+use super::host::{Host, got, holds};
 use super::plain::Plain;
 use st_core::{Core, MachineId, Refusal, Refused, Start};
 use st_pool_core::PoolWorld;
@@ -12,6 +12,12 @@ pub fn machine_id(slot: usize) -> MachineId {
         slot,
         serial: (slot as u64).saturating_add(1),
     }
+}
+
+/// A call was refused for want of memory, and is made again.
+pub fn is_made_again(rt: &Host<impl Abort>, refusal: Refusal) {
+    holds(rt, "memory was refused", refusal == Refusal::NoMemory);
+    rt.retry();
 }
 
 /// An empty vector with places reserved. Where memory was refused, it is asked for again.
@@ -39,12 +45,11 @@ fn start(
     started
 }
 
-/// A machine of an id.
-fn machine(rt: &Host<impl Abort>, alloc: Global, id: MachineId) -> Core<Plain> {
-    match start(rt, alloc, id) {
-        Ok(Start::Running(core, _)) => core,
-        Ok(_) => panic!(rt; "there is no machine"),
-        Err(refused) => panic!(rt; "the start was refused: {}", refused.refusal),
+/// The machine that was started.
+fn running(rt: &impl Abort, started: Start<Plain>) -> Core<Plain> {
+    match started {
+        Start::Running(core, _) => core,
+        _ => panic!(rt; "there is no machine"),
     }
 }
 
@@ -52,16 +57,19 @@ fn machine(rt: &Host<impl Abort>, alloc: Global, id: MachineId) -> Core<Plain> {
 pub fn cores(rt: &Host<impl Abort>, alloc: Global, ids: &[MachineId]) -> Vec<Core<Plain>> {
     let mut cores = with_reserved(rt, alloc, ids.len());
     for id in ids {
-        assert!(rt; cores.push(machine(rt, alloc, *id)).is_ok());
+        let started = got(rt, "it is started", start(rt, alloc, *id));
+        cores
+            .push(running(rt, started))
+            .expect(rt, "a place is reserved");
     }
     cores
 }
 
 /// Looks that these machines have these ids.
-pub fn are_of(rt: &Host<impl Abort>, cores: &[Core<Plain>], ids: &[MachineId]) {
-    assert_eq!(rt; cores.len(), ids.len());
+pub fn are_of(rt: &impl Abort, cores: &[Core<Plain>], ids: &[MachineId]) {
+    holds(rt, "how many machines", cores.len() == ids.len());
     for (core, id) in cores.iter().zip(ids.iter()) {
-        assert_eq!(rt; core.id(), *id);
+        holds(rt, "the machine's id", core.id() == *id);
     }
 }
 
@@ -78,13 +86,10 @@ pub fn opened_with(
         Ok(pool) => return pool,
         Err(refused) => refused,
     };
-    assert_eq!(rt; refused.refusal, Refusal::NoMemory);
+    is_made_again(rt, refused.refusal);
     are_of(rt, refused.value.as_slice(), ids);
-    rt.retry();
-    match PoolWorld::new(alloc, workers, refused.value) {
-        Ok(pool) => pool,
-        Err(_) => panic!(rt; "one allocation alone is refused"),
-    }
+    let again = PoolWorld::new(alloc, workers, refused.value);
+    got(rt, "one allocation alone is refused", again)
 }
 
 /// A pool of so many workers and machines of these ids, in which nothing was done.

@@ -23,7 +23,7 @@ use std::alloc::{AllocError, Global};
 /// | 3 | sets the state time-out for 5, with the content 0 |
 /// | 4 | is postponed |
 /// | other | keeps both |
-#[derive(Clone, Copy, Debug, PartialEq, Eq)]
+#[derive(Clone, Copy)]
 pub struct Plain;
 
 impl Module for Plain {

@@ -1,8 +1,9 @@
 //! Steps that are done as one list.
-use super::host::Host;
-use super::opened::with_reserved;
+use super::host::{Host, got, holds};
+use super::opened::{is_made_again, with_reserved};
 use super::pooled::Pooled;
 use super::shown::{agrees, refusing};
+use super::shows::shows;
 use super::told::{Wanted, content_in, copy_of, found_no_memory, tell};
 use super::whole::read_all;
 use st_core::Refusal;
@@ -14,16 +15,18 @@ use std::process::Abort;
 fn steps_of(rt: &Host<impl Abort>, alloc: Global, wanted: &[Wanted]) -> Vec<Step<u32>> {
     let mut steps = with_reserved(rt, alloc, wanted.len());
     for one in wanted {
-        assert!(rt; steps.push(copy_of(&one.step)).is_ok());
+        steps
+            .push(copy_of(&one.step))
+            .expect(rt, "a place is reserved");
     }
     steps
 }
 
 /// Looks that these are the steps.
-fn are_steps(rt: &Host<impl Abort>, steps: &[Step<u32>], wanted: &[Wanted]) {
-    assert_eq!(rt; steps.len(), wanted.len());
-    for (step, one) in steps.iter().zip(wanted.iter()) {
-        assert!(rt; *step == one.step, "{step:?}");
+fn are_steps(rt: &impl Abort, steps: &[Step<u32>], wanted: &[Wanted]) {
+    holds(rt, "how many steps", steps.len() == wanted.len());
+    for (row, (step, one)) in steps.iter().zip(wanted.iter()).enumerate() {
+        shows(rt, row, "the step comes back", *step == one.step);
     }
 }
 
@@ -40,14 +43,12 @@ fn play<T: Pooled>(
         Ok(answers) => return answers,
         Err(refused) => refused,
     };
-    assert_eq!(rt; refused.refusal, Refusal::NoMemory);
-    assert!(rt; read_all(rt, pool) == before, "a refusal changes nothing");
+    is_made_again(rt, refused.refusal);
+    let is_as_before = read_all(rt, pool) == before;
+    holds(rt, "a refusal changes nothing", is_as_before);
     are_steps(rt, refused.value.as_slice(), wanted);
-    rt.retry();
-    match pool.do_all(refused.value) {
-        Ok(answers) => answers,
-        Err(_) => panic!(rt; "one allocation alone is refused"),
-    }
+    let again = pool.do_all(refused.value);
+    got(rt, "one allocation alone is refused", again)
 }
 
 /// Does the steps of a list but one that found no memory, each by itself, and looks that they answer the same.
@@ -57,11 +58,13 @@ fn does_without<T: Pooled>(
     wanted: &[Wanted],
     answers: &[StepAnswer<u32, u32>],
 ) {
-    for (one, answer) in wanted.iter().zip(answers.iter()) {
+    for (row, (one, answer)) in wanted.iter().zip(answers.iter()).enumerate() {
         if found_no_memory(answer) {
-            assert!(rt; *answer == refusing(Refusal::NoMemory, content_in(&one.step)));
+            let refused = refusing(Refusal::NoMemory, content_in(&one.step));
+            shows(rt, row, "its content comes back", *answer == refused);
         } else {
-            assert!(rt; tell(rt, without, &one.step) == *answer, "{answer:?}");
+            let alone = tell(rt, row, without, &one.step);
+            shows(rt, row, "it answers the same alone", alone == *answer);
         }
     }
 }
@@ -76,18 +79,16 @@ pub fn plays<T: Pooled>(
 ) {
     let (pool, without, again) = pools;
     let mut answers = play(rt, alloc, pool, wanted);
-    assert_eq!(rt; answers.len(), wanted.len());
+    holds(rt, "how many answers", answers.len() == wanted.len());
     if answers.as_slice().iter().any(found_no_memory) {
         does_without(rt, without, wanted, answers.as_slice());
-        assert!(rt;
-            read_all(rt, pool) == read_all(rt, without),
-            "the others alone"
-        );
+        let is_alike = read_all(rt, pool) == read_all(rt, without);
+        holds(rt, "all is as by the others alone", is_alike);
         rt.retry();
         answers = play(rt, alloc, again, wanted);
-        assert_eq!(rt; answers.len(), wanted.len());
+        holds(rt, "how many answers", answers.len() == wanted.len());
     }
-    for (answer, one) in answers.as_slice().iter().zip(wanted.iter()) {
-        agrees(rt, answer, &one.answer);
+    for (row, (answer, one)) in answers.as_slice().iter().zip(wanted.iter()).enumerate() {
+        agrees(rt, row, answer, &one.answer);
     }
 }

@@ -5,7 +5,7 @@ use st_events::Token;
 use st_pool_core::{PoolWorld, Step, StepAnswer};
 
 /// What can be read of one machine of a pool.
-#[derive(Clone, Copy, Debug, PartialEq, Eq)]
+#[derive(Clone, Copy, PartialEq)]
 pub struct Seen {
     pub count: Option<u64>,
     pub is_ready: bool,

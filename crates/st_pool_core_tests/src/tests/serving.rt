@@ -1,10 +1,10 @@
 //! Machines are posted events and served.
-use super::host::Host;
+use super::host::{Host, holds};
 use super::opened::{machine_id, opened};
 use super::played::plays;
 use super::shown::{Shown, moved, not_possible, posted};
 use super::told::{Wanted, cast, does, does_all, hands_free};
-use super::whole::{callers, lane};
+use super::whole::{has_lane, have_callers};
 use st_core::Kind;
 use st_events::Token;
 use st_pool_core::Step;
@@ -20,12 +20,8 @@ fn token(wake: u64) -> Token {
 /// A step and what it is to answer, where the first or the second hand holds the first machine's first token after it.
 fn held(step: Step<u32>, answer: Shown, count: u64, first: bool) -> Wanted {
     let hand = Some(token(1));
-    Wanted {
-        step,
-        answer,
-        count,
-        hands: if first { [hand, None] } else { [None, hand] },
-    }
+    let hands = if first { [hand, None] } else { [None, hand] };
+    hands_free(step, answer, count).holding(hands)
 }
 
 /// Two posts and a third one, a token that a worker takes and another one steals, and two steps that are not possible.
@@ -54,8 +50,7 @@ fn eleven_steps_over_two_machines(rt: HostRuntime) {
     let wanted = eleven();
     let mut single = opened(&rt, rt.alloc(), 2, ids.as_slice());
     does_all(&rt, &mut single, wanted.as_slice());
-    let left = callers(&rt, &single);
-    assert_eq!(rt; left.as_slice(), [token(5)].as_slice());
+    have_callers(&rt, &single, token(5));
     let mut pool = opened(&rt, rt.alloc(), 2, ids.as_slice());
     let mut without = opened(&rt, rt.alloc(), 2, ids.as_slice());
     let mut again = opened(&rt, rt.alloc(), 2, ids.as_slice());
@@ -76,20 +71,18 @@ fn a_dropped_token_is_given_again_and_stolen(rt: HostRuntime) {
         hands_free(Step::Drop(1), moved(), 1),
     ];
     does_all(&rt, &mut pool, drops.as_slice());
-    assert!(rt; pool.is_with_callers(token(1)));
-    let back = callers(&rt, &pool);
-    assert_eq!(rt; back.as_slice(), [token(1)].as_slice());
-    does(&rt, &mut pool, &Step::Give(token(1), 1), &moved());
-    assert!(rt; !pool.is_with_callers(token(1)));
-    match lane(&rt, &pool, 1) {
-        Some(tokens) => assert_eq!(rt; tokens.as_slice(), [token(1)].as_slice()),
-        None => panic!(rt; "there is no such lane"),
-    }
+    let is_back = pool.is_with_callers(token(1));
+    holds(&rt, "the dropped token is with callers", is_back);
+    have_callers(&rt, &pool, token(1));
+    does(&rt, 0, &mut pool, &Step::Give(token(1), 1), &moved());
+    let is_given = !pool.is_with_callers(token(1));
+    holds(&rt, "a token that is given is not", is_given);
+    has_lane(&rt, &pool, 1, token(1));
     let stolen = [
         held(Step::Take(2, 1), moved(), 1, false),
         hands_free(Step::Turn(2, 0), Shown::Handled(1, Kind::Cast), 2),
     ];
     does_all(&rt, &mut pool, stolen.as_slice());
-    assert_eq!(rt; pool.token(id), None);
+    holds(&rt, "its token is retired", pool.token(id) == None);
     rt.end();
 }

@@ -1,12 +1,12 @@
 //! What a step is to answer.
-use super::host::Host;
+use super::shows::shows;
 use st_core::{Call, Done, Kind, Refusal, Refused, Report};
 use st_events::Token;
 use st_pool_core::StepAnswer;
 use std::process::Abort;
 
 /// What a step is to answer.
-#[derive(Debug, Drop)]
+#[derive(Drop)]
 pub enum Shown {
     /// This answer.
     Answer(StepAnswer<u32, u32>),
@@ -32,44 +32,57 @@ pub fn refusing(refusal: Refusal, content: Option<u32>) -> StepAnswer<u32, u32> 
     StepAnswer::Refused(Refused::new(refusal, content))
 }
 
-/// A step is refused that holds no content.
-pub fn refused(refusal: Refusal) -> Shown {
-    Shown::Answer(refusing(refusal, None))
-}
-
 /// A step is not possible, and holds no content.
 pub fn not_possible() -> Shown {
-    refused(Refusal::NotPossible)
+    Shown::Answer(refusing(Refusal::NotPossible, None))
 }
 
-/// Looks that a report says what is wanted.
+/// A machine is stopped, and 7 is its last word.
+pub fn stopped() -> Shown {
+    Shown::Answer(StepAnswer::Stopped(7))
+}
+
+/// Looks that a report says what is wanted of a row.
 fn reports(
-    rt: &Host<impl Abort>,
+    rt: &impl Abort,
+    row: usize,
     report: &Report<u32>,
     number: u64,
     done: Done,
     calls: &[Call<u32>],
 ) {
-    assert_eq!(rt; report.event, Some(number));
-    assert_eq!(rt; report.done, done);
-    assert!(rt; report.calls.as_slice() == calls, "the calls of {report:?}");
+    shows(rt, row, "the event", report.event == Some(number));
+    shows(rt, row, "how the turn ends", report.done == done);
+    shows(rt, row, "the calls", report.calls.as_slice() == calls);
 }
 
-/// Looks that an answer is the one that is wanted.
-pub fn agrees(rt: &Host<impl Abort>, answer: &StepAnswer<u32, u32>, wanted: &Shown) {
+/// Looks that an answer is the one that is wanted of a row.
+pub fn agrees(rt: &impl Abort, row: usize, answer: &StepAnswer<u32, u32>, wanted: &Shown) {
     match (answer, wanted) {
-        (_, Shown::Answer(other)) => {
-            assert!(rt; *answer == *other, "{answer:?} in place of {other:?}");
-        }
+        (_, Shown::Answer(other)) => shows(rt, row, "the answer", *answer == *other),
         (StepAnswer::Turned(report), Shown::Handled(number, kind)) => {
             let handle = handle_of(*number, *kind);
-            reports(rt, report, *number, Done::Finished, [handle].as_slice());
+            reports(
+                rt,
+                row,
+                report,
+                *number,
+                Done::Finished,
+                [handle].as_slice(),
+            );
         }
         (StepAnswer::Turned(report), Shown::Ended(number, kind)) => {
             let calls = [handle_of(*number, *kind), TERMINATE];
-            reports(rt, report, *number, Done::Ended(9, 7), calls.as_slice());
+            reports(
+                rt,
+                row,
+                report,
+                *number,
+                Done::Ended(9, 7),
+                calls.as_slice(),
+            );
         }
-        _ => panic!(rt; "{answer:?} in place of {wanted:?}"),
+        _ => shows(rt, row, "a turn with a report", false),
     }
 }
 

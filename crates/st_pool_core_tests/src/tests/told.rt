@@ -3,6 +3,7 @@ use super::host::Host;
 use super::opened::machine_id;
 use super::pooled::Pooled;
 use super::shown::{Shown, agrees, refusing};
+use super::shows::shows;
 use super::whole::read_all;
 use st_core::{Entry, MachineId, Refusal};
 use st_events::Token;
@@ -10,12 +11,19 @@ use st_pool_core::{Step, StepAnswer};
 use std::process::Abort;
 
 /// A step, what it is to answer, the first machine's count after it, and the first two hands.
-#[derive(Debug, Drop)]
+#[derive(Drop)]
 pub struct Wanted {
     pub step: Step<u32>,
     pub answer: Shown,
     pub count: u64,
     pub hands: [Option<Token>; 2],
+}
+
+impl Wanted {
+    /// These are the first two hands after it.
+    pub fn holding(self, hands: [Option<Token>; 2]) -> Wanted {
+        Wanted { hands, ..self }
+    }
 }
 
 /// A caller posts a cast with the content 0.
@@ -56,6 +64,7 @@ pub fn found_no_memory(answer: &StepAnswer<u32, u32>) -> bool {
 /// step is made again.
 pub fn tell<T: Pooled>(
     rt: &Host<impl Abort>,
+    row: usize,
     pool: &mut T,
     step: &Step<u32>,
 ) -> StepAnswer<u32, u32> {
@@ -64,35 +73,36 @@ pub fn tell<T: Pooled>(
     if !found_no_memory(&answer) {
         return answer;
     }
-    assert!(rt; answer == refusing(Refusal::NoMemory, content_in(step)));
-    assert!(rt; read_all(rt, pool) == before, "a refusal changes nothing");
+    let refused = refusing(Refusal::NoMemory, content_in(step));
+    shows(rt, row, "its content comes back", answer == refused);
+    let is_as_before = read_all(rt, pool) == before;
+    shows(rt, row, "a refusal changes nothing", is_as_before);
     rt.retry();
     pool.do_step(copy_of(step))
 }
 
 /// Does one step, and looks at its answer.
-pub fn does<T: Pooled>(rt: &Host<impl Abort>, pool: &mut T, step: &Step<u32>, wanted: &Shown) {
-    let answer = tell(rt, pool, step);
-    agrees(rt, &answer, wanted);
+pub fn does<T: Pooled>(
+    rt: &Host<impl Abort>,
+    row: usize,
+    pool: &mut T,
+    step: &Step<u32>,
+    wanted: &Shown,
+) {
+    let answer = tell(rt, row, pool, step);
+    agrees(rt, row, &answer, wanted);
 }
 
 /// Does steps one after another, and looks at their answers, and at the first machine's count and the hands after each.
 pub fn does_all<T: Pooled>(rt: &Host<impl Abort>, pool: &mut T, wanted: &[Wanted]) {
-    for one in wanted {
-        does(rt, pool, &one.step, &one.answer);
+    for (row, one) in wanted.iter().enumerate() {
+        does(rt, row, pool, &one.step, &one.answer);
         let seen = pool.see(machine_id(0));
-        assert_eq!(rt;
-            seen.and_then(|seen| seen.count),
-            Some(one.count),
-            "{:?}",
-            one.step
-        );
-        assert_eq!(rt;
-            [pool.in_hand(1), pool.in_hand(2)],
-            one.hands,
-            "{:?}",
-            one.step
-        );
+        let seen = seen.expect(rt, "the first machine is there");
+        let is_counted = seen.count == Some(one.count);
+        shows(rt, row, "the first machine's count", is_counted);
+        let are_held = [pool.in_hand(1), pool.in_hand(2)] == one.hands;
+        shows(rt, row, "the first two hands", are_held);
     }
 }
 

@@ -1,14 +1,14 @@
 //! All that can be read of a pool.
-use super::host::Host;
-use super::opened::machine_id;
+use super::host::{Host, holds};
+use super::opened::{is_made_again, machine_id};
 use super::pooled::{Pooled, Seen};
-use st_core::{PlainList, Refusal};
+use st_core::PlainList;
 use st_events::Token;
 use std::process::Abort;
 
 /// All that can be read of a pool of at most five machines and three workers. Of each machine there are its token,
 /// and whether callers have it; and there is one lane and one hand more than there are.
-#[derive(Debug, PartialEq, Eq, Drop)]
+#[derive(PartialEq, Drop)]
 pub struct Whole {
     machines: [Option<Seen>; 5],
     tokens: [Option<(Token, bool)>; 5],
@@ -22,8 +22,7 @@ pub fn callers<T: Pooled>(rt: &Host<impl Abort>, pool: &T) -> PlainList<Token> {
     match pool.try_callers() {
         Ok(tokens) => tokens,
         Err(refusal) => {
-            assert_eq!(rt; refusal, Refusal::NoMemory);
-            rt.retry();
+            is_made_again(rt, refusal);
             pool.try_callers()
                 .expect(rt, "one allocation alone is refused")
         }
@@ -35,12 +34,25 @@ pub fn lane<T: Pooled>(rt: &Host<impl Abort>, pool: &T, lane: usize) -> Option<P
     match pool.try_lane(lane) {
         Ok(tokens) => tokens,
         Err(refusal) => {
-            assert_eq!(rt; refusal, Refusal::NoMemory);
-            rt.retry();
+            is_made_again(rt, refusal);
             pool.try_lane(lane)
                 .expect(rt, "one allocation alone is refused")
         }
     }
+}
+
+/// Looks that callers have this token, and no other.
+pub fn have_callers<T: Pooled>(rt: &Host<impl Abort>, pool: &T, token: Token) {
+    let tokens = callers(rt, pool);
+    let is_alone = tokens.as_slice() == [token].as_slice();
+    holds(rt, "callers have this token", is_alone);
+}
+
+/// Looks that a lane has this token, and no other.
+pub fn has_lane<T: Pooled>(rt: &Host<impl Abort>, pool: &T, number: usize, token: Token) {
+    let tokens = lane(rt, pool, number).expect(rt, "there is such a lane");
+    let is_alone = tokens.as_slice() == [token].as_slice();
+    holds(rt, "the lane has this token", is_alone);
 }
 
 /// What can be read of a machine.

@@ -1,6 +1,6 @@
 //! A pool where one allocation is refused: nothing is lost, nobody hangs, and the call is made again.
 use super::counted::{Counted, token};
-use super::host::Host;
+use super::host::{Host, holds, same};
 use super::silent::Silent;
 use super::started::{closes, schedules, started, times};
 use std::alloc::Global;
@@ -39,12 +39,26 @@ fn a_refused_call_loses_no_token(rt: HostRuntime) {
     schedules(&rt, &pool, 0, 200);
     let end = closes(&rt, &mut pool);
     pool.drain();
-    assert_eq!(rt; end.left.len(), 200);
+    same(&rt, "two hundred are left", &end.left.len(), &200);
     for slot in 0..200 {
-        assert_eq!(rt; times(end.left.as_slice(), token(slot)), 1);
+        same(
+            &rt,
+            "each is left once",
+            &times(end.left.as_slice(), token(slot)),
+            &1,
+        );
     }
     let again = closes(&rt, &mut pool);
-    assert_eq!(rt; again.turns, end.turns);
-    assert!(rt; again.left.is_empty());
+    same(
+        &rt,
+        "the second close counts the same turns",
+        &again.turns,
+        &end.turns,
+    );
+    holds(
+        &rt,
+        "the second close finds none left",
+        again.left.is_empty(),
+    );
     rt.end();
 }

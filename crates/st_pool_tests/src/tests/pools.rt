@@ -1,6 +1,6 @@
 //! Pools of threads: each token is served, and what is not served is left.
 use super::counted::{Counted, token};
-use super::host::Host;
+use super::host::{Host, holds, same};
 use super::silent::Silent;
 use super::started::{closes, schedules, started, times};
 use st_pool::{PutRefused, Wake};
@@ -16,19 +16,44 @@ fn a_thousand_machines_make_ten_turns_each(rt: HostRuntime) {
     let scheduler = pool.scheduler().expect(&rt, "a scheduler");
     schedules(&rt, &pool, 0, 500);
     for slot in 500..1_000 {
-        assert_eq!(rt; scheduler.wake(&threads, token(slot)), Ok(()));
+        holds(
+            &rt,
+            "each is woken",
+            scheduler.wake(&threads, token(slot)) == Ok(()),
+        );
     }
     pool.drain();
     for slot in 0..1_000 {
-        assert_eq!(rt; machines.turns_of(slot), 10);
+        same(
+            &rt,
+            "each makes its ten turns",
+            &machines.turns_of(slot),
+            &10,
+        );
     }
     let end = closes(&rt, &mut pool);
-    assert_eq!(rt; end.turns, 10_000);
-    assert!(rt; end.left.is_empty());
-    assert_eq!(rt; scheduler.wake(&threads, token(3)), Err(token(3)));
-    assert_eq!(rt; pool.schedule(token(3)), Err(PutRefused(token(3))));
+    same(&rt, "the workers made all turns", &end.turns, &10_000);
+    holds(&rt, "none is left", end.left.is_empty());
+    let late = token(3);
+    same(
+        &rt,
+        "a closed pool wakes none",
+        &scheduler.wake(&threads, late),
+        &Err(late),
+    );
+    same(
+        &rt,
+        "a closed pool schedules none",
+        &pool.schedule(late),
+        &Err(PutRefused(late)),
+    );
     drop(pool);
-    assert_eq!(rt; scheduler.wake(&threads, token(3)), Err(token(3)));
+    same(
+        &rt,
+        "a pool that is gone wakes none",
+        &scheduler.wake(&threads, late),
+        &Err(late),
+    );
     rt.end_with_memory();
 }
 
@@ -43,9 +68,19 @@ fn tokens_are_scheduled_and_drained_one_by_one(rt: HostRuntime) {
         machines.begin_anew();
         schedules(&rt, &pool, 0, 1);
         pool.drain();
-        assert_eq!(rt; machines.turns_of(0), 1);
+        same(
+            &rt,
+            "a drained token made its turn",
+            &machines.turns_of(0),
+            &1,
+        );
     }
-    assert_eq!(rt; closes(&rt, &mut pool).turns, 10_000);
+    same(
+        &rt,
+        "one turn for each time",
+        &closes(&rt, &mut pool).turns,
+        &10_000,
+    );
     rt.end_with_memory();
 }
 
@@ -59,13 +94,27 @@ fn tokens_that_never_rest_are_left_once_each(rt: HostRuntime) {
     schedules(&rt, &pool, 0, 10);
     let end = closes(&rt, &mut pool);
     pool.drain();
-    assert_eq!(rt; end.left.len(), 10);
+    same(&rt, "ten are left", &end.left.len(), &10);
     for slot in 0..10 {
-        assert_eq!(rt; times(end.left.as_slice(), token(slot)), 1);
+        same(
+            &rt,
+            "each is left once",
+            &times(end.left.as_slice(), token(slot)),
+            &1,
+        );
     }
     let again = closes(&rt, &mut pool);
-    assert_eq!(rt; again.turns, end.turns);
-    assert!(rt; again.left.is_empty());
+    same(
+        &rt,
+        "the second close counts the same turns",
+        &again.turns,
+        &end.turns,
+    );
+    holds(
+        &rt,
+        "the second close finds none left",
+        again.left.is_empty(),
+    );
     rt.end_with_memory();
 }
 
@@ -90,11 +139,16 @@ fn a_cold_token_is_served_beside_more_hot_ones_than_workers(rt: HostRuntime) {
         }
         thread::yield_now();
     }
-    assert!(rt; machines.turns_of(6) > 0, "the cold one is served");
+    holds(&rt, "the cold one is served", machines.turns_of(6) > 0);
     for slot in 0..6 {
-        assert!(rt; machines.turns_of(slot) > 0, "each hot one is served");
+        holds(&rt, "each hot one is served", machines.turns_of(slot) > 0);
     }
-    assert_eq!(rt; closes(&rt, &mut pool).left.len(), 7);
+    same(
+        &rt,
+        "all seven are left",
+        &closes(&rt, &mut pool).left.len(),
+        &7,
+    );
     rt.end_with_memory();
 }
 
@@ -111,6 +165,11 @@ fn a_pool_that_is_let_go_ends_its_threads(rt: HostRuntime) {
     for _ in 0..1_000 {
         thread::yield_now();
     }
-    assert_eq!(rt; machines.turns_of(0), turns);
+    same(
+        &rt,
+        "no turn is made any more",
+        &machines.turns_of(0),
+        &turns,
+    );
     rt.end_with_memory();
 }

@@ -2,7 +2,7 @@
 ghost use Rattle.std.specs.Prelude.{◌≤◌};
 
 use super::counted::{Counted, token};
-use super::host::Host;
+use super::host::{Host, got, holds, same};
 use st_pool::{Gate, Pool, PoolEnd, PutRefused, Runtime, Token};
 use std::alloc::Global;
 use std::process::Abort;
@@ -34,9 +34,18 @@ pub fn started<R: Runtime, G: Gate + Drop + Send + Sync + 'static>(
 pub fn schedules<R: Runtime>(rt: &Host<impl Abort>, pool: &Pool<R>, first: usize, end: usize) {
     for slot in first..end {
         if let Err(refused) = pool.schedule(token(slot)) {
-            assert_eq!(rt; refused, PutRefused(token(slot)));
+            same(
+                rt,
+                "what is refused comes back",
+                &refused,
+                &PutRefused(token(slot)),
+            );
             rt.retry();
-            assert_eq!(rt; pool.schedule(refused.0), Ok(()));
+            holds(
+                rt,
+                "it is scheduled the second time",
+                pool.schedule(refused.0) == Ok(()),
+            );
         }
     }
 }
@@ -47,10 +56,7 @@ pub fn closes<R: Runtime>(rt: &Host<impl Abort>, pool: &mut Pool<R>) -> PoolEnd 
         Ok(end) => end,
         Err(_) => {
             rt.retry();
-            match pool.close() {
-                Ok(end) => end,
-                Err(_) => panic!(rt; "one allocation alone is refused"),
-            }
+            got(rt, "one allocation alone is refused", pool.close())
         }
     }
 }

@@ -3,7 +3,7 @@ ghost use Rattle.std.specs.Prelude.{◌≤◌};
 
 use super::chain::Chain;
 use super::counted::Counted;
-use super::host::Host;
+use super::host::{Host, holds, same};
 use super::meeting::Meeting;
 use super::started::{closes, schedules, started};
 use st_pool::Runtime;
@@ -28,7 +28,11 @@ fn chains<R: Runtime>(
         schedules(rt, &pool, 0, tokens);
         pool.drain();
     }
-    assert!(rt; closes(rt, &mut pool).left.is_empty());
+    holds(
+        rt,
+        "no token of a chain is left",
+        closes(rt, &mut pool).left.is_empty(),
+    );
     gate.gave_up()
 }
 
@@ -36,8 +40,18 @@ fn chains<R: Runtime>(
 fn two_workers_serve_two_tokens_at_once_and_one_does_not(rt: HostRuntime) {
     let threads = rt;
     let rt = Host::with_memory(rt);
-    assert_eq!(rt; chains(&rt, threads, 2, 2, 1), 0);
-    assert_eq!(rt; chains(&rt, threads, 1, 2, 1), 1);
+    same(
+        &rt,
+        "two workers serve both at once",
+        &chains(&rt, threads, 2, 2, 1),
+        &0,
+    );
+    same(
+        &rt,
+        "with one worker one waits in vain",
+        &chains(&rt, threads, 1, 2, 1),
+        &1,
+    );
     rt.end_with_memory();
 }
 
@@ -45,10 +59,30 @@ fn two_workers_serve_two_tokens_at_once_and_one_does_not(rt: HostRuntime) {
 fn as_many_tokens_as_workers_are_served_at_once(rt: HostRuntime) {
     let threads = rt;
     let rt = Host::with_memory(rt);
-    assert_eq!(rt; chains(&rt, threads, 1, 1, 1_000), 0);
-    assert_eq!(rt; chains(&rt, threads, 2, 2, 1_000), 0);
-    assert_eq!(rt; chains(&rt, threads, 4, 4, 500), 0);
-    assert_eq!(rt; chains(&rt, threads, 16, 16, 100), 0);
+    same(
+        &rt,
+        "one token of one worker waits for none",
+        &chains(&rt, threads, 1, 1, 1_000),
+        &0,
+    );
+    same(
+        &rt,
+        "two at once, none in vain",
+        &chains(&rt, threads, 2, 2, 1_000),
+        &0,
+    );
+    same(
+        &rt,
+        "four at once, none in vain",
+        &chains(&rt, threads, 4, 4, 500),
+        &0,
+    );
+    same(
+        &rt,
+        "sixteen at once, none in vain",
+        &chains(&rt, threads, 16, 16, 100),
+        &0,
+    );
     rt.end_with_memory();
 }
 
@@ -63,7 +97,11 @@ fn meetings<R: Runtime>(rt: &Host<impl Abort + AllocGlobal>, threads: R, times: 
         schedules(rt, &pool, 0, 6);
         pool.drain();
     }
-    assert!(rt; closes(rt, &mut pool).left.is_empty());
+    holds(
+        rt,
+        "no token of a meeting is left",
+        closes(rt, &mut pool).left.is_empty(),
+    );
     gate.gave_up()
 }
 
@@ -71,6 +109,11 @@ fn meetings<R: Runtime>(rt: &Host<impl Abort + AllocGlobal>, threads: R, times: 
 fn workers_share_what_stands_on_one_queue(rt: HostRuntime) {
     let threads = rt;
     let rt = Host::with_memory(rt);
-    assert_eq!(rt; meetings(&rt, threads, 200), 0);
+    same(
+        &rt,
+        "no one waits in vain",
+        &meetings(&rt, threads, 200),
+        &0,
+    );
     rt.end_with_memory();
 }

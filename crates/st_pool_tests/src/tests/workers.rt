@@ -1,6 +1,6 @@
 //! What a worker does, with no thread but the test's own.
 use super::counted::{Counted, token};
-use super::host::Host;
+use super::host::{Host, holds, same};
 use super::silent::Silent;
 use st_pool::{Worker, serve_one};
 use st_runq::{Inlet, PutRefused, Seats};
@@ -25,12 +25,33 @@ fn workers(rt: &Host<impl Abort + AllocGlobal>, count: usize) -> (Inlet, Vec<Wor
 fn a_token_is_served_by_one_turn(rt: HostRuntime) {
     let rt = Host::with_memory(rt);
     let machines = Counted::new(rt.alloc(), 2, 2).expect(&rt, "machines");
-    assert_eq!(rt; serve_one(&*machines, token(1), 5), Some(token(1)));
-    assert_eq!(rt; machines.turns_of(1), 1);
-    assert_eq!(rt; serve_one(&*machines, token(1), 5), None);
-    assert_eq!(rt; machines.turns_of(1), 2);
-    assert_eq!(rt; machines.turns_of(0), 0);
-    assert_eq!(rt; serve_one(&*machines, token(2), 5), None);
+    let own = token(1);
+    same(
+        &rt,
+        "it comes back for a turn",
+        &serve_one(&*machines, own, 5),
+        &Some(own),
+    );
+    same(&rt, "one turn is made", &machines.turns_of(1), &1);
+    same(
+        &rt,
+        "it rests after its last turn",
+        &serve_one(&*machines, own, 5),
+        &None,
+    );
+    same(&rt, "a second turn is made", &machines.turns_of(1), &2);
+    same(
+        &rt,
+        "the other machine made none",
+        &machines.turns_of(0),
+        &0,
+    );
+    same(
+        &rt,
+        "no machine, no turn",
+        &serve_one(&*machines, token(2), 5),
+        &None,
+    );
     rt.end_with_memory();
 }
 
@@ -40,22 +61,51 @@ fn a_round_serves_a_token_of_another_worker(rt: HostRuntime) {
     let rt = Host::with_memory(rt);
     let machines = Counted::new(rt.alloc(), 1, 2).expect(&rt, "machines");
     let (_inlet, mut all) = workers(&rt, 2);
-    let (Some(mut other), Some(mut own)) = (all.pop(), all.pop()) else {
-        panic!(rt; "two workers");
-    };
-    assert_eq!(rt; own.number, 0);
-    assert!(rt; !own.round(&wait, &*machines, &Silent));
-    assert_eq!(rt; other.lane.put_local(token(0)), Ok(()));
-    assert!(rt; own.round(&wait, &*machines, &Silent));
-    assert_eq!(rt; machines.turns_of(0), 1);
-    assert_eq!(rt; other.lane.take_local(), None);
-    assert!(rt; own.look(&wait));
-    assert_eq!(rt; own.hand, Some(token(0)));
-    assert!(rt; !other.round(&wait, &*machines, &Silent));
-    assert!(rt; own.round(&wait, &*machines, &Silent));
-    assert_eq!(rt; own.hand, None);
-    assert_eq!(rt; machines.turns_of(0), 2);
-    assert!(rt; !own.round(&wait, &*machines, &Silent));
+    let mut other = all.pop().expect(&rt, "a second worker");
+    let mut own = all.pop().expect(&rt, "a first worker");
+    same(&rt, "the first has the number 0", &own.number, &0);
+    holds(
+        &rt,
+        "there is no token yet",
+        !own.round(&wait, &*machines, &Silent),
+    );
+    same(
+        &rt,
+        "the other gets one",
+        &other.lane.put_local(token(0)),
+        &Ok(()),
+    );
+    holds(
+        &rt,
+        "it is robbed and served",
+        own.round(&wait, &*machines, &Silent),
+    );
+    same(&rt, "that was one turn", &machines.turns_of(0), &1);
+    same(
+        &rt,
+        "the other has it no more",
+        &other.lane.take_local(),
+        &None,
+    );
+    holds(&rt, "it came back to its robber", own.look(&wait));
+    same(&rt, "and is in its hand", &own.hand, &Some(token(0)));
+    holds(
+        &rt,
+        "nothing is left for the other",
+        !other.round(&wait, &*machines, &Silent),
+    );
+    holds(
+        &rt,
+        "what is in the hand is served",
+        own.round(&wait, &*machines, &Silent),
+    );
+    same(&rt, "the hand is empty", &own.hand, &None);
+    same(&rt, "that was its last turn", &machines.turns_of(0), &2);
+    holds(
+        &rt,
+        "no token comes back",
+        !own.round(&wait, &*machines, &Silent),
+    );
     rt.end_with_memory();
 }
 
@@ -68,7 +118,11 @@ fn makes_rounds(
     count: u64,
 ) {
     for _ in 0..count {
-        assert!(rt; worker.round(wait, machines, &Silent));
+        holds(
+            rt,
+            "each round serves a token",
+            worker.round(wait, machines, &Silent),
+        );
     }
 }
 
@@ -78,17 +132,40 @@ fn each_61st_round_asks_the_shared_queue_first(rt: HostRuntime) {
     let rt = Host::with_memory(rt);
     let machines = Counted::endless(rt.alloc(), 2).expect(&rt, "machines");
     let (mut inlet, mut all) = workers(&rt, 1);
-    let Some(mut worker) = all.pop() else {
-        panic!(rt; "one worker");
-    };
-    assert_eq!(rt; worker.lane.put_local(token(0)), Ok(()));
-    assert_eq!(rt; inlet.put_shared(&wait, token(1)), Ok(()));
+    let mut worker = all.pop().expect(&rt, "a worker");
+    same(
+        &rt,
+        "one stands on its own queue",
+        &worker.lane.put_local(token(0)),
+        &Ok(()),
+    );
+    same(
+        &rt,
+        "one stands on the shared queue",
+        &inlet.put_shared(&wait, token(1)),
+        &Ok(()),
+    );
     makes_rounds(&rt, &wait, &mut worker, &machines, 60);
-    assert_eq!(rt; machines.turns_of(0), 60);
-    assert_eq!(rt; machines.turns_of(1), 0);
+    same(
+        &rt,
+        "sixty rounds serve its own",
+        &machines.turns_of(0),
+        &60,
+    );
+    same(&rt, "and not the shared one", &machines.turns_of(1), &0);
     makes_rounds(&rt, &wait, &mut worker, &machines, 1);
-    assert_eq!(rt; machines.turns_of(1), 1);
+    same(
+        &rt,
+        "the 61st serves the shared one",
+        &machines.turns_of(1),
+        &1,
+    );
     makes_rounds(&rt, &wait, &mut worker, &machines, 1);
-    assert_eq!(rt; machines.turns_of(0), 61);
+    same(
+        &rt,
+        "the next serves its own again",
+        &machines.turns_of(0),
+        &61,
+    );
     rt.end_with_memory();
 }

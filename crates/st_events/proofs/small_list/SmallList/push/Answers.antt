@@ -1,5 +1,5 @@
-use Rattle.std.proofs.Common.{Some, arith}
-use Rattle.st_events.proofs.PlacesLemmas.{present-more, full-more}
+use Rattle.std.proofs.Common.{◌+◌, ◌≤◌, Some, length, refl, ap, arith}
+use Rattle.st_events.proofs.PlacesLemmas.{present-more, full-more, full-length}
 use Rattle.st_events.proofs.small_list.SmallList.push.Goals as goal
 
 pub invariant_of-self-2 : goal.invariant_of-self-2
@@ -11,3 +11,14 @@ invariant_of-self-2 g c = (
 pub returns-clause-pushed : goal.returns-clause-pushed
 returns-clause-pushed g c =
     rw (c.push_reserved.ensures.items, c.reserve.ensures.items, ← c.self.view_is) (present-more c.self.inside.elements.items (Some c.args.element))
+
+-- a list of fewer than four has an inline place left, so no memory was wanted
+pub returns-then-is_err-clause-inline : goal.returns-then-is_err-clause-inline
+returns-then-is_err-clause-inline g c = λ short.
+    let room : length c.self.inside.elements.items + 1 ≤ c.self.inside.elements.capacity =
+      omega (arith, c.self.invariant.0, full-length _ c.self.invariant.1, ap length c.self.view_is, short) in
+    let fine = c.reserve.ensures.succeeds room in
+    cc (c.if-is_err.ensures.negation, fine)
+
+pub returns-clause-inline : goal.returns-clause-inline
+returns-clause-inline g c = λ short. refl

@@ -1,4 +1,0 @@
-use Rattle.st_agenda.proofs.tests.tick.Given as goal
-
-abbrev pub ghosts-tick_in : goal.ghosts-tick_in
-ghosts-tick_in g a = record { name = a.blank.name; parts = a.blank.parts }

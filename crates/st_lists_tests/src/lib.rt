@@ -1,0 +1,6 @@
+//! Tests of the lists that one machine keeps: its events, the time-outs that run, its requests, and what waits and runs
+//! as one.
+#![tactic(auto)]
+
+#[cfg(test)]
+mod tests;

@@ -1,0 +1,9 @@
+//! What the lists of one machine answer, with memory and while an allocation is refused.
+
+mod agenda;
+mod host;
+mod long_list;
+mod queue;
+mod requests;
+mod timeouts;
+mod timer_map;

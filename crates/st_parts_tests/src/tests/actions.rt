@@ -1,0 +1,612 @@
+//! Tests of st_actions: what lists ask for, with memory and while an allocation is refused.
+
+use super::host::{Host, got, holds, same};
+use st_actions::{Planned, join, plan, plan_enter};
+use st_events::{Action, Actions, EnterAction, EnterActions, Kind, MachineId, Tag, Time, Timer};
+use std::alloc::Global;
+use std::process::Abort;
+
+/// The tag of a request.
+fn tag(request: u64) -> Tag {
+    Tag {
+        machine: MachineId { slot: 2, serial: 5 },
+        request,
+    }
+}
+
+/// Forty letters that set thirteen timers.
+const FORTY: [char; 40] = [
+    'A', 'B', 'C', 'D', 'E', 'F', 'X', 'G', 'A', 'B', 'H', 'C', 'I', 'E', 'D', 'J', 'A', 'X', 'B',
+    'B', 'F', 'K', 'C', 'A', 'H', 'L', 'G', 'E', 'A', 'I', 'C', 'X', 'J', 'D', 'B', 'A', 'X', 'L',
+    'A', 'E',
+];
+
+/// The timer that a capital letter names: `E` is the event's, `X` the state's, and each other has its code for a
+/// name.
+fn timer(letter: char) -> Timer {
+    match letter {
+        'E' => Timer::Event,
+        'X' => Timer::State,
+        _ => Timer::Named(letter as u32),
+    }
+}
+
+/// The action that a letter at a place of a list names: `r` and `s` reply 10 and 20 to the requests 1 and 2, `p` and `k`
+/// say that the event is postponed and that it is not, `i` and `t` insert 30 and 40, `1` and `2` set the
+/// named timers 1 and 2 for as many milliseconds, `9` sets the timer 1 for 9, `0` stops it, `e` and `x`
+/// set the event and the state time-out, a capital letter sets its timer for 4, with its place as the content, and every
+/// other hibernates.
+fn action(place: usize, letter: char) -> Action<u64> {
+    match letter {
+        'r' => Action::Reply(tag(1), 10),
+        's' => Action::Reply(tag(2), 20),
+        'p' => Action::Postpone(true),
+        'k' => Action::Postpone(false),
+        'i' => Action::NextEvent(Kind::Internal, 30),
+        't' => Action::NextEvent(Kind::Timeout(Timer::State), 40),
+        '1' => Action::Set(Timer::Named(1), Time::After(1), 50),
+        '2' => Action::Set(Timer::Named(2), Time::After(2), 60),
+        '9' => Action::Set(Timer::Named(1), Time::After(9), 70),
+        '0' => Action::Set(Timer::Named(1), Time::Infinity, 80),
+        'e' => Action::Set(Timer::Event, Time::After(0), 90),
+        'x' => Action::Set(Timer::State, Time::After(3), 100),
+        'A'..='Z' => Action::Set(timer(letter), Time::After(4), place as u64),
+        _ => Action::Hibernate,
+    }
+}
+
+/// Says whether an action is the one that a letter at a place names.
+fn is_action(found: &Action<u64>, place: usize, letter: char) -> bool {
+    match (found, action(place, letter)) {
+        (Action::Reply(tag, content), Action::Reply(other, wanted)) => {
+            *tag == other && *content == wanted
+        }
+        (Action::Postpone(last), Action::Postpone(wanted)) => *last == wanted,
+        (Action::NextEvent(kind, content), Action::NextEvent(other, wanted)) => {
+            *kind == other && *content == wanted
+        }
+        (Action::Set(timer, time, content), Action::Set(other, other_time, wanted)) => {
+            *timer == other && *time == other_time && *content == wanted
+        }
+        (Action::Hibernate, Action::Hibernate) => true,
+        _ => false,
+    }
+}
+
+/// A list of the actions that letters name. Where memory was refused, it is asked for again.
+fn list(rt: &Host<impl Abort>, alloc: Global, letters: &[char]) -> Actions<u64> {
+    let mut actions = Actions::new(alloc);
+    for (place, letter) in letters.iter().enumerate() {
+        if let Err(failed) = actions.push(action(place, *letter)) {
+            rt.retry();
+            let again = actions.push(failed.value);
+            got(rt, "one allocation alone is refused", again);
+        }
+    }
+    actions
+}
+
+/// Looks that a list has the actions that letters name, and no others.
+fn has(rt: &impl Abort, actions: &Actions<u64>, letters: &[char]) {
+    same(rt, "how many there are", &actions.len(), &letters.len());
+    for (index, letter) in letters.iter().enumerate() {
+        let found = actions.get(index).expect(rt, "there are so many");
+        holds(rt, "the action", is_action(found, index, *letter));
+    }
+}
+
+/// What letters ask for. A call that finds no memory gives the list back, and is made again.
+fn planned(rt: &Host<impl Abort>, alloc: Global, letters: &[char]) -> Planned<u64> {
+    match plan(alloc, list(rt, alloc, letters)) {
+        Ok(planned) => planned,
+        Err(failed) => {
+            holds(rt, "four take no memory", letters.len() > 4);
+            has(rt, &failed.value, letters);
+            rt.retry();
+            let again = plan(alloc, failed.value);
+            got(rt, "one allocation alone is refused", again)
+        }
+    }
+}
+
+/// The enter call's action that a letter at a place names, as it names an action. Those that name none hibernate.
+fn enter_action(place: usize, letter: char) -> EnterAction<u64> {
+    match action(place, letter) {
+        Action::Reply(tag, content) => EnterAction::Reply(tag, content),
+        Action::Set(timer, time, content) => EnterAction::Set(timer, time, content),
+        Action::Postpone(_) | Action::NextEvent(_, _) | Action::Hibernate => EnterAction::Hibernate,
+    }
+}
+
+/// Says whether an enter call's action is the one that a letter at a place names.
+fn is_enter_action(found: &EnterAction<u64>, place: usize, letter: char) -> bool {
+    match (found, enter_action(place, letter)) {
+        (EnterAction::Reply(tag, content), EnterAction::Reply(other, wanted)) => {
+            *tag == other && *content == wanted
+        }
+        (EnterAction::Set(timer, time, content), EnterAction::Set(other, other_time, wanted)) => {
+            *timer == other && *time == other_time && *content == wanted
+        }
+        (EnterAction::Hibernate, EnterAction::Hibernate) => true,
+        _ => false,
+    }
+}
+
+/// A list of the enter call's actions that letters name, as `list` makes one.
+fn enter_list(rt: &Host<impl Abort>, alloc: Global, letters: &[char]) -> EnterActions<u64> {
+    let mut actions = EnterActions::new(alloc);
+    for (place, letter) in letters.iter().enumerate() {
+        if let Err(failed) = actions.push(enter_action(place, *letter)) {
+            rt.retry();
+            let again = actions.push(failed.value);
+            got(rt, "one allocation alone is refused", again);
+        }
+    }
+    actions
+}
+
+/// Looks that a list has the enter call's actions that letters name, and no others.
+fn enter_has(rt: &impl Abort, actions: &EnterActions<u64>, letters: &[char]) {
+    same(rt, "how many there are", &actions.len(), &letters.len());
+    for (index, letter) in letters.iter().enumerate() {
+        let found = actions.get(index).expect(rt, "there are so many");
+        holds(rt, "the action", is_enter_action(found, index, *letter));
+    }
+}
+
+/// What letters ask for in an enter call. A call that finds no memory gives the list back, and is made
+/// again.
+fn entered(rt: &Host<impl Abort>, alloc: Global, letters: &[char]) -> Planned<u64> {
+    match plan_enter(alloc, enter_list(rt, alloc, letters)) {
+        Ok(planned) => planned,
+        Err(failed) => {
+            holds(rt, "four take no memory", letters.len() > 4);
+            enter_has(rt, &failed.value, letters);
+            rt.retry();
+            let again = plan_enter(alloc, failed.value);
+            got(rt, "one allocation alone is refused", again)
+        }
+    }
+}
+
+/// Looks that two plans reply the same.
+fn reply_the_same(rt: &impl Abort, found: &Planned<u64>, wanted: &Planned<u64>) {
+    let count = found.replies.len();
+    same(rt, "how many replies", &count, &wanted.replies.len());
+    for index in 0..count {
+        let one = found.replies.get(index).expect(rt, "there are so many");
+        let other = wanted.replies.get(index).expect(rt, "there are as many");
+        holds(rt, "the request", one.0 == other.0);
+        holds(rt, "its reply", one.1 == other.1);
+    }
+}
+
+/// Looks that two plans insert the same.
+fn insert_the_same(rt: &impl Abort, found: &Planned<u64>, wanted: &Planned<u64>) {
+    let count = found.inserts.len();
+    same(rt, "how many inserts", &count, &wanted.inserts.len());
+    for index in 0..count {
+        let one = found.inserts.get(index).expect(rt, "there are so many");
+        let other = wanted.inserts.get(index).expect(rt, "there are as many");
+        holds(rt, "the kind", one.kind == other.kind);
+        holds(rt, "its content", one.content == other.content);
+    }
+}
+
+/// Looks that two plans set the same.
+fn set_the_same(rt: &impl Abort, found: &Planned<u64>, wanted: &Planned<u64>) {
+    let count = found.requests.len();
+    same(rt, "how many settings", &count, &wanted.requests.len());
+    for index in 0..count {
+        let one = found.requests.get(index).expect(rt, "there are so many");
+        let other = wanted.requests.get(index).expect(rt, "there are as many");
+        holds(rt, "the timer", one.timer == other.timer);
+        holds(rt, "its time", one.time == other.time);
+        holds(rt, "its content", one.content == other.content);
+    }
+}
+
+/// Looks that two plans ask for the same.
+fn ask_the_same(rt: &impl Abort, found: &Planned<u64>, wanted: &Planned<u64>) {
+    reply_the_same(rt, found, wanted);
+    holds(
+        rt,
+        "both postpone, or none",
+        found.postpone == wanted.postpone,
+    );
+    insert_the_same(rt, found, wanted);
+    set_the_same(rt, found, wanted);
+}
+
+/// What two plans ask for together. A call that finds no memory gives both back, equal to `copies`, and is
+/// made again.
+fn joined(
+    rt: &Host<impl Abort>,
+    alloc: Global,
+    plans: (Planned<u64>, Planned<u64>),
+    copies: &(Planned<u64>, Planned<u64>),
+) -> Planned<u64> {
+    match join(alloc, plans.0, plans.1) {
+        Ok(planned) => planned,
+        Err(failed) => {
+            let (first, second) = failed.value;
+            ask_the_same(rt, &first, &copies.0);
+            ask_the_same(rt, &second, &copies.1);
+            rt.retry();
+            let again = join(alloc, first, second);
+            got(rt, "one allocation alone is refused", again)
+        }
+    }
+}
+
+/// What an event's letters ask for, and what an enter call's do.
+fn event_and_enter(
+    rt: &Host<impl Abort>,
+    alloc: Global,
+    event: &[char],
+    enter: &[char],
+) -> (Planned<u64>, Planned<u64>) {
+    (planned(rt, alloc, event), entered(rt, alloc, enter))
+}
+
+/// What the letters of two events ask for.
+fn two_events(
+    rt: &Host<impl Abort>,
+    alloc: Global,
+    first: &[char],
+    second: &[char],
+) -> (Planned<u64>, Planned<u64>) {
+    (planned(rt, alloc, first), planned(rt, alloc, second))
+}
+
+/// What is to be asked for: these replies, whether the event is postponed, these inserts, and these timers to be set.
+#[derive(Clone, Copy)]
+struct Wanted<'a> {
+    replies: &'a [(Tag, u64)],
+    postpone: bool,
+    inserts: &'a [(Kind, u64)],
+    settings: &'a [(Timer, Time, u64)],
+}
+
+/// Nothing is to be asked for.
+const NOTHING: Wanted<'static> = Wanted {
+    replies: &[],
+    postpone: false,
+    inserts: &[],
+    settings: &[],
+};
+
+/// Looks that these replies are asked for, and no others.
+fn replies(rt: &impl Abort, planned: &Planned<u64>, wanted: &[(Tag, u64)]) {
+    same(
+        rt,
+        "how many replies",
+        &planned.replies.len(),
+        &wanted.len(),
+    );
+    for (index, (tag, content)) in wanted.iter().enumerate() {
+        let reply = planned.replies.get(index).expect(rt, "there are so many");
+        holds(rt, "the request", reply.0 == *tag);
+        holds(rt, "its reply", reply.1 == *content);
+    }
+}
+
+/// Looks that these inserts are asked for, and no others.
+fn inserts(rt: &impl Abort, planned: &Planned<u64>, wanted: &[(Kind, u64)]) {
+    same(
+        rt,
+        "how many inserts",
+        &planned.inserts.len(),
+        &wanted.len(),
+    );
+    for (index, (kind, content)) in wanted.iter().enumerate() {
+        let insert = planned.inserts.get(index).expect(rt, "there are so many");
+        holds(rt, "the kind", insert.kind == *kind);
+        holds(rt, "its content", insert.content == *content);
+    }
+}
+
+/// Looks that these timers are to be set, and no others.
+fn settings(rt: &impl Abort, planned: &Planned<u64>, wanted: &[(Timer, Time, u64)]) {
+    same(
+        rt,
+        "how many settings",
+        &planned.requests.len(),
+        &wanted.len(),
+    );
+    for (index, (timer, time, content)) in wanted.iter().enumerate() {
+        let setting = planned.requests.get(index).expect(rt, "there are so many");
+        holds(rt, "the timer", setting.timer == *timer);
+        holds(rt, "its time", setting.time == *time);
+        holds(rt, "its content", setting.content == *content);
+    }
+}
+
+/// Looks that this is asked for, and nothing else.
+fn asks(rt: &impl Abort, planned: &Planned<u64>, wanted: Wanted) {
+    replies(rt, planned, wanted.replies);
+    holds(
+        rt,
+        "it is postponed, or not",
+        planned.postpone == wanted.postpone,
+    );
+    inserts(rt, planned, wanted.inserts);
+    settings(rt, planned, wanted.settings);
+}
+
+/// Looks that the settings of these capital letters at these places are asked for, and no others.
+fn places(rt: &impl Abort, planned: &Planned<u64>, wanted: &[(char, u64)]) {
+    same(
+        rt,
+        "how many settings",
+        &planned.requests.len(),
+        &wanted.len(),
+    );
+    for (index, (letter, place)) in wanted.iter().enumerate() {
+        let setting = planned.requests.get(index).expect(rt, "there are so many");
+        holds(rt, "the timer", setting.timer == timer(*letter));
+        holds(rt, "its time", setting.time == Time::After(4));
+        holds(rt, "its place", setting.content == *place);
+    }
+}
+
+/// Looks whether the event is postponed, at what letters ask for.
+fn postpones(rt: &Host<impl Abort>, alloc: Global, letters: &[char], wanted: bool) {
+    let found = planned(rt, alloc, letters).postpone;
+    same(rt, "it is postponed", &found, &wanted);
+}
+
+/// Replies and inserts keep their order, and inserts may be taken from the back.
+fn an_order_is_kept(rt: &Host<impl Abort>, alloc: Global) {
+    let mut seven = planned(rt, alloc, &['i', 'r', 'p', 'h', 't', 's', 'i']);
+    let wanted = Wanted {
+        replies: &[(tag(1), 10), (tag(2), 20)],
+        postpone: true,
+        inserts: &[
+            (Kind::Internal, 30),
+            (Kind::Timeout(Timer::State), 40),
+            (Kind::Internal, 30),
+        ],
+        ..NOTHING
+    };
+    asks(rt, &seven, wanted);
+    let last = seven.inserts.pop().expect(rt, "there are three");
+    holds(rt, "the kind of the last", last.kind == Kind::Internal);
+    holds(rt, "the content of the last", last.content == 30);
+    let left = [(Kind::Internal, 30), (Kind::Timeout(Timer::State), 40)];
+    inserts(rt, &seven, &left);
+}
+
+#[test]
+fn each_call_answers(rt: HostRuntime) {
+    let rt = Host::new(rt);
+    asks(&rt, &planned(&rt, rt.alloc(), &[]), NOTHING);
+    // The last postpone decides.
+    postpones(&rt, rt.alloc(), &['p'], true);
+    postpones(&rt, rt.alloc(), &['p', 'k'], false);
+    postpones(&rt, rt.alloc(), &['k', 'p', 'h'], true);
+    let wanted = Wanted {
+        replies: &[(tag(2), 20), (tag(1), 10)],
+        inserts: &[(Kind::Timeout(Timer::State), 40), (Kind::Internal, 30)],
+        ..NOTHING
+    };
+    let both = planned(&rt, rt.alloc(), &['s', 't', 'r', 'i']);
+    asks(&rt, &both, wanted);
+    an_order_is_kept(&rt, rt.alloc());
+    rt.end();
+}
+
+#[test]
+fn the_last_setting_of_each_timer_decides(rt: HostRuntime) {
+    let rt = Host::new(rt);
+    let both = planned(&rt, rt.alloc(), &['1', '2']);
+    let wanted = [
+        (Timer::Named(1), Time::After(1), 50),
+        (Timer::Named(2), Time::After(2), 60),
+    ];
+    settings(&rt, &both, &wanted);
+
+    // It stands where the last one stood, also where it stops the timer.
+    let again = planned(&rt, rt.alloc(), &['1', '2', '9']);
+    let wanted = [
+        (Timer::Named(2), Time::After(2), 60),
+        (Timer::Named(1), Time::After(9), 70),
+    ];
+    settings(&rt, &again, &wanted);
+    let stopped = planned(&rt, rt.alloc(), &['9', 'e', '0', 'x', 'p', 'e']);
+    let wanted = Wanted {
+        postpone: true,
+        settings: &[
+            (Timer::Named(1), Time::Infinity, 80),
+            (Timer::State, Time::After(3), 100),
+            (Timer::Event, Time::After(0), 90),
+        ],
+        ..NOTHING
+    };
+    asks(&rt, &stopped, wanted);
+    rt.end();
+}
+
+#[test]
+fn refused_memory_changes_nothing(rt: HostRuntime) {
+    let rt = Host::new(rt);
+    let letters = ['r', 'i', 's', 'k', '1', 't', 'p', 'x', '9'];
+    let nine = planned(&rt, rt.alloc(), &letters);
+    let wanted = Wanted {
+        replies: &[(tag(1), 10), (tag(2), 20)],
+        postpone: true,
+        inserts: &[(Kind::Internal, 30), (Kind::Timeout(Timer::State), 40)],
+        settings: &[
+            (Timer::State, Time::After(3), 100),
+            (Timer::Named(1), Time::After(9), 70),
+        ],
+    };
+    asks(&rt, &nine, wanted);
+    rt.end();
+}
+
+#[test]
+fn an_enter_call_replies_and_sets_timers(rt: HostRuntime) {
+    let rt = Host::new(rt);
+    asks(&rt, &entered(&rt, rt.alloc(), &[]), NOTHING);
+
+    let four = entered(&rt, rt.alloc(), &['x', 'h', 'r', 'e']);
+    let wanted = Wanted {
+        replies: &[(tag(1), 10)],
+        settings: &[
+            (Timer::State, Time::After(3), 100),
+            (Timer::Event, Time::After(0), 90),
+        ],
+        ..NOTHING
+    };
+    asks(&rt, &four, wanted);
+
+    // Of a timer's settings the last decides, and stands where it stood.
+    let six = entered(&rt, rt.alloc(), &['s', '1', 'h', 'r', '2', '9']);
+    let wanted = Wanted {
+        replies: &[(tag(2), 20), (tag(1), 10)],
+        settings: &[
+            (Timer::Named(2), Time::After(2), 60),
+            (Timer::Named(1), Time::After(9), 70),
+        ],
+        ..NOTHING
+    };
+    asks(&rt, &six, wanted);
+    rt.end();
+}
+
+/// What an event's letters and an enter call's ask for together.
+fn event_joined(
+    rt: &Host<impl Abort>,
+    alloc: Global,
+    event: &[char],
+    enter: &[char],
+) -> Planned<u64> {
+    let copies = event_and_enter(rt, alloc, event, enter);
+    let plans = event_and_enter(rt, alloc, event, enter);
+    joined(rt, alloc, plans, &copies)
+}
+
+/// What the letters of two events ask for together.
+fn events_joined(
+    rt: &Host<impl Abort>,
+    alloc: Global,
+    first: &[char],
+    second: &[char],
+) -> Planned<u64> {
+    let copies = two_events(rt, alloc, first, second);
+    let plans = two_events(rt, alloc, first, second);
+    joined(rt, alloc, plans, &copies)
+}
+
+#[test]
+fn an_enter_calls_settings_replace_the_events(rt: HostRuntime) {
+    let rt = Host::new(rt);
+    let event = ['r', 'p', 'i', '1', 'e'];
+    let both = event_joined(&rt, rt.alloc(), &event, &['s', '0', 'h']);
+    let wanted = Wanted {
+        replies: &[(tag(1), 10), (tag(2), 20)],
+        postpone: true,
+        inserts: &[(Kind::Internal, 30)],
+        settings: &[
+            (Timer::Event, Time::After(0), 90),
+            (Timer::Named(1), Time::Infinity, 80),
+        ],
+    };
+    asks(&rt, &both, wanted);
+
+    // The first list alone decides whether the event is postponed.
+    let kept = events_joined(&rt, rt.alloc(), &['i', 'k'], &['p', 't']);
+    let wanted = Wanted {
+        inserts: &[(Kind::Internal, 30), (Kind::Timeout(Timer::State), 40)],
+        ..NOTHING
+    };
+    asks(&rt, &kept, wanted);
+    rt.end();
+}
+
+#[test]
+fn a_refused_join_changes_nothing(rt: HostRuntime) {
+    let rt = Host::new(rt);
+    let first = ['r', 'i', 's', 't', '1', 'p', 'i', 'e', '2', 'x', 'r'];
+    let second = ['s', 't', 'k', 'i', '9', 'r'];
+    let both = events_joined(&rt, rt.alloc(), &first, &second);
+    let wanted = Wanted {
+        replies: &[
+            (tag(1), 10),
+            (tag(2), 20),
+            (tag(1), 10),
+            (tag(2), 20),
+            (tag(1), 10),
+        ],
+        postpone: true,
+        inserts: &[
+            (Kind::Internal, 30),
+            (Kind::Timeout(Timer::State), 40),
+            (Kind::Internal, 30),
+            (Kind::Timeout(Timer::State), 40),
+            (Kind::Internal, 30),
+        ],
+        settings: &[
+            (Timer::Event, Time::After(0), 90),
+            (Timer::Named(2), Time::After(2), 60),
+            (Timer::State, Time::After(3), 100),
+            (Timer::Named(1), Time::After(9), 70),
+        ],
+    };
+    asks(&rt, &both, wanted);
+    rt.end();
+}
+
+#[test]
+fn the_last_setting_decides_also_in_long_lists(rt: HostRuntime) {
+    let rt = Host::new(rt);
+    let lasts = [
+        ('F', 20),
+        ('K', 21),
+        ('H', 24),
+        ('G', 26),
+        ('I', 29),
+        ('C', 30),
+        ('J', 32),
+        ('D', 33),
+        ('B', 34),
+        ('X', 36),
+        ('L', 37),
+        ('A', 38),
+        ('E', 39),
+    ];
+    places(&rt, &planned(&rt, rt.alloc(), &FORTY), &lasts);
+    places(&rt, &entered(&rt, rt.alloc(), &FORTY), &lasts);
+    rt.end();
+}
+
+#[test]
+fn the_last_setting_decides_also_in_long_plans(rt: HostRuntime) {
+    let rt = Host::new(rt);
+    let twelve = ['M', 'B', 'N', 'A', 'O', 'X', 'A', 'P', 'B', 'Q', 'M', 'N'];
+    let both = event_joined(&rt, rt.alloc(), &FORTY, &twelve);
+    // Those of the forty whose timers none of the twelve sets, and then the last ones of the twelve.
+    let lasts = [
+        ('F', 20),
+        ('K', 21),
+        ('H', 24),
+        ('G', 26),
+        ('I', 29),
+        ('C', 30),
+        ('J', 32),
+        ('D', 33),
+        ('L', 37),
+        ('E', 39),
+        ('O', 4),
+        ('X', 5),
+        ('A', 6),
+        ('P', 7),
+        ('B', 8),
+        ('Q', 9),
+        ('M', 10),
+        ('N', 11),
+    ];
+    places(&rt, &both, &lasts);
+    rt.end();
+}

@@ -1,0 +1,58 @@
+//! Tests of st_directory: what directories answer to calls, with memory and while an allocation is refused.
+
+mod rows;
+mod told;
+
+use super::host::{Host, holds, same};
+use rows::{
+    A_FULL_DIRECTORY, A_MIDDLE_NAME_GOES, AN_ID_IS_GIVEN_ONCE, FRONT_IS_LAST,
+    NAMES_HAVE_1_TO_64_BYTES, OTHERS_IN_ORDER, THE_FIRST_NAME_GOES,
+};
+use st_directory::{Directory, MOST, a_directory_is_in_order, a_gone_id_stays_gone};
+use told::{drop_place, fill, names_are, tell_all};
+
+/// Says that values of a type may go to another thread, and be read by several.
+fn crosses_threads<T: Send + Sync>(_value: &T) {}
+
+#[test]
+fn an_id_is_given_once(rt: HostRuntime) {
+    let rt = Host::new(rt);
+    let mut directory = Directory::new(rt.alloc());
+    holds(&rt, "none at first", directory.is_empty());
+    tell_all(&rt, &mut directory, AN_ID_IS_GIVEN_ONCE.as_slice());
+    same(&rt, "how many there are", &directory.len(), &2);
+    a_directory_is_in_order(&directory);
+    a_gone_id_stays_gone(&directory);
+    crosses_threads(&directory);
+    rt.end();
+}
+
+#[test]
+fn names_have_1_to_64_bytes(rt: HostRuntime) {
+    let rt = Host::new(rt);
+    let mut directory = Directory::new(rt.alloc());
+    tell_all(&rt, &mut directory, NAMES_HAVE_1_TO_64_BYTES.as_slice());
+    rt.end();
+}
+
+#[test]
+fn names_stand_in_order_of_registration(rt: HostRuntime) {
+    let rt = Host::new(rt);
+    let mut directory = Directory::new(rt.alloc());
+    tell_all(&rt, &mut directory, A_MIDDLE_NAME_GOES.as_slice());
+    drop_place(&rt, &mut directory, "attic");
+    names_are(&rt, &directory, OTHERS_IN_ORDER.as_slice());
+    tell_all(&rt, &mut directory, THE_FIRST_NAME_GOES.as_slice());
+    names_are(&rt, &directory, FRONT_IS_LAST.as_slice());
+    rt.end();
+}
+
+#[test]
+fn a_full_directory_takes_no_more(rt: HostRuntime) {
+    let rt = Host::new(rt);
+    let mut directory = Directory::new(rt.alloc());
+    fill(&rt, &mut directory, MOST);
+    tell_all(&rt, &mut directory, A_FULL_DIRECTORY.as_slice());
+    same(&rt, "how many there are", &directory.len(), &MOST);
+    rt.end();
+}

@@ -1,4 +1,0 @@
-use Rattle.st_queue.proofs.tests.a_refused_call_changes_nothing.Given as goal
-
-abbrev pub ghosts-refusals : goal.ghosts-refusals
-ghosts-refusals g a = record { name = a.blank.name; parts = a.blank.parts }

@@ -1,4 +1,0 @@
-use Rattle.st_queue.proofs.tests.a_staged_event_takes_no_memory.Given as goal
-
-abbrev pub ghosts-staged_events : goal.ghosts-staged_events
-ghosts-staged_events g a = record { name = a.blank.name; parts = a.blank.parts }

@@ -1,4 +1,0 @@
-use Rattle.st_queue.proofs.tests.each_call_answers.Given as goal
-
-abbrev pub ghosts-answers : goal.ghosts-answers
-ghosts-answers g a = record { name = a.blank.name; parts = a.blank.parts }

@@ -1,4 +1,0 @@
-use Rattle.st_timeouts.proofs.tests.many_expire_in_order.Given as goal
-
-abbrev pub ghosts-many : goal.ghosts-many
-ghosts-many g a = record { name = a.blank.name; parts = a.blank.parts }
