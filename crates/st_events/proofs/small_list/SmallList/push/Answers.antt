@@ -16,7 +16,7 @@ returns-clause-pushed g c =
 pub returns-then-is_err-clause-inline : goal.returns-then-is_err-clause-inline
 returns-then-is_err-clause-inline g c = λ short.
     let room : length c.self.inside.elements.items + 1 ≤ c.self.inside.elements.capacity =
-      omega (arith, c.self.invariant.0, full-length _ c.self.invariant.1, ap length c.self.view_is, short) in
+    omega (arith, c.self.invariant.0, full-length _ c.self.invariant.1, ap length c.self.view_is, short) in
     let fine = c.reserve.ensures.succeeds room in
     cc (c.if-is_err.ensures.negation, fine)
 
