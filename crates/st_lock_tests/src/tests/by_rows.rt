@@ -3,7 +3,7 @@ use super::asked::{Answered, Asked};
 use super::begun::{just_begun, token};
 use super::did::handled;
 use super::host::Host;
-use super::played::plays_all;
+use super::played::plays_over;
 use super::row::{
     Row, Sight, answers, looks, opens, posts, refuses, removable, rests, stops, turns,
 };
@@ -106,7 +106,7 @@ pub fn after_a_cut() -> [Row; 3] {
 fn a_cell_by_rows(rt: HostRuntime) {
     let rt = Host::new(rt);
     let rows = until_a_stop();
-    plays_all(&rt, just_begun(&rt, rt.alloc()), &[rows.as_slice()]);
+    plays_over(&rt, just_begun(&rt, rt.alloc()), rows.as_slice());
     rt.end();
 }
 
@@ -116,7 +116,8 @@ fn a_journal_is_cut(rt: HostRuntime) {
     let before = before_a_cut();
     let after = after_a_cut();
     let ports = [answers(Asked::Ports, Answered::Ports(1))];
-    let lists = [before.as_slice(), after.as_slice(), ports.as_slice()];
-    plays_all(&rt, just_begun(&rt, rt.alloc()), lists.as_slice());
+    let begun = plays_over(&rt, just_begun(&rt, rt.alloc()), before.as_slice());
+    let begun = plays_over(&rt, begun, after.as_slice());
+    plays_over(&rt, begun, ports.as_slice());
     rt.end();
 }

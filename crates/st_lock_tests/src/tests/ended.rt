@@ -3,7 +3,7 @@ use super::asked::Asked;
 use super::begun::{ID, just_begun, tag, token};
 use super::did::handled;
 use super::host::Host;
-use super::played::plays_all;
+use super::played::plays_over;
 use super::row::{
     Sight, collects, collects_nothing, collects_reason, copies, has_token, looks, opens, posts,
     refuses, removable, replies, rests, stops, turns,
@@ -65,8 +65,8 @@ fn requests_and_the_end(rt: HostRuntime) {
         replies(11, tag(3), 62, false),
         copies("front", 0),
     ];
-    let lists = [rows.as_slice(), end.as_slice()];
-    plays_all(&rt, just_begun(&rt, rt.alloc()), lists.as_slice());
+    let begun = plays_over(&rt, just_begun(&rt, rt.alloc()), rows.as_slice());
+    plays_over(&rt, begun, end.as_slice());
     rt.end();
 }
 
@@ -95,6 +95,6 @@ fn a_machine_ends_by_its_turn(rt: HostRuntime) {
             },
         ),
     ];
-    plays_all(&rt, just_begun(&rt, rt.alloc()), &[rows.as_slice()]);
+    plays_over(&rt, just_begun(&rt, rt.alloc()), rows.as_slice());
     rt.end();
 }

@@ -3,7 +3,7 @@ use super::asked::{Answered, Asked};
 use super::begun::{just_begun, tag, token};
 use super::did::handled;
 use super::host::Host;
-use super::played::plays_all;
+use super::played::plays_over;
 use super::row::{Sight, answers, copies, looks, opens, posts, ticks, turns};
 use st_core::{Entry, Kind, Time, Timer};
 use st_lock::Next;
@@ -70,8 +70,8 @@ fn two_ports_count_apart(rt: HostRuntime) {
             },
         ),
     ];
-    let lists = [rows.as_slice(), later.as_slice()];
-    plays_all(&rt, just_begun(&rt, rt.alloc()), lists.as_slice());
+    let begun = plays_over(&rt, just_begun(&rt, rt.alloc()), rows.as_slice());
+    plays_over(&rt, begun, later.as_slice());
     rt.end();
 }
 
@@ -109,7 +109,7 @@ fn ticks_and_turns(rt: HostRuntime) {
             },
         ),
     ];
-    let lists = [rows.as_slice(), later.as_slice()];
-    plays_all(&rt, just_begun(&rt, rt.alloc()), lists.as_slice());
+    let begun = plays_over(&rt, just_begun(&rt, rt.alloc()), rows.as_slice());
+    plays_over(&rt, begun, later.as_slice());
     rt.end();
 }

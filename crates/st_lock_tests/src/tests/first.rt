@@ -3,7 +3,7 @@ use super::asked::Asked;
 use super::begun::{begun, tag, token};
 use super::did::handled;
 use super::host::Host;
-use super::played::plays_all;
+use super::played::plays_over;
 use super::row::{Sight, copies, has_token, looks, opens, posts, refuses, rests, stops, turns};
 use st_core::{Entry, Kind, Refusal};
 use st_lock::Next;
@@ -33,7 +33,7 @@ fn an_event_comes_first(rt: HostRuntime) {
         copies("front", 0),
     ];
     let begun = begun(&rt, rt.alloc(), 1, [2].as_slice(), wake);
-    plays_all(&rt, begun, &[rows.as_slice()]);
+    plays_over(&rt, begun, rows.as_slice());
     rt.end();
 }
 
@@ -54,7 +54,7 @@ fn the_last_number_is_given_once(rt: HostRuntime) {
         refuses(Asked::Post(1, Entry::Call, 8), Refusal::Exhausted),
     ];
     let begun = begun(&rt, rt.alloc(), LAST, [].as_slice(), None);
-    plays_all(&rt, begun, &[rows.as_slice()]);
+    plays_over(&rt, begun, rows.as_slice());
     rt.end();
 }
 
@@ -81,6 +81,6 @@ fn a_turn_without_numbers_keeps_its_token(rt: HostRuntime) {
         has_token(None),
     ];
     let begun = begun(&rt, rt.alloc(), LAST_BUT_ONE, [].as_slice(), None);
-    plays_all(&rt, begun, &[rows.as_slice()]);
+    plays_over(&rt, begun, rows.as_slice());
     rt.end();
 }

@@ -3,7 +3,7 @@ use super::asked::Asked;
 use super::begun::{just_begun, tag, token};
 use super::did::handled;
 use super::host::Host;
-use super::played::plays_all;
+use super::played::plays_over;
 use super::row::{
     Row, Sight, collects, copies, looks, opens, posts, refuses, replies, rests, stops, ticks, turns,
 };
@@ -53,7 +53,7 @@ pub fn each_call() -> [Row; 12] {
 fn each_call_is_made_again(rt: HostRuntime) {
     let rt = Host::new(rt);
     let rows = each_call();
-    plays_all(&rt, just_begun(&rt, rt.alloc()), &[rows.as_slice()]);
+    plays_over(&rt, just_begun(&rt, rt.alloc()), rows.as_slice());
     rt.end();
 }
 
@@ -62,16 +62,16 @@ fn each_call_is_made_again(rt: HostRuntime) {
 fn a_stop_takes_no_memory(rt: HostRuntime) {
     let rt = Host::new(rt);
     let at_once = [stops(1, 3, 7), refuses(Asked::Stop(4), Refusal::Stopped(3))];
-    plays_all(&rt, just_begun(&rt, rt.alloc()), &[at_once.as_slice()]);
+    plays_over(&rt, just_begun(&rt, rt.alloc()), at_once.as_slice());
     let (before, after) = ([opens(1)], [stops(1, 3, 7)]);
-    let lists = [before.as_slice(), after.as_slice()];
-    plays_all(&rt, just_begun(&rt, rt.alloc()), lists.as_slice());
+    let begun = plays_over(&rt, just_begun(&rt, rt.alloc()), before.as_slice());
+    plays_over(&rt, begun, after.as_slice());
     let posted = [
         opens(1),
         posts(1, (1, Entry::Cast, 0), 1, Some(token(1))),
         stops(2, 3, 7),
         rests(token(1), 0),
     ];
-    plays_all(&rt, just_begun(&rt, rt.alloc()), &[posted.as_slice()]);
+    plays_over(&rt, just_begun(&rt, rt.alloc()), posted.as_slice());
     rt.end();
 }

@@ -213,11 +213,13 @@ fn plays<T: Kept, U: Twin>(rt: &Host<impl Abort>, cell: &mut T, twin: &mut U, ro
     cuts(rt, cell, twin, &past);
 }
 
-/// Plays lists of rows one after another over a cell, beside a machine that has begun alike. Behind each list the
-/// journal is cut.
-pub fn plays_all(rt: &Host<impl Abort>, begun: (Cell<Plain>, Core<Plain>), lists: &[&[Row]]) {
+/// Plays rows over a cell, beside a machine that has begun alike, and answers both. Behind the rows the journal is cut.
+pub fn plays_over(
+    rt: &Host<impl Abort>,
+    begun: (Cell<Plain>, Core<Plain>),
+    rows: &[Row],
+) -> (Cell<Plain>, Core<Plain>) {
     let (mut cell, mut twin) = begun;
-    for rows in lists {
-        plays(rt, &mut cell, &mut twin, rows);
-    }
+    plays(rt, &mut cell, &mut twin, rows);
+    (cell, twin)
 }
