@@ -12,14 +12,14 @@ use st_core::{
 use std::alloc::{AllocError, Global};
 
 /// Whether the door can be opened.
-#[derive(Clone, Copy, Debug, PartialEq, Eq)]
+#[derive(Clone, Copy, PartialEq, Eq)]
 pub enum Leaf {
     Locked,
     Open,
 }
 
 /// What is done to the door.
-#[derive(Clone, Copy, Debug, PartialEq, Eq)]
+#[derive(Clone, Copy)]
 pub enum Press {
     /// A digit.
     Button(u8),
@@ -30,7 +30,7 @@ pub enum Press {
 }
 
 /// The door. Its data says how many digits of the code were right.
-#[derive(Clone, Copy, Debug, PartialEq, Eq)]
+#[derive(Clone, Copy)]
 pub struct Latch;
 
 /// One action.

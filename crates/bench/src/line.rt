@@ -23,7 +23,7 @@ use std::sync::{Arc, Wait};
 const ID: MachineId = MachineId { slot: 0, serial: 1 };
 
 /// One line of the bench.
-#[derive(Clone, Copy, Debug, PartialEq, Eq)]
+#[derive(Clone, Copy)]
 pub enum Line {
     /// Casts that keep the state.
     Casts,
@@ -143,14 +143,9 @@ impl Line {
         more: u32,
     ) -> Result<u64, Refusal> {
         match self {
-            Line::WrongButtons | Line::DoorCycle => self.done_by_latch(alloc, count),
-            Line::Machines => many_machines(alloc, count, more),
-            Line::StartAndStop => started_and_stopped(alloc, count),
-            Line::OwnQueue => pass(&mut Lane::new(alloc)?, count, more),
-            Line::Steals => pass(&mut RobbedQueue::new(alloc)?, count, more),
-            Line::SharedQueue => pass(&mut SharedQueue::new(&rt, alloc)?, count, more),
-            Line::Pool => play(alloc, count, more),
-            Line::CellCasts | Line::CellCalls => self.done_in_cell(alloc, count, more),
+            Line::OwnQueue | Line::Steals | Line::SharedQueue => {
+                self.done_on_queue(&rt, alloc, count, more)
+            }
             Line::PortCasts | Line::PortCalls => self.done_by_port(rt, alloc, count, more),
             Line::ThreadsOfOne | Line::ThreadsApart => self.done_by_threads(rt, alloc, count, more),
             Line::Rounds => rounds(&rt, alloc, count, more),
@@ -158,6 +153,33 @@ impl Line {
             Line::OneWorker | Line::TwoWorkers | Line::FourWorkers => {
                 self.done_by_workers(rt, alloc, count, more)
             }
+            _ => self.done_by_one(alloc, count, more),
+        }
+    }
+
+    /// Does a line of a run queue.
+    fn done_on_queue<R: Wait>(
+        self,
+        rt: &R,
+        alloc: Global,
+        count: u32,
+        more: u32,
+    ) -> Result<u64, Refusal> {
+        match self {
+            Line::OwnQueue => pass(&mut Lane::new(alloc)?, count, more),
+            Line::Steals => pass(&mut RobbedQueue::new(alloc)?, count, more),
+            _ => pass(&mut SharedQueue::new(rt, alloc)?, count, more),
+        }
+    }
+
+    /// Does a line of one thread that needs no lock.
+    fn done_by_one(self, alloc: Global, count: u32, more: u32) -> Result<u64, Refusal> {
+        match self {
+            Line::WrongButtons | Line::DoorCycle => self.done_by_latch(alloc, count),
+            Line::Machines => many_machines(alloc, count, more),
+            Line::StartAndStop => started_and_stopped(alloc, count),
+            Line::Pool => play(alloc, count, more),
+            Line::CellCasts | Line::CellCalls => self.done_in_cell(alloc, count, more),
             _ => self.done_by_load(alloc, count, more),
         }
     }
@@ -167,7 +189,7 @@ impl Line {
         let Some(mut door) = started(alloc, Latch, ID, &0)? else {
             return Ok(0);
         };
-        if self == Line::WrongButtons {
+        if matches!(self, Line::WrongButtons) {
             return post_and_turn_each(&mut door, Press::Button(9), count);
         }
         let presses = [
@@ -220,7 +242,7 @@ impl Line {
         let mut machines = Vec::new(alloc);
         for number in 0..threads {
             let machine = match machines.last() {
-                Some(machine) if self == Line::ThreadsOfOne => Arc::try_clone(machine)?,
+                Some(machine) if matches!(self, Line::ThreadsOfOne) => Arc::try_clone(machine)?,
                 _ => {
                     let id = MachineId {
                         slot: number as usize,

@@ -14,7 +14,7 @@ use std::alloc::{AllocError, Global};
 const FAR: u32 = 1_000_000_000;
 
 /// A piece of work.
-#[derive(Clone, Copy, Debug, PartialEq, Eq)]
+#[derive(Clone, Copy)]
 pub enum Work {
     /// Nothing is asked for.
     Keep,
@@ -35,7 +35,7 @@ pub enum Work {
 }
 
 /// A machine that does what it is told. Its states are numbers from 0 on; its data is 0.
-#[derive(Clone, Copy, Debug, PartialEq, Eq)]
+#[derive(Clone, Copy)]
 pub struct Load;
 
 /// One action.
@@ -109,7 +109,7 @@ fn actions(
 fn leads_on(content: Work, state: u32) -> bool
     ensures { result ≡ leads_on content state }
 {
-    content == Work::Next && state < u32::MAX
+    matches!(content, Work::Next) && state < u32::MAX
 }
 
 impl Module for Load {
