@@ -81,13 +81,7 @@ pub fn start(
 
 /// Looks that a door was started under this id, and has no work.
 pub fn is_running(rt: &impl Abort, started: Result<Started, Refusal>, id: MachineId) {
-    let wanted = Ok(Started::Running {
-        id,
-        wake: Some(st_client::Token {
-            machine: id,
-            wake: 1,
-        }),
-    });
+    let wanted = Ok(Started::Running { id, wake: None });
     holds(rt, "it runs, and has no work", started == wanted);
 }
 
