@@ -1,4 +1,6 @@
 //! A gate at which nobody waits.
+ghost use Rattle.std.specs.Prelude.{◌≡◌};
+
 use st_pool::{Gate, Token};
 
 /// A gate at which nobody waits, and the moment is always 0.
@@ -6,6 +8,8 @@ use st_pool::{Gate, Token};
 pub struct Silent;
 
 impl Gate for Silent {
+    ghost moment = { λ now. now ≡ 0 };
+
     fn now(&self) -> u64 {
         0
     }

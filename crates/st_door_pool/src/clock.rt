@@ -28,6 +28,8 @@ impl Clock {
 }
 
 impl Gate for Clock {
+    ghost moment = { λ now. now < 2 ^ 63 };
+
     fn now(&self) -> u64 {
         self.moment.load(Ordering::SeqCst)
     }

@@ -24,6 +24,10 @@ abbrev pub HasToken : Worker → Token → Worker → Type 0
 HasToken old token new = ((old.hand ≡ Some token) × (taken_lists new ≡ taken_lists old))
     ⊎ ((old.hand ≡ None) × TakesOne (taken_lists old) token (taken_lists new))
 
+-- a turn at a moment of the gate's, which answers so
+abbrev pub served_at : (ℕ → Type 0) → (Token → ℕ → Option Token → Type 0) → Token → ℕ → Option Token → Type 0
+served_at moment served token now answer = moment now × served token now answer
+
 -- the token's turn, at some moment: to be served again, it is put on the own run queue, or else stays with the worker;
 -- else the worker has none
 abbrev pub LeavesToken : (Token → ℕ → Option Token → Type 0) → Worker → Token → Worker → Type 0

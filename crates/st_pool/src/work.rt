@@ -1,7 +1,7 @@
 //! What a worker's thread does.
 ghost use Rattle.std.specs.Prelude.{◌≡◌, ℕ, min, ◌⊎◌, true, false};
 ghost use Rattle.st_runq.specs.Ends.{put_of};
-ghost use Rattle.st_pool.specs.Round.{Holds, FindsNone};
+ghost use Rattle.st_pool.specs.Round.{Holds, FindsNone, served_at};
 ghost use Rattle.st_pool.specs.Thread.{MakesRounds};
 
 use crate::pool_state::PoolState;
@@ -26,7 +26,7 @@ pub fn work<R: Runtime, M: Machines, G: Gate>(
     machines: &M,
     gate: &G,
 ) -> EndedWorker
-    ensures rounds { (n : ℕ) × (result.turns ≡ min n u64.MAX) × MakesRounds M.served worker n result.worker }
+    ensures rounds { (n : ℕ) × (result.turns ≡ min n u64.MAX) × MakesRounds (served_at G.moment M.served) worker n result.worker }
 {
     let mut turns = 0u64;
     let mut requeued = false;

@@ -1,7 +1,7 @@
 //! A worker, which takes tokens and serves them.
 ghost use Rattle.std.specs.Prelude.{◌≡◌, ℕ, None, IfSome, IfNone, map, true, false};
 ghost use Rattle.st_runq.specs.Ends.{put_of, robbed_of, stolen_of};
-ghost use Rattle.st_pool.specs.Round.{taken_lists, TakesOne, HasSameQueues, Holds, Serves, FindsNone};
+ghost use Rattle.st_pool.specs.Round.{taken_lists, TakesOne, HasSameQueues, Holds, Serves, FindsNone, served_at};
 
 use crate::found::{Found, Source};
 use crate::served::Served;
@@ -100,7 +100,7 @@ impl Worker {
     /// Ours: docs/DECISIONS.md, Workers.
     pub fn round<R: Wait, M: Machines, G: Gate>(&mut self, rt: &R, machines: &M, gate: &G) -> bool
         ensures same { HasSameQueues self.old self.new }
-        ensures served { result ≡ true → Serves M.served self.old self.new }
+        ensures served { result ≡ true → Serves (served_at G.moment M.served) self.old self.new }
 
         ensures none { result ≡ false → FindsNone self.old self.new }
     {
@@ -115,7 +115,7 @@ impl Worker {
         gate: &G,
     ) -> Option<Served>
         ensures same { HasSameQueues self.old self.new }
-        ensures served { IfSome result (λ _. Serves M.served self.old self.new) }
+        ensures served { IfSome result (λ _. Serves (served_at G.moment M.served) self.old self.new) }
 
         ensures none { IfNone result (FindsNone self.old self.new) }
     {

@@ -5,6 +5,7 @@ mod counted;
 mod host;
 mod meeting;
 mod memory;
+mod noted;
 mod pools;
 mod silent;
 mod started;

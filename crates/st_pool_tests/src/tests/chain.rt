@@ -1,4 +1,6 @@
 //! A gate at which each token waits for the next.
+ghost use Rattle.std.specs.Prelude.{◌≡◌};
+
 use super::counted::zeros;
 use st_pool::{Gate, Token};
 use std::alloc::{AllocError, Global};
@@ -57,6 +59,8 @@ impl Chain {
 }
 
 impl Gate for Chain {
+    ghost moment = { λ now. now ≡ 5 };
+
     fn now(&self) -> u64 {
         5
     }

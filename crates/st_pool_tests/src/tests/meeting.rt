@@ -1,4 +1,6 @@
 //! A gate at which two tokens meet after many turns.
+ghost use Rattle.std.specs.Prelude.{◌≡◌};
+
 use super::chain::waits_for;
 use super::counted::zeros;
 use st_pool::{Gate, Token};
@@ -44,6 +46,8 @@ impl Meeting {
 }
 
 impl Gate for Meeting {
+    ghost moment = { λ now. now ≡ 5 };
+
     fn now(&self) -> u64 {
         5
     }

@@ -1,6 +1,7 @@
 //! What a worker does, with no thread but the test's own.
 use super::counted::{Counted, token};
 use super::host::{Host, holds, same};
+use super::noted::Noted;
 use super::silent::Silent;
 use st_pool::{Worker, serve_one};
 use st_runq::{Inlet, PutRefused, Seats};
@@ -106,6 +107,20 @@ fn a_round_serves_a_token_of_another_worker(rt: HostRuntime) {
         "no token comes back",
         !own.round(&wait, &*machines, &Silent),
     );
+    rt.end_with_memory();
+}
+
+#[test]
+fn a_turn_has_the_gates_moment_and_its_workers_number(rt: HostRuntime) {
+    let wait = rt;
+    let rt = Host::with_memory(rt);
+    let noted = Noted::new();
+    let (_inlet, mut all) = workers(&rt, 2);
+    let mut worker = all.pop().expect(&rt, "a second worker");
+    let put = worker.lane.put_local(token(0));
+    same(&rt, "it gets a token", &put, &Ok(()));
+    holds(&rt, "it serves it", worker.round(&wait, &noted, &noted));
+    same(&rt, "moment and worker", &noted.told(), &(7, 1, 1));
     rt.end_with_memory();
 }
 

@@ -1,5 +1,6 @@
+use Rattle.st_pool.specs.Round.{served_at}
 use Rattle.st_pool.proofs.ThreadLemmas.{Counts}
 use Rattle.st_pool.proofs.work.work.Given as goal
 
 abbrev pub invariant-loop : goal.invariant-loop
-invariant-loop g l = Counts g.M.Machines.served l.fn.worker l.turns l.worker
+invariant-loop g l = Counts (served_at g.G.Gate.moment g.M.Machines.served) l.fn.worker l.turns l.worker

@@ -1,0 +1,61 @@
+//! Machines and a gate in one, which note what they are told.
+ghost use Rattle.std.specs.Prelude.{◌≡◌};
+
+use st_pool::{Gate, Machines, Token};
+use std::sync::atomic::{AtomicU64, Ordering};
+
+/// Notes the moment of the last turn, and the worker that was named before it and behind it. Each machine rests after its
+/// turn.
+#[derive(Drop)]
+pub struct Noted {
+    moment: AtomicU64,
+    before: AtomicU64,
+    after: AtomicU64,
+}
+
+impl Noted {
+    /// Nothing was told yet: all is 99.
+    pub fn new() -> Noted {
+        Noted {
+            moment: AtomicU64::new(99),
+            before: AtomicU64::new(99),
+            after: AtomicU64::new(99),
+        }
+    }
+
+    /// The moment of the last turn, and the workers that were named before it and behind it.
+    pub fn told(&self) -> (u64, u64, u64) {
+        (
+            self.moment.load(Ordering::SeqCst),
+            self.before.load(Ordering::SeqCst),
+            self.after.load(Ordering::SeqCst),
+        )
+    }
+}
+
+impl Gate for Noted {
+    ghost moment = { λ now. now ≡ 7 };
+
+    fn now(&self) -> u64 {
+        7
+    }
+
+    fn before(&self, worker: usize, _token: Token) {
+        self.before.store(worker as u64, Ordering::SeqCst);
+    }
+
+    fn after(&self, worker: usize, _token: Token) {
+        self.after.store(worker as u64, Ordering::SeqCst);
+    }
+}
+
+impl Machines for Noted {
+    ghost use Rattle.std.specs.Prelude.{None};
+
+    ghost served = { λ token now answer. answer ≡ None };
+
+    fn turn(&self, _token: Token, now: u64) -> Option<Token> {
+        self.moment.store(now, Ordering::SeqCst);
+        None
+    }
+}
