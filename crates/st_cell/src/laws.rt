@@ -3,11 +3,20 @@ ghost use Rattle.std.specs.Prelude.{◌≡◌, ℕ, ◌-◌, ◌≤◌, ◌<◌,
 ghost use Rattle.st_core.specs.Accounting.{IsAccounted};
 ghost use Rattle.st_core.specs.Callbacks.{callbacks_of};
 ghost use Rattle.st_scheduled.specs.ScheduledMachine.{HasTokenForWork};
-ghost use Rattle.st_cell.specs.Cell.{IsOpen, count_for};
+ghost use Rattle.st_cell.specs.Cell.{IsJournaled, IsOpen, count_for};
 ghost use Rattle.st_cell.specs.Journal.{IsReplay, AreNumbered, answers_of, posts_of};
 
 use crate::Cell;
 use st_events::Module;
+
+/// All that a cell is at every moment, in one: its base is lawful, and the laws below hold of it.
+///
+/// Ours: docs/TRANSITIONS.md, Journals.
+pub fn a_cell_is_journaled<M: Module>(cell: &Cell<M>)
+    ensures { IsJournaled (callbacks_of M.Module M.State.eq) cell.now }
+{
+    let _ = &cell.journaled;
+}
 
 /// A machine in a cell is the replay of its journal from its base: the journal's commands lead there from the base, each
 /// with the answer that the journal keeps.

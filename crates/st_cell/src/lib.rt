@@ -18,9 +18,9 @@ pub use cell::Cell;
 pub use journal::Journal;
 pub use journal_entry::JournalEntry;
 pub use laws::{
-    a_cell_has_a_token_for_work, a_cell_is_accounted, a_cell_is_the_replay_of_its_journal,
-    a_journal_is_numbered_without_gaps, a_port_has_no_more_posts_than_its_count,
-    a_port_that_is_not_open_has_no_posts,
+    a_cell_has_a_token_for_work, a_cell_is_accounted, a_cell_is_journaled,
+    a_cell_is_the_replay_of_its_journal, a_journal_is_numbered_without_gaps,
+    a_port_has_no_more_posts_than_its_count, a_port_that_is_not_open_has_no_posts,
 };
 pub use look::Look;
 pub use next::Next;

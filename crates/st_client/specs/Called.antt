@@ -2,9 +2,15 @@
 use Rattle.std.specs.Prelude.{◌≡◌, ℕ, Option, Some, None, IfSome}
 use Rattle.st_core.specs.declared.entry.Entry.TheVariants.{Call}
 use Rattle.st_events.specs.declared.tag.Tag.{Tag}
+use Rattle.st_events.specs.declared.token.Token.{Token}
+use Rattle.st_events.specs.declared.machine_id.MachineId.{MachineId}
 use Rattle.st_lock.specs.Ports.{PortState, posted}
 use Rattle.st_client.specs.declared.called.Called.{Called}
 use Rattle.st_client.specs.declared.called.Called.TheVariants.{Reply, Stopped, Gone, Uncollected, Unscheduled}
+
+-- a token names a machine, if there is one
+abbrev pub NamesMachine : MachineId → Option Token → Type 0
+NamesMachine id token = IfSome token (λ (one : Token). one.machine ≡ id)
 
 module _ {M S D C A : Type 0} where
   -- the request that is handed out
@@ -15,8 +21,17 @@ module _ {M S D C A : Type 0} where
   request_in (Uncollected id refusal) = Some id
   request_in (Unscheduled id token) = Some id
 
-  -- a call with this content was posted
+  -- the token that is left
+  abbrev pub token_in : Called M S D C A → Option Token
+  token_in (Reply content) = None
+  token_in (Stopped reason) = None
+  token_in Gone = None
+  token_in (Uncollected id refusal) = None
+  token_in (Unscheduled id token) = Some token
+
+  -- a call with this content was posted, and a token that is left names the port's machine
   pub record IsCall (content : C) (called : Called M S D C A) (old new : PortState C) : Type 0 where
     pub number : ℕ
     pub posted : new ≡ posted (record { number = number; entry = Call; content = content }) old
     pub request : IfSome (request_in called) (λ (tag : Tag). tag ≡ record { machine = old.machine; request = number })
+    pub token : NamesMachine old.machine (token_in called)

@@ -1,5 +1,9 @@
 //! Requests are waited for, asked about and answered.
 ghost use Rattle.std.specs.Prelude.{◌≡◌, IfOk, IfErr, OnErr};
+ghost use Rattle.st_core.specs.declared.command.Command.TheVariants as command;
+ghost use Rattle.st_core.specs.Callbacks.{callbacks_of};
+ghost use Rattle.st_scheduled.specs.Answered.{collected_as, replied_as};
+ghost use Rattle.st_lock.specs.Machines.{id_of, IsToldSomewhere};
 ghost use Rattle.st_client.specs.Called.{IsCall};
 
 use crate::{Called, RequestId, Wake, send_request};
@@ -48,7 +52,9 @@ pub fn call<M: Module, W: Wake, R: Wait>(
 pub fn check<M: Module, R: Wait>(
     rt: &R,
     id: &RequestId<M>,
-) -> Result<Collected<M::Content>, Refusal> {
+) -> Result<Collected<M::Content>, Refusal>
+    ensures { IsToldSomewhere (callbacks_of M.Module M.State.eq) id.now.machine (command.Collect id.now) (collected_as result) }
+{
     id.machine().collect(rt, id.tag())
 }
 
@@ -63,6 +69,7 @@ pub fn reply<M: Module, R: Wait>(
     tag: Tag,
     content: M::Content,
 ) -> Result<bool, Refused<M::Content>>
+    ensures does { IsToldSomewhere (callbacks_of M.Module M.State.eq) (id_of machine.now) (command.Reply tag content) (replied_as result) }
     ensures returned { IfErr result (λ refused. refused.value ≡ content) }
 {
     machine.reply(rt, tag, content)

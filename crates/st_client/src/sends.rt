@@ -2,6 +2,7 @@
 ghost use Rattle.std.specs.Prelude.{◌≡◌, IfOk, IfErr, OnErr};
 ghost use Rattle.st_core.specs.declared.entry.Entry.TheVariants.{Call, Cast, Info};
 ghost use Rattle.st_lock.specs.Ports.{posted};
+ghost use Rattle.st_client.specs.Called.{NamesMachine};
 
 use crate::{RequestId, Sent, Wake};
 use st_lock::{Entry, Module, Port, Refusal, Refused, Token};
@@ -17,6 +18,7 @@ fn send<M: Module, W: Wake, R: Wait>(
     content: M::Content,
 ) -> Result<Sent, Refused<M::Content>>
     ensures posted { IfOk result (λ sent. port.new ≡ posted (record { number = sent.number; entry = entry; content = content }) port.old) }
+    ensures token { IfOk result (λ sent. NamesMachine port.old.machine sent.left) }
 
     ensures unchanged { OnErr result (port.new ≡ port.old) }
     ensures returned { IfErr result (λ refused. refused.value ≡ content) }
@@ -44,6 +46,7 @@ pub fn cast<M: Module, W: Wake, R: Wait>(
     content: M::Content,
 ) -> Result<Sent, Refused<M::Content>>
     ensures posted { IfOk result (λ sent. port.new ≡ posted (record { number = sent.number; entry = Cast; content = content }) port.old) }
+    ensures token { IfOk result (λ sent. NamesMachine port.old.machine sent.left) }
 
     ensures unchanged { OnErr result (port.new ≡ port.old) }
     ensures returned { IfErr result (λ refused. refused.value ≡ content) }
@@ -63,6 +66,7 @@ pub fn info<M: Module, W: Wake, R: Wait>(
     content: M::Content,
 ) -> Result<Sent, Refused<M::Content>>
     ensures posted { IfOk result (λ sent. port.new ≡ posted (record { number = sent.number; entry = Info; content = content }) port.old) }
+    ensures token { IfOk result (λ sent. NamesMachine port.old.machine sent.left) }
 
     ensures unchanged { OnErr result (port.new ≡ port.old) }
     ensures returned { IfErr result (λ refused. refused.value ≡ content) }
@@ -85,6 +89,7 @@ pub fn send_request<M: Module, W: Wake, R: Wait>(
 ) -> Result<(RequestId<M>, Option<Token>), Refused<M::Content>>
     ensures posted { IfOk result (λ sent. port.new ≡ posted (record { number = sent.0.request; entry = Call; content = content }) port.old) }
     ensures id { IfOk result (λ sent. sent.0.machine ≡ port.old.machine) }
+    ensures token { IfOk result (λ sent. NamesMachine port.old.machine sent.1) }
 
     ensures unchanged { OnErr result (port.new ≡ port.old) }
     ensures returned { IfErr result (λ refused. refused.value ≡ content) }

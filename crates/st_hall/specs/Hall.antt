@@ -8,10 +8,11 @@ use Rattle.st_directory.specs.InOrder.{IsDirectory}
 use Rattle.st_registry.specs.declared.started.Started.{Started}
 use Rattle.st_registry.specs.Registry.{RegistryState, HasIds, StartsUnder, start_due}
 
--- this is what a start under a name answers, at some registry, where the machine's own start is this
+-- this is what a start under a name answers, at some registry that is in order, where the machine's own start is this
 abbrev pub StartsSomewhere : {M S D C A : Type 0} → M → (MachineId → Result (Start M S D C A) (Refused M)) → Option (List ℕ) → ℕ → Result Started (Refused M) → Type 0
 StartsSomewhere {M} {S} {D} {C} {A} module_ own name now answer =
-    (old : RegistryState M S D C A) × (new : RegistryState M S D C A) × StartsUnder module_ own (start_due name now old) name old answer new
+    (old : RegistryState M S D C A) × (new : RegistryState M S D C A) × IsDirectory old × HasIds old
+    × StartsUnder module_ own (start_due name now old) name old answer new
 
 -- some registry that is in order has this name for this id
 abbrev pub IsNamedSomewhere : Type 0 → Type 0 → Type 0 → Type 0 → Type 0 → List ℕ → MachineId → Type 0

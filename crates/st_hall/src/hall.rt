@@ -59,9 +59,9 @@ impl<M: Module, R: Wait + Drop> Hall<M, R> {
 
         ensures returned { IfErr result (λ refused. refused.value ≡ «module») }
     {
-        self.registry
-            .write(&self.rt)
-            .start(&self.rt, name, module, arg, now)
+        let mut registry = self.registry.write(&self.rt);
+        a_registry_is_in_order(&registry);
+        registry.start(&self.rt, name, module, arg, now)
     }
 
     /// The id of the machine of a name.

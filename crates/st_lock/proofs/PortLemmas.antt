@@ -1,14 +1,90 @@
--- What a port looks at.
-use Rattle.std.proofs.Common.{◌≡◌, ℕ, Result, Ok, Err}
-use Rattle.std.specs.Prelude.{IfOk}
+-- What a port looks at and posts to, and whose journal is copied.
+use Rattle.std.proofs.Common.{◌≡◌, ℕ, ◌+◌, Bool, true, false, List, Result, Ok, Err, inl, inr, refl, subst}
+use Rattle.std.specs.Prelude.{◌&&◌, if◌then◌else◌, Option, Some, None, is_none, IfOk, IfSome}
+use Rattle.std.specs.Option.{option_map}
+use Rattle.st_events.specs.declared.machine_id.MachineId.{MachineId}
 use Rattle.st_events.specs.declared.refusal.Refusal.{Refusal}
+use Rattle.st_events.specs.declared.refused.Refused.{Refused}
+use Rattle.st_events.specs.declared.token.Token.{Token}
+use Rattle.st_core.specs.declared.answer.Answer.{Answer}
+use Rattle.st_core.specs.declared.answer.Answer.TheVariants as answer
+use Rattle.st_core.specs.declared.command.Command.{Command}
+use Rattle.st_core.specs.declared.command.Command.TheVariants as command
+use Rattle.st_core.specs.declared.entry.Entry.{Entry}
+use Rattle.st_core.specs.declared.turned.Turned.TheVariants.{Reported, Idle}
+use Rattle.st_core.specs.Callbacks.{Callbacks}
+use Rattle.st_core.specs.MachineState.{Machine}
+use Rattle.st_core.specs.Run.{step_on}
+use Rattle.st_scheduled.specs.declared.outstanding.Outstanding.{Outstanding}
+use Rattle.st_scheduled.specs.declared.posted.Posted.{Posted}
+use Rattle.st_scheduled.specs.declared.step_answer.StepAnswer.TheVariants.{Posted as PostedAs}
+use Rattle.st_scheduled.specs.Answered.{posted_as}
+use Rattle.st_scheduled.specs.ScheduledMachine.{ScheduledMachine, has_work, id_of}
+use Rattle.st_scheduled.specs.Serving.{content_of, counted, is_full, issued, needs_count, refused_with, told_as, told_on, wake_of}
+use Rattle.st_events.specs.declared.refusal.Refusal.TheVariants.{Exhausted}
+use Rattle.st_scheduled.proofs.LeftStates.{step_id}
+use Rattle.st_cell.specs.declared.journal.Journal.{Journal}
 use Rattle.st_cell.specs.declared.look.Look.{Look}
-use Rattle.st_cell.specs.Calls.{look_of}
+use Rattle.st_cell.specs.Calls.{IsJournalOf, Posts, look_of}
 use Rattle.st_cell.specs.Cell.{CellState, count_for, IsOpen}
-use Rattle.st_lock.specs.Ports.{IsLookAt}
+use Rattle.st_lock.specs.Machines.{IsCellOf, IsLookAt, IsJournalAt}
 
--- the look of a cell, by a port of it that counts so many
-pub look_at : {M S D C : Type 0} (cell : CellState M S D C) (port count : ℕ) (result : Result (Look S D) Refusal)
-    → IfOk result (λ look. look ≡ look_of port cell) → IsOpen port cell → count_for port cell ≡ count → IfOk result (λ look. IsLookAt M C count look)
-look_at cell port count (Ok look) is is_open counted = (cell, port, is_open, counted, is)
-look_at cell port count (Err refusal) is is_open counted = tt
+-- a token that a machine of this id is issued, where it has work and none is outstanding, names the machine
+token_named : (id : MachineId) (count : ℕ) (work : Bool) (token : Option Outstanding)
+    → IfSome (if is_none token then option_map (λ (outstanding : Outstanding). record { machine = id; wake = outstanding.wake }) (issued count work token) else None)
+    (λ (one : Token). one.machine ≡ id)
+token_named id count true None = refl
+token_named id count false None = tt
+token_named id count work (Some outstanding) = tt
+
+module _ {M S D C : Type 0} where
+  -- the token that is handed out with a post's number names the machine
+  told_named : (old : ScheduledMachine M S D C) (answered : Answer S C) (core : Machine M S D C) → core.machine.id ≡ id_of old
+      → (number : ℕ) (wake : Option Token) → PostedAs number wake ≡ (told_as old answered core).0 → IfSome wake (λ (one : Token). one.machine ≡ id_of old)
+  told_named old (answer.Post (Ok event)) core same number wake is =
+      let shown : wake ≡ wake_of (counted old core) = cc in
+      rw shown (subst (λ (id : MachineId). IfSome (wake_of (counted old core)) (λ (one : Token). one.machine ≡ id)) same
+      (token_named core.machine.id (old.count + 1) (has_work core) old.token))
+  told_named old (answer.Post (Err refused)) core same number wake is = absurd cc
+  told_named old (answer.Tick (Ok expired)) core same number wake is = absurd cc
+  told_named old (answer.Tick (Err refusal)) core same number wake is = absurd cc
+  told_named old (answer.Turn (Ok (Reported report))) core same number wake is = absurd cc
+  told_named old (answer.Turn (Ok Idle)) core same number wake is = absurd cc
+  told_named old (answer.Turn (Err refusal)) core same number wake is = absurd cc
+  told_named old (answer.Reply taken) core same number wake is = absurd cc
+  told_named old (answer.Collect shown) core same number wake is = absurd cc
+  told_named old (answer.Stop (Ok word)) core same number wake is = absurd cc
+  told_named old (answer.Stop (Err refusal)) core same number wake is = absurd cc
+
+  -- also where the count may be full
+  full_named : (full : Bool) (old : ScheduledMachine M S D C) (content : Option C) (answered : Answer S C) (core : Machine M S D C) → core.machine.id ≡ id_of old
+      → (number : ℕ) (wake : Option Token) → PostedAs number wake ≡ (if full then (refused_with Exhausted content, old) else told_as old answered core).0
+      → IfSome wake (λ (one : Token). one.machine ≡ id_of old)
+  full_named true old content answered core same number wake is = absurd cc
+  full_named false old content answered core same number wake is = told_named old answered core same number wake is
+
+  module _ (callbacks : M → Callbacks S D C) where
+    -- so it is with the token that a port's post hands out
+    pub wake_named : (old : CellState M S D C) (new : CellState M S D C) (port : ℕ) (entry : Entry) (content : C) (result : Result Posted (Refused C))
+        → Posts callbacks old port entry content (posted_as result) new
+        → IfOk result (λ (posted : Posted). IfSome posted.wake (λ (one : Token). one.machine ≡ id_of old.scheduled))
+    wake_named old new port entry content (Err refused) does = tt
+    wake_named old new port entry content (Ok posted) (inl done) =
+        let asked : Command C = command.Post entry content in
+        let step = step_on callbacks old.scheduled.core asked in
+        full_named (is_full old.scheduled && needs_count step.0) old.scheduled (content_of asked) step.0 step.1
+        (step_id (callbacks old.scheduled.core.module_) old.scheduled.core.machine asked) posted.number posted.wake done.0
+    wake_named old new port entry content (Ok posted) (inr failed) = let is = failed.1 in absurd cc
+
+    -- the look of a cell, by a port of it that counts so many
+    pub look_at : (id : MachineId) (cell : CellState M S D C) (port count : ℕ) (result : Result (Look S D) Refusal)
+        → IfOk result (λ look. look ≡ look_of port cell) → IsCellOf callbacks id cell → IsOpen port cell → count_for port cell ≡ count
+        → IfOk result (λ look. IsLookAt callbacks id count look)
+    look_at id cell port count (Ok look) is own is_open counts = (cell, port, own, is_open, counts, is)
+    look_at id cell port count (Err refusal) is own is_open counts = tt
+
+    -- the journal of a cell
+    pub journal_at : (cell : CellState M S D C) (id : MachineId) (label : List ℕ) (result : Result (Journal S C) Refusal)
+        → IfOk result (λ journal. IsJournalOf cell label journal) → IsCellOf callbacks id cell → IfOk result (λ journal. IsJournalAt callbacks id label journal)
+    journal_at cell id label (Ok journal) is own = (cell, own, is)
+    journal_at cell id label (Err refusal) is own = tt

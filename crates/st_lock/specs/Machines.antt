@@ -1,18 +1,20 @@
--- What a contract sees of a machine that threads share: its id, and that its calls are those of a cell.
+-- What a contract sees of a machine that threads share: its id, and that its calls are those of a lawful cell of its own.
 use Rattle.st_events.specs.declared.machine_id.MachineId.{MachineId}
 use Rattle.st_core.specs.Callbacks.{Callbacks}
 use Rattle.st_events.specs.declared.refused.Refused.{Refused}
 use Rattle.st_events.specs.declared.token.Token.{Token}
 use Rattle.st_core.specs.declared.command.Command.{Command}
+use Rattle.st_core.specs.declared.entry.Entry.{Entry}
 use Rattle.st_scheduled.specs.declared.step_answer.StepAnswer.{StepAnswer}
-use Rattle.st_cell.specs.Calls.{IsTold, Turns}
-use Rattle.st_cell.specs.Cell.{CellState}
-use Rattle.st_cell.specs.Journal.{IsReplay}
+use Rattle.st_cell.specs.Calls.{IsJournalOf, IsTold, Posts, Turns, look_of}
+use Rattle.st_cell.specs.Cell.{CellState, IsJournaled, IsOpen, count_for}
+use Rattle.st_cell.specs.declared.journal.Journal.{Journal}
+use Rattle.st_cell.specs.declared.look.Look.{Look}
 use Rattle.st_cell.specs.declared.next.Next.{Next}
 use Rattle.st_lock.specs.declared.machine.Machine.{Machine}
 use Rattle.st_lock.specs.declared.room.MachineRoom.{MachineRoom}
 use Rattle.std.specs.Arc.{arc_value}
-use Rattle.std.specs.Prelude.{ℕ, Result}
+use Rattle.std.specs.Prelude.{◌≡◌, ℕ, List, Result}
 
 module _ {M S D C A : Type 0} where
   -- the machine's id
@@ -24,16 +26,32 @@ module _ {M S D C A : Type 0} where
   id_for room = id_of (arc_value room.machine)
 
 module _ {M S D C : Type 0} (callbacks : M → Callbacks S D C) where
-  -- a cell whose machine is the replay of its journal: what lies under the lock is one at every moment
-  abbrev pub IsReplayed : CellState M S D C → Type 0
-  IsReplayed cell = IsReplay callbacks cell.base cell.journal cell.scheduled.core
+  -- a lawful cell of the machine of this id: what lies under its lock is one at every moment
+  pub record IsCellOf (id : MachineId) (cell : CellState M S D C) : Type 0 where
+    pub own : cell.scheduled.core.machine.id ≡ id
+    pub journaled : IsJournaled callbacks cell
 
   -- the turn of some such cell, by this token at this moment, answers so
-  abbrev pub TurnsSomewhere : Token → ℕ → Result Next (Refused Token) → Type 0
-  TurnsSomewhere token now result =
-      (old : CellState M S D C) × (new : CellState M S D C) × IsReplayed old × Turns callbacks old token now result new
+  abbrev pub TurnsSomewhere : MachineId → Token → ℕ → Result Next (Refused Token) → Type 0
+  TurnsSomewhere id token now result =
+      (old : CellState M S D C) × (new : CellState M S D C) × IsCellOf id old × Turns callbacks old token now result new
 
   -- some such cell that is told this command answers so
-  abbrev pub IsToldSomewhere : Command C → StepAnswer S C → Type 0
-  IsToldSomewhere command answer =
-      (old : CellState M S D C) × (new : CellState M S D C) × IsReplayed old × IsTold callbacks old command answer new
+  abbrev pub IsToldSomewhere : MachineId → Command C → StepAnswer S C → Type 0
+  IsToldSomewhere id command answer =
+      (old : CellState M S D C) × (new : CellState M S D C) × IsCellOf id old × IsTold callbacks old command answer new
+
+  -- some such cell, by a port of it that has posted so many events, answers a post so
+  abbrev pub PostsSomewhere : MachineId → ℕ → Entry → C → StepAnswer S C → Type 0
+  PostsSomewhere id count entry content answer =
+      (old : CellState M S D C) × (new : CellState M S D C) × (port : ℕ) × IsCellOf id old × IsOpen port old
+      × (count_for port old ≡ count) × Posts callbacks old port entry content answer new
+
+  -- this is seen of some such cell by a port of it that has posted so many events
+  abbrev pub IsLookAt : MachineId → ℕ → Look S D → Type 0
+  IsLookAt id count look =
+      (cell : CellState M S D C) × (port : ℕ) × IsCellOf id cell × IsOpen port cell × (count_for port cell ≡ count) × (look ≡ look_of port cell)
+
+  -- this is the journal of some such cell, with this label
+  abbrev pub IsJournalAt : MachineId → List ℕ → Journal S C → Type 0
+  IsJournalAt id label journal = (cell : CellState M S D C) × IsCellOf id cell × IsJournalOf cell label journal

@@ -2,10 +2,7 @@
 use Rattle.std.specs.Prelude.{◌≡◌, ℕ, List, [], ◌∷◌, ◌++◌, length}
 use Rattle.std.specs.Arc.{arc_value}
 use Rattle.st_events.specs.declared.machine_id.MachineId.{MachineId}
-use Rattle.st_cell.specs.declared.look.Look.{Look}
 use Rattle.st_cell.specs.declared.post.Post.{Post}
-use Rattle.st_cell.specs.Calls.{look_of}
-use Rattle.st_cell.specs.Cell.{CellState, count_for, IsOpen}
 use Rattle.st_claim_lock.specs.Holders.{lock_id, lock_of, Claims}
 use Rattle.st_post_counter.specs.Seen.{IsPart}
 use Rattle.st_lock.specs.Claims.{claim}
@@ -31,8 +28,3 @@ pub record IsPort {M S D C A : Type 0} (port : Inside M S D C A) : Type 0 where
   pub count : port.count ≡ length port.end.seen.posts
   pub lock : lock_of port.holder ≡ lock_id (arc_value port.machine).lock
   pub claims : Claims port.holder (claim port.number port.counter)
-
--- what is seen of some cell by a port of it that has posted so many events
-abbrev pub IsLookAt : {S D : Type 0} → (M C : Type 0) → ℕ → Look S D → Type 0
-IsLookAt {S} {D} M C count look =
-    (cell : CellState M S D C) × (port : ℕ) × IsOpen port cell × (count_for port cell ≡ count) × (look ≡ look_of port cell)

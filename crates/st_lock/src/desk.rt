@@ -5,15 +5,15 @@ ghost use Rattle.st_core.specs.declared.command.Command.TheVariants as command;
 ghost use Rattle.st_core.specs.Callbacks.{callbacks_of};
 ghost use Rattle.st_scheduled.specs.Answered.{posted_as, ticked_as, replied_as, collected_as, stopped_as};
 ghost use Rattle.st_scheduled.specs.ScheduledMachine.{token_of};
-ghost use Rattle.st_cell.specs.Calls.{Posts, IsTold, Turns, look_of, cut, IsJournalOf};
-ghost use Rattle.st_cell.specs.Cell.{cell_at_first, IsOpen, count_for};
-ghost use Rattle.st_cell.specs.Journal.{IsReplay, numbers_of};
+ghost use Rattle.st_cell.specs.Calls.{Posts, IsTold, Turns, opened, look_of, cut, IsJournalOf};
+ghost use Rattle.st_cell.specs.Cell.{cell_at_first, IsJournaled, IsOpen, count_for};
+ghost use Rattle.st_cell.specs.Journal.{numbers_of};
 ghost use Rattle.st_post_counter.specs.Seen.{whole, part, IsWhole, IsPart};
 ghost use Rattle.st_lock.specs.Desk.{EndsWith, desk_at_first, HasEnd, counters_of};
 
 use st_cell::{
-    Cell, Collected, Core, Entry, Journal, Look, Module, Next, Post, Posted, Reason, Refusal,
-    Refused, Tag, Ticked, Token, a_cell_is_the_replay_of_its_journal,
+    Cell, Collected, Core, Entry, Journal, Look, MachineId, Module, Next, Post, Posted, Reason,
+    Refusal, Refused, Tag, Ticked, Token, a_cell_is_journaled,
     a_port_has_no_more_posts_than_its_count, a_port_that_is_not_open_has_no_posts,
 };
 use st_post_counter::{Addition, Counter, Endpoint};
@@ -114,6 +114,7 @@ impl<M: Module> Desk<M> {
         requires { end.seen ≡ whole [] }
         ensures opened { IfOk result (λ port. self.new.ends ≡ self.old.ends ++ end ∷ []) }
         ensures number { IfOk result (λ port. port ≡ length self.old.ends + 1) }
+        ensures cell { IfOk result (λ port. self.new.cell ≡ (opened self.old.cell).1) }
 
         ensures refusals { IfErr result (λ refusal. refusal ≡ NoMemory) }
         ensures unchanged { OnErr result (self.new ≡ self.old) }
@@ -131,14 +132,22 @@ impl<M: Module> Desk<M> {
         }
     }
 
-    /// Says whether a port is open and has posted so many events.
-    pub(crate) fn counts(&self, port: u64, count: u64) -> bool
+    /// The machine's id.
+    pub(crate) fn id(&self) -> MachineId
+        ensures { result ≡ self.now.cell.scheduled.core.machine.id }
+    {
+        self.cell.core().id()
+    }
+
+    /// Says whether the machine has this id, and a port is open and has posted so many events.
+    pub(crate) fn counts(&self, id: MachineId, port: u64, count: u64) -> bool
+        ensures own { result ≡ true → self.now.cell.scheduled.core.machine.id ≡ id }
         ensures open { result ≡ true → IsOpen port self.now.cell }
         ensures count { result ≡ true → count ≡ count_for port self.now.cell }
         ensures limited { result ≡ true → count < 2 ^ 63 }
     {
         a_port_has_no_more_posts_than_its_count(&self.cell);
-        self.cell.is_open(port) && self.cell.count_for(port) == count
+        self.id() == id && self.cell.is_open(port) && self.cell.count_for(port) == count
     }
 
     /// A port posts an event, as `Cell::post` does. Where it is taken, the machine's endpoint and the port's see it.
@@ -284,9 +293,9 @@ impl<M: Module> Desk<M> {
     }
 }
 
-/// A machine at a desk is the replay of its journal.
-pub(crate) fn a_desk_is_the_replay_of_its_journal<M: Module>(desk: &Desk<M>)
-    ensures { IsReplay (callbacks_of M.Module M.State.eq) desk.now.cell.base desk.now.cell.journal desk.now.cell.scheduled.core }
+/// The cell of a desk is one with its journal.
+pub(crate) fn a_desk_is_journaled<M: Module>(desk: &Desk<M>)
+    ensures { IsJournaled (callbacks_of M.Module M.State.eq) desk.now.cell }
 {
-    a_cell_is_the_replay_of_its_journal(&desk.cell);
+    a_cell_is_journaled(&desk.cell);
 }

@@ -13,12 +13,12 @@ ghost use Rattle.st_lock.specs.Desk.{desk_at_first, HasEnd};
 ghost use Rattle.st_core.specs.Callbacks.{callbacks_of};
 ghost use Rattle.st_core.specs.declared.command.Command.TheVariants as command;
 ghost use Rattle.st_scheduled.specs.Answered.{ticked_as, collected_as, replied_as, stopped_as};
-ghost use Rattle.st_lock.specs.Machines.{id_of, IsToldSomewhere, TurnsSomewhere};
+ghost use Rattle.st_lock.specs.Machines.{id_of, IsJournalAt, IsToldSomewhere, TurnsSomewhere};
 ghost use Rattle.st_lock.specs.Ports.{port_at_first};
 
 use crate::Port;
 use crate::claim::{ByPort, Claim};
-use crate::desk::{Desk, PostOf, a_desk_is_the_replay_of_its_journal};
+use crate::desk::{Desk, PostOf, a_desk_is_journaled};
 use st_cell::{
     Collected, Core, Journal, MachineId, Module, Next, Reason, Refusal, Refused, Tag, Ticked, Token,
 };
@@ -195,12 +195,13 @@ impl<M: Module> Machine<M> {
         drop(give_back(taken, &mut holder, desk));
     }
 
-    /// Takes the desk, with a newcomer's claim.
+    /// Takes the machine's own desk, with a newcomer's claim.
     fn arrive<R: Wait>(&self, rt: &R) -> (TakenOf<'_, M>, DeskOf<M>, HolderOf<M>)
         ensures lock { lock_of result.2 ≡ taken_from result.0 }
         ensures from { taken_from result.0 ≡ lock_id self.now.lock }
         ensures taken { value_taken result.0 ≡ Some result.1 }
         ensures out { HasOut result.2 (claim_of result.2) (value_taken result.0) }
+        ensures own { result.1.value.cell.scheduled.core.machine.id ≡ id_of self.now }
     {
         let (taken, under, mut holder) = self.lock.arrive(rt);
         let Some(desk) = under else {
@@ -209,6 +210,12 @@ impl<M: Module> Machine<M> {
             for _ in rt.forever() {}
             unreachable!()
         };
+        if desk.id() != self.id {
+            // No run comes here: the desk that was put there is the machine's own.
+            drop(give_back(taken, &mut holder, desk));
+            for _ in rt.forever() {}
+            unreachable!()
+        }
         (taken, desk, holder)
     }
 
@@ -270,11 +277,11 @@ impl<M: Module> Machine<M> {
     ///
     /// Manual: `Module:handle_event/4`; ours: docs/DECISIONS.md, Tokens.
     pub fn turn<R: Wait>(&self, rt: &R, token: Token, now: u64) -> Result<Next, Refused<Token>>
-        ensures does { TurnsSomewhere (callbacks_of M.Module M.State.eq) token now result }
+        ensures does { TurnsSomewhere (callbacks_of M.Module M.State.eq) (id_of self.now) token now result }
         ensures returned { IfErr result (λ refused. refused.value ≡ token) }
     {
         let (taken, mut desk, mut holder) = self.arrive(rt);
-        a_desk_is_the_replay_of_its_journal(&desk);
+        a_desk_is_journaled(&desk);
         let answer = desk.turn(token, now);
         drop(give_back(taken, &mut holder, desk));
         self.told.notify_all();
@@ -287,10 +294,10 @@ impl<M: Module> Machine<M> {
     ///
     /// Ours: docs/DECISIONS.md, Time-outs come by ticks.
     pub fn tick<R: Wait>(&self, rt: &R, now: u64) -> Result<Ticked, Refusal>
-        ensures { IsToldSomewhere (callbacks_of M.Module M.State.eq) (command.Tick now) (ticked_as result) }
+        ensures { IsToldSomewhere (callbacks_of M.Module M.State.eq) (id_of self.now) (command.Tick now) (ticked_as result) }
     {
         let (taken, mut desk, mut holder) = self.arrive(rt);
-        a_desk_is_the_replay_of_its_journal(&desk);
+        a_desk_is_journaled(&desk);
         let answer = desk.tick(now);
         drop(give_back(taken, &mut holder, desk));
         answer
@@ -302,10 +309,10 @@ impl<M: Module> Machine<M> {
     ///
     /// Manual: `receive_response/2` with no time; ours: docs/DECISIONS.md, Requests.
     pub fn collect<R: Wait>(&self, rt: &R, tag: Tag) -> Result<Collected<M::Content>, Refusal>
-        ensures { IsToldSomewhere (callbacks_of M.Module M.State.eq) (command.Collect tag) (collected_as result) }
+        ensures { IsToldSomewhere (callbacks_of M.Module M.State.eq) (id_of self.now) (command.Collect tag) (collected_as result) }
     {
         let (taken, mut desk, mut holder) = self.arrive(rt);
-        a_desk_is_the_replay_of_its_journal(&desk);
+        a_desk_is_journaled(&desk);
         let answer = desk.collect(tag);
         drop(give_back(taken, &mut holder, desk));
         answer
@@ -319,11 +326,11 @@ impl<M: Module> Machine<M> {
     /// Manual: `receive_response/1`; ours: docs/DECISIONS.md, Requests.
     pub fn wait_collect<R: Wait>(&self, rt: &R, tag: Tag) -> Result<Collected<M::Content>, Refusal>
         ensures collected { IfOk result (λ collected. collected ≡ Waiting → ⊥) }
-        ensures does { IsToldSomewhere (callbacks_of M.Module M.State.eq) (command.Collect tag) (collected_as result) }
+        ensures does { IsToldSomewhere (callbacks_of M.Module M.State.eq) (id_of self.now) (command.Collect tag) (collected_as result) }
     {
         for _ in rt.forever() {
             let (taken, mut desk, mut holder) = self.arrive(rt);
-            a_desk_is_the_replay_of_its_journal(&desk);
+            a_desk_is_journaled(&desk);
             let answer = desk.collect(tag);
             let gate = give_back(taken, &mut holder, desk);
             match answer {
@@ -348,11 +355,11 @@ impl<M: Module> Machine<M> {
         tag: Tag,
         content: M::Content,
     ) -> Result<bool, Refused<M::Content>>
-        ensures does { IsToldSomewhere (callbacks_of M.Module M.State.eq) (command.Reply tag content) (replied_as result) }
+        ensures does { IsToldSomewhere (callbacks_of M.Module M.State.eq) (id_of self.now) (command.Reply tag content) (replied_as result) }
         ensures returned { IfErr result (λ refused. refused.value ≡ content) }
     {
         let (taken, mut desk, mut holder) = self.arrive(rt);
-        a_desk_is_the_replay_of_its_journal(&desk);
+        a_desk_is_journaled(&desk);
         let answer = desk.reply(tag, content);
         drop(give_back(taken, &mut holder, desk));
         self.told.notify_all();
@@ -365,10 +372,10 @@ impl<M: Module> Machine<M> {
     ///
     /// Manual: `stop/3`; ours: docs/DECISIONS.md, A stop from outside.
     pub fn stop<R: Wait>(&self, rt: &R, reason: Reason) -> Result<u32, Refusal>
-        ensures { IsToldSomewhere (callbacks_of M.Module M.State.eq) (command.Stop reason) (stopped_as result) }
+        ensures { IsToldSomewhere (callbacks_of M.Module M.State.eq) (id_of self.now) (command.Stop reason) (stopped_as result) }
     {
         let (taken, mut desk, mut holder) = self.arrive(rt);
-        a_desk_is_the_replay_of_its_journal(&desk);
+        a_desk_is_journaled(&desk);
         let answer = desk.stop(reason);
         drop(give_back(taken, &mut holder, desk));
         self.told.notify_all();
@@ -395,9 +402,12 @@ impl<M: Module> Machine<M> {
         rt: &R,
         label: &str,
     ) -> Result<Journal<M::State, M::Content>, Refusal>
+        ensures journal { IfOk result (λ journal. IsJournalAt (callbacks_of M.Module M.State.eq) (id_of self.now) label.now journal) }
+
         ensures refusals { IfErr result (λ refusal. refusal ≡ NoMemory) }
     {
         let (taken, desk, mut holder) = self.arrive(rt);
+        a_desk_is_journaled(&desk);
         let answer = desk.journal(label);
         drop(give_back(taken, &mut holder, desk));
         answer

@@ -1,14 +1,16 @@
 //! A port of a machine.
-ghost use Rattle.std.specs.Prelude.{◌≡◌, length, IfOk, IfErr, OnErr};
+ghost use Rattle.std.specs.Prelude.{◌≡◌, length, IfOk, IfErr, IfSome, OnErr};
 ghost use Rattle.std.specs.Arc.{arc_value};
 ghost use Rattle.st_events.specs.declared.refusal.Refusal.TheVariants.{NoMemory};
+ghost use Rattle.st_core.specs.Callbacks.{callbacks_of};
+ghost use Rattle.st_scheduled.specs.Answered.{posted_as};
 ghost use Rattle.st_cell.specs.Journal.{numbers_of};
 ghost use Rattle.st_lock.specs.Desk.{EndsWith};
-ghost use Rattle.st_lock.specs.Machines.{id_of};
-ghost use Rattle.st_lock.specs.Ports.{posted, IsLookAt};
+ghost use Rattle.st_lock.specs.Machines.{id_of, IsLookAt, PostsSomewhere};
+ghost use Rattle.st_lock.specs.Ports.{posted};
 
 use crate::Machine;
-use crate::desk::PostOf;
+use crate::desk::{PostOf, a_desk_is_journaled};
 use crate::machine::{HolderOf, give_back};
 use st_cell::{Entry, Look, Module, Posted, Refusal, Refused};
 use st_post_counter::{Counter, Endpoint};
@@ -75,6 +77,8 @@ impl<M: Module> Port<M> {
         entry: Entry,
         content: M::Content,
     ) -> Result<Posted, Refused<M::Content>>
+        ensures does { PostsSomewhere (callbacks_of M.Module M.State.eq) self.old.machine (length self.old.posts) entry content (posted_as result) }
+        ensures token { IfOk result (λ answer. IfSome answer.wake (λ token. token.machine ≡ self.old.machine)) }
         ensures posted { IfOk result (λ answer. self.new ≡ posted (record { number = answer.number; entry = entry; content = content }) self.old) }
 
         ensures unchanged { OnErr result (self.new ≡ self.old) }
@@ -84,12 +88,13 @@ impl<M: Module> Port<M> {
         let Some(mut desk) = under else {
             unreachable!()
         };
-        if !desk.counts(self.number, self.count) {
+        if !desk.counts(self.machine.id(), self.number, self.count) {
             // No run comes here: nobody else posts through this port.
             drop(give_back(taken, &mut self.holder, desk));
             for _ in rt.forever() {}
             unreachable!()
         }
+        a_desk_is_journaled(&desk);
         let answer = desk.post(&self.counter, &mut self.end, self.number, entry, content);
         drop(give_back(taken, &mut self.holder, desk));
         match answer {
@@ -113,7 +118,7 @@ impl<M: Module> Port<M> {
         ensures same { self.new ≡ self.old }
         ensures mine { IfOk result (λ look. look.mine ≡ length self.old.posts) }
         ensures numbers { IfOk result (λ look. EndsWith (numbers_of self.old.posts) look.numbers) }
-        ensures look { IfOk result (λ look. IsLookAt M M.Content (length self.old.posts) look) }
+        ensures look { IfOk result (λ look. IsLookAt (callbacks_of M.Module M.State.eq) self.old.machine (length self.old.posts) look) }
 
         ensures refusals { IfErr result (λ refusal. refusal ≡ NoMemory) }
     {
@@ -121,12 +126,13 @@ impl<M: Module> Port<M> {
         let Some(mut desk) = under else {
             unreachable!()
         };
-        if !desk.counts(self.number, self.count) {
+        if !desk.counts(self.machine.id(), self.number, self.count) {
             // No run comes here: nobody else posts through this port.
             drop(give_back(taken, &mut self.holder, desk));
             for _ in rt.forever() {}
             unreachable!()
         }
+        a_desk_is_journaled(&desk);
         let answer = desk.look(&self.counter, &mut self.end, self.number);
         drop(give_back(taken, &mut self.holder, desk));
         answer

@@ -1,5 +1,5 @@
 //! Machines by id and by name.
-ghost use Rattle.std.specs.Prelude.{◌≡◌, ◌==◌, [], length, Some, None, IfOk, IfErr, OnOk, OnErr, String, option_copied};
+ghost use Rattle.std.specs.Prelude.{◌≡◌, ◌==◌, [], length, Some, None, IsSome, IfOk, IfErr, OnOk, OnErr, String, option_copied};
 ghost use Rattle.std.specs.Arc.{arc_value};
 ghost use Rattle.std.specs.Map.Iter.{ShowsInOrder, deref_pair};
 ghost use Rattle.st_events.specs.declared.refusal.Refusal.TheVariants.{NoMemory, NoSuchName, NoSuchMachine, NotStopped};
@@ -108,6 +108,7 @@ impl<M: Module> Registry<M> {
     /// Ours: docs/DECISIONS.md, Directories.
     pub fn unregister(&mut self, name: &str) -> Result<(), Refusal>
         ensures unregistered { OnOk result (self.new ≡ unregistered name.now self.old) }
+        ensures registered { OnOk result (IsSome (id_of_name name.now self.old)) }
 
         ensures missing { IfErr result (λ refusal. (refusal ≡ NoSuchName) × (id_of_name name.now self.old ≡ None)) }
         ensures unchanged { OnErr result (self.new ≡ self.old) }
@@ -173,6 +174,7 @@ impl<M: Module> Registry<M> {
     /// Ours: docs/DECISIONS.md, Directories.
     pub fn remove_stopped<R: Wait>(&mut self, rt: &R, id: MachineId) -> Result<(), Refusal>
         ensures removed { OnOk result (self.new ≡ removed id self.old) }
+        ensures there { OnOk result (IsSome (found id self.old)) }
 
         ensures refusals { IfErr result (λ refusal. RefusesRemoval id self.old refusal) }
         ensures unchanged { OnErr result (self.new ≡ self.old) }

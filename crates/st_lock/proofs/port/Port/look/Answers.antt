@@ -5,4 +5,5 @@ use Rattle.st_lock.proofs.port.Port.look.Goals as goal
 -- the cell under the lock is the one that is looked at
 pub returns-clause-look : goal.returns-clause-look
 returns-clause-look g c =
-    look_at c.deref_mut.result.now.cell c.self.inside.number _ c.look-answer.result c.look-answer.ensures.look (search rules) (search rules)
+    look_at _ _ c.deref_mut.result.now.cell c.self.inside.number _ c.look-answer.result c.look-answer.ensures.look
+    (record { own = search rules; journaled = search rules }) (search rules) (search rules)
