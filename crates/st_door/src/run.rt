@@ -25,7 +25,11 @@ pub fn is_fault(effect: &Effect) -> bool
 }
 
 /// Does the lines of an input and writes what they print, line by line.
-fn run_input<W: Sink>(alloc: Global, input: &[u8], writer: &mut W) -> Result<u8, ScriptFault>
+pub(crate) fn run_input<W: Sink>(
+    alloc: Global,
+    input: &[u8],
+    writer: &mut W,
+) -> Result<u8, ScriptFault>
     ensures status { IfOk result (λ status. status ≡ status_of_script Run input.now) }
     ensures output { OnOk result (Appends (W.held writer.old) (W.held writer.new) (output_of Run input.now)) }
 
@@ -64,7 +68,11 @@ fn trace_lines(alloc: Global, input: &[u8]) -> Result<(Script, bool), AllocError
 }
 
 /// Does the lines of an input, and then writes the traces of the doors that are left.
-fn trace_input<W: Sink>(alloc: Global, input: &[u8], writer: &mut W) -> Result<u8, ScriptFault>
+pub(crate) fn trace_input<W: Sink>(
+    alloc: Global,
+    input: &[u8],
+    writer: &mut W,
+) -> Result<u8, ScriptFault>
     ensures status { IfOk result (λ status. status ≡ status_of_script Trace input.now) }
     ensures output { OnOk result (Appends (W.held writer.old) (W.held writer.new) (output_of Trace input.now)) }
 

@@ -2,15 +2,20 @@
 //! It knows nothing of any rule.
 #![tactic(auto)]
 
-ghost use Rattle.std.specs.Prelude.{◌≡◌, ◌<◌};
-ghost use Rattle.statem.specs.Program.{status_of};
+ghost use Rattle.std.specs.Prelude.{◌≡◌, ◌<◌, IfOk, IfErr, IfSome, OnOk, OnErr, MatchResult, Err};
+ghost use Rattle.std.specs.Io.KnownBytes.{Appends, IsAtEnd, Keeps};
+ghost use Rattle.st_door.specs.Script.{DoesSome, output_of, status_of_script};
+ghost use Rattle.st_door.specs.ScriptFault.{IsOfInput, read_failures_after, write_failures_after};
+ghost use Rattle.st_door.specs.Streams.{AppendsFront, ConsumesMoreThan};
+ghost use Rattle.statem.specs.Program.{mode_of, status_of};
 ghost use Rattle.st_words.specs.Order.{HasWorkers};
 
 use clap::Error;
 use clap::error::ErrorKind;
-use st_door::{Counted, Mode, ScriptFault, run_script};
+use st_door::{Counted, INPUT_LIMIT, Mode, ScriptFault, Sink, Source, run_script};
 use st_door_pool::{Runtime, run_pool};
 use st_words::{Order, read_words};
+use std::alloc::Global;
 use std::marker::Brand;
 use std::process::ExitCode;
 use std::sync::ledger::{Blank, Ledger};
@@ -34,6 +39,36 @@ fn words(rt: &HostRuntime) -> io::Result<Vec<String>> {
     Ok(env::args(rt)?.collect(rt.alloc())?)
 }
 
+/// Does what is asked for between a reader and a writer, and answers the script's status. Without workers it is
+/// `run_script` in the mode that is asked for.
+fn ordered<R: Runtime, S: Source, W: Sink>(
+    threads: R,
+    alloc: Global,
+    order: Order,
+    reader: &mut S,
+    writer: &mut W,
+) -> Result<u8, ScriptFault>
+    requires workers { HasWorkers order }
+    ensures status { IfOk result (λ status. IfSome (mode_of order) (λ mode. IfSome (S.left reader.old) (λ input. status ≡ status_of_script mode input))) }
+    ensures output { OnOk result (IfSome (mode_of order) (λ mode. IfSome (S.left reader.old) (λ input. Appends (W.held writer.old) (W.held writer.new) (output_of mode input)))) }
+    ensures some { IfOk result (λ status. IfSome (mode_of order) (λ mode. DoesSome mode (S.left reader.old) (S.left reader.new) (W.held writer.old) (W.held writer.new) status)) }
+    ensures whole { OnOk result (IsAtEnd (S.left reader.new)) }
+
+    ensures front { OnErr result (IfSome (mode_of order) (λ mode. IfSome (S.left reader.old) (λ input. AppendsFront (W.held writer.old) (W.held writer.new) (output_of mode input)))) }
+    ensures unwritten { IfErr result (λ fault. IsOfInput fault → Keeps (W.held writer.old) (W.held writer.new)) }
+    ensures read_failures { MatchResult result (λ _. S.failures reader.new ≡ S.failures reader.old)
+        (λ fault. S.failures reader.new ≡ read_failures_after fault (S.failures reader.old)) }
+    ensures too_long { result ≡ Err ScriptFault.TooLong → ConsumesMoreThan (S.left reader.old) (S.left reader.new) INPUT_LIMIT }
+    ensures write_failures { MatchResult result (λ _. W.failures writer.new ≡ W.failures writer.old)
+        (λ fault. W.failures writer.new ≡ write_failures_after fault (W.failures writer.old)) }
+{
+    match order {
+        Order::Run => run_script(alloc, Mode::Run, reader, writer),
+        Order::Trace => run_script(alloc, Mode::Trace, reader, writer),
+        Order::Pool(workers) => run_pool(threads, alloc, usize::from(workers), reader, writer),
+    }
+}
+
 /// Does what is asked for between the standard streams, and answers the program's status.
 fn done<A: Ledger, B: Ledger, R: Runtime>(
     rt: &HostRuntime,
@@ -49,19 +84,7 @@ fn done<A: Ledger, B: Ledger, R: Runtime>(
     let alloc = rt.alloc();
     let mut reader: Counted<_, A> = Counted::new(rt.stdin(), reads);
     let mut writer: Counted<_, B> = Counted::new(rt.stdout(), writes);
-    match order {
-        Order::Run => run_script(alloc, Mode::Run, &mut reader, &mut writer),
-        Order::Trace => run_script(alloc, Mode::Trace, &mut reader, &mut writer),
-        Order::Pool(workers) => {
-            run_pool(
-                threads,
-                alloc,
-                usize::from(workers),
-                &mut reader,
-                &mut writer,
-            )
-        }
-    }
+    ordered(threads, alloc, order, &mut reader, &mut writer)
 }
 
 /// Says what `clap` has to say, and answers the program's status: help goes to standard output, a fault of the words to

@@ -1,8 +1,8 @@
 //! Scripts at their limits and one past them.
 
 use super::host::{Host, holds, same};
-use super::streams::{PLAIN, Way, ends, prints, shows, with_reserved};
-use st_door::{INPUT_LIMIT, ScriptFault};
+use super::streams::{PLAIN, Way, ends, ends_in_memory, prints, shows, with_reserved};
+use st_door::{INPUT_LIMIT, Mode, ScriptFault};
 use std::alloc::{AllocError, Global};
 
 #[test]
@@ -88,6 +88,7 @@ fn an_input_has_1048576_bytes_at_most(rt: HostRuntime) {
     prints(&rt, rt.alloc(), &input.as_slice()[1..], "", 0);
     let wanted = Err(ScriptFault::TooLong);
     ends(&rt, rt.alloc(), input.as_slice(), PLAIN, wanted, b"");
+    ends_in_memory(&rt, rt.alloc(), Mode::Run, input.as_slice(), wanted, b"");
 }
 
 /// The last of the hexadecimal digits that show a number.

@@ -3,7 +3,7 @@ ghost use Rattle.std.specs.Prelude.{◌≡◌, ◌<◌};
 ghost use Rattle.std.specs.Io.{ReadsAtMost};
 
 use super::host::{Host, holds, same};
-use st_door::{Counted, Mode, ScriptFault, run_script};
+use st_door::{Counted, Mode, ScriptFault, run_in_memory, run_script};
 use std::alloc::Global;
 use std::io::{self, ErrorKind, Print, Read, Write};
 use std::marker::Brand;
@@ -176,9 +176,34 @@ pub fn ends(
     holds(rt, "each line comes by one write", comes_by_lines);
 }
 
-/// Sees that a script prints this and has this status.
+/// Sees that a script whose bytes are in memory ends with this answer, and with this output. Where no memory was found, it
+/// is run once more.
+pub fn ends_in_memory(
+    rt: &Host<impl Abort>,
+    alloc: Global,
+    mode: Mode,
+    script: &[u8],
+    wanted: Result<u8, ScriptFault>,
+    output: &[u8],
+) {
+    let mut done = run_in_memory(alloc, mode, script);
+    if let Err(ScriptFault::Memory) = done {
+        rt.retry();
+        done = run_in_memory(alloc, mode, script);
+    }
+    match done {
+        Ok(done) => {
+            same(rt, "the output", &done.output.as_slice(), &output);
+            same(rt, "the status", &Ok(done.status), &wanted);
+        }
+        Err(fault) => same(rt, "the fault", &Err(fault), &wanted),
+    }
+}
+
+/// Sees that a script prints this and has this status, also where its bytes are in memory.
 pub fn prints(rt: &Host<impl Abort>, alloc: Global, script: &[u8], output: &str, status: u8) {
     ends(rt, alloc, script, PLAIN, Ok(status), output.as_bytes());
+    ends_in_memory(rt, alloc, Mode::Run, script, Ok(status), output.as_bytes());
 }
 
 /// A test of one script, by what it prints and its status.

@@ -1,7 +1,7 @@
 //! Traces of worked scripts, and reads, writes and allocations that fail in their mode.
 
 use super::host::Host;
-use super::streams::{PLAIN, Way, ends};
+use super::streams::{PLAIN, Way, ends, ends_in_memory};
 use super::worked::{ALL, RETRYING};
 use st_door::{Mode, ScriptFault};
 
@@ -43,6 +43,7 @@ fn each_worked_script_prints_its_traces(rt: HostRuntime) {
 fn no_memory_ends_a_traced_script(rt: HostRuntime) {
     let rt = Host::new(rt);
     ends(&rt, rt.alloc(), BUTTON, TRACED, Ok(0), PRESSED);
+    ends_in_memory(&rt, rt.alloc(), Mode::Trace, BUTTON, Ok(0), PRESSED);
     rt.end();
 }
 
