@@ -12,6 +12,7 @@ mod machine;
 mod postponing;
 mod requests;
 mod reserved;
+mod row;
 mod runs;
 mod seen;
 mod shown;

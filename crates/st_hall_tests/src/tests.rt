@@ -1,8 +1,15 @@
-//! Machines that threads share are started, found, served and removed, one call after another and by workers.
+//! Machines are started, found and removed in registries and halls, clients cast, call and gather, and threads and workers
+//! serve them.
 
+mod again;
+mod at_once;
 mod begun;
+mod caller;
+mod calls;
 mod cast;
-mod counting;
+mod collections;
+mod doors;
+mod doorway;
 mod exhausted;
 mod halls;
 mod host;
@@ -11,7 +18,14 @@ mod mark;
 mod memory;
 mod plain;
 mod pools;
-mod silent;
+mod registry;
+mod sending;
+mod sends;
+mod served;
 mod sole;
+mod threads;
 mod together;
+mod tray;
 mod turnstile;
+mod two_doors;
+mod work;

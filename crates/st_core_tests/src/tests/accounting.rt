@@ -1,13 +1,15 @@
 //! Each accepted event waits or was finished once.
-use super::begin::begun;
 use super::host::{Host, holds, same};
+use super::machine::Machine;
 use super::reserved::with_reserved;
 use super::shown::Shown::{Posted, Reported};
 use super::shown::{Did, Shown, read};
-use super::table_machine::{BEGIN, call, cast};
+use super::table::Table;
+use super::table_machine::BEGIN;
 use super::tested::tell;
-use super::told::{Told, tag};
-use st_core::Done;
+use super::told::Told::{Call, Cast, Collect, Reply, Tick, Turn};
+use super::told::{THIRD, Told};
+use st_core::{Core, Done};
 use std::alloc::Global;
 use std::process::Abort;
 
@@ -46,7 +48,7 @@ impl Account {
 
     /// What a turn did: its event and what it inserted are accepted, and its event may be finished, for
     /// the first time.
-    fn read(&mut self, rt: &Host<impl Abort>, did: &Did<u32>) {
+    fn read(&mut self, rt: &Host<impl Abort>, did: &Did) {
         holds(
             rt,
             "each that was inserted is shown",
@@ -66,13 +68,42 @@ impl Account {
     }
 
     /// What an answer says.
-    fn count(&mut self, rt: &Host<impl Abort>, answer: &Shown<u32, u32>) {
+    fn count(&mut self, rt: &Host<impl Abort>, answer: &Shown) {
         match answer {
             Posted(number) => self.accept_new(rt, Some(*number)),
             Reported(did) => self.read(rt, did),
             _ => {}
         }
     }
+
+    /// Tells a command, and counts what it answers: the accepted ones that are not finished are as many as wait.
+    fn follow<T: Machine>(&mut self, rt: &Host<impl Abort>, machine: &mut T, told: Told) {
+        self.count(rt, &read(&tell(rt, machine, told)));
+        let told_of = self.finished.len().checked_add(machine.see().waiting);
+        let accepted = Some(self.accepted.len());
+        same(
+            rt,
+            "what is accepted waits or is finished",
+            &told_of,
+            &accepted,
+        );
+    }
+}
+
+/// Tells a machine commands, and counts after each. Nothing waits in the end, and so many were accepted.
+fn all_count<T: Machine>(rt: &Host<impl Abort>, alloc: Global, told: &[Told], accepted: usize) {
+    let mut machine = T::begun(rt, alloc, &BEGIN);
+    let mut account = Account::new(rt, alloc);
+    for one in told {
+        account.follow(rt, &mut machine, *one);
+    }
+    same(rt, "nothing waits in the end", &machine.see().waiting, &0);
+    same(
+        rt,
+        "so many were accepted",
+        &account.accepted.len(),
+        &accepted,
+    );
 }
 
 /// Events that are postponed, retried and inserted, time-outs of each kind, and calls: after each command
@@ -81,45 +112,30 @@ impl Account {
 fn what_is_accepted_waits_or_is_finished(rt: HostRuntime) {
     let rt = Host::new(rt);
     let told = [
-        cast(10),
-        cast(12),
-        call(5),
-        Told::Turn(0),
-        Told::Turn(0),
-        Told::Turn(0),
-        Told::Turn(0),
-        Told::Reply(tag(3), 4),
-        Told::Turn(0),
-        Told::Collect(tag(3)),
-        cast(28),
-        cast(25),
-        Told::Turn(1),
-        Told::Turn(1),
-        Told::Tick(9),
-        Told::Turn(9),
-        Told::Turn(9),
-        Told::Turn(9),
-        cast(3),
-        Told::Turn(9),
-        Told::Turn(9),
-        Told::Turn(9),
-        Told::Turn(9),
+        Cast(10),
+        Cast(12),
+        Call(5),
+        Turn(0),
+        Turn(0),
+        Turn(0),
+        Turn(0),
+        Reply(THIRD, 4),
+        Turn(0),
+        Collect(THIRD),
+        Cast(28),
+        Cast(25),
+        Turn(1),
+        Turn(1),
+        Tick(9),
+        Turn(9),
+        Turn(9),
+        Turn(9),
+        Cast(3),
+        Turn(9),
+        Turn(9),
+        Turn(9),
+        Turn(9),
     ];
-    let mut core = begun(&rt, rt.alloc(), &BEGIN);
-    let mut account = Account::new(&rt, rt.alloc());
-    for one in told {
-        account.count(&rt, &read(&tell(&rt, &mut core, one)));
-        let waiting = core.waiting();
-        let told_of = account.finished.len().checked_add(waiting);
-        let accepted = Some(account.accepted.len());
-        same(
-            &rt,
-            "what is accepted waits or is finished",
-            &told_of,
-            &accepted,
-        );
-    }
-    same(&rt, "nothing waits in the end", &core.waiting(), &0);
-    same(&rt, "ten were accepted", &account.accepted.len(), &10);
+    all_count::<Core<Table>>(&rt, rt.alloc(), &told, 10);
     rt.end();
 }

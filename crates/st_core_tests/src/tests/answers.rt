@@ -1,16 +1,11 @@
 //! What a start or a turn is to do.
 use super::few::Few;
-use super::shown::{Did, Shown};
-use super::told::Told;
+use super::row::More;
+use super::shown::Did;
 use st_core::{Call, Done, Kind, Reason, Tag, Time, Timer};
 
-/// A turn at a moment is to do this.
-pub fn turn<S, C>(now: u64, did: Did<S>) -> (Told<C>, Shown<S, C>) {
-    (Told::Turn(now), Shown::Reported(did))
-}
-
 /// A turn handles the event of this number and kind in a state, finishes it, and leads to a state.
-pub fn handled<S: Copy>(number: u64, kind: Kind, before: S, after: S) -> Did<S> {
+pub fn handled(number: u64, kind: Kind, before: u32, after: u32) -> Did {
     let handle = Call::Handle {
         number,
         kind,
@@ -28,13 +23,8 @@ pub fn handled<S: Copy>(number: u64, kind: Kind, before: S, after: S) -> Did<S> 
     }
 }
 
-/// A turn handles the call of this tag in a state, finishes it, and leads to a state.
-pub fn handled_call<S: Copy>(tag: Tag, before: S, after: S) -> Did<S> {
-    handled(tag.request, Kind::Call(tag), before, after)
-}
-
 /// A machine starts in a state, with no enter call.
-pub fn started<S: Copy>(state: S) -> Did<S> {
+pub fn started(state: u32) -> Did {
     Did {
         event: None,
         done: Done::Started,
@@ -47,8 +37,29 @@ pub fn started<S: Copy>(state: S) -> Did<S> {
     }
 }
 
-impl<S: Copy> Did<S> {
-    fn calling(self, call: Call<S>) -> Did<S> {
+/// It does more besides, in this order.
+pub fn did_more(did: Did, more: &[More]) -> Did {
+    let mut whole = did;
+    for one in more {
+        whole = whole.with(*one);
+    }
+    whole
+}
+
+impl Did {
+    /// It does one thing besides.
+    fn with(self, more: More) -> Did {
+        match more {
+            More::Enters => self.entered(),
+            More::Ends(reason, word) => self.ended(reason, word),
+            More::PutsOff => self.put_off(),
+            More::Inserts(number) => self.inserting(number),
+            More::Sets(timer, time) => self.setting(timer, time),
+            More::Replies(tag) => self.replying(tag),
+        }
+    }
+
+    fn calling(self, call: Call<u32>) -> Did {
         Did {
             calls: self.calls.and(call),
             ..self
@@ -56,7 +67,7 @@ impl<S: Copy> Did<S> {
     }
 
     /// The state that it leads to is entered.
-    pub fn entered(self) -> Did<S> {
+    pub fn entered(self) -> Did {
         let enter = Call::Enter {
             old: self.before,
             state: self.after,
@@ -65,7 +76,7 @@ impl<S: Copy> Did<S> {
     }
 
     /// The machine ends.
-    pub fn ended(self, reason: Reason, word: u32) -> Did<S> {
+    pub fn ended(self, reason: Reason, word: u32) -> Did {
         let terminate = Call::Terminate {
             reason,
             state: self.after,
@@ -78,33 +89,33 @@ impl<S: Copy> Did<S> {
     }
 
     /// The event is postponed.
-    pub fn put_off(self) -> Did<S> {
+    fn put_off(self) -> Did {
         Did {
             done: Done::PutOff,
             ..self
         }
     }
 
-    /// Events with these numbers are inserted.
-    pub fn inserting(self, inserted: &[u64]) -> Did<S> {
+    /// An event with this number is inserted.
+    fn inserting(self, number: u64) -> Did {
         Did {
-            inserted: Few::of(inserted),
+            inserted: self.inserted.and(number),
             ..self
         }
     }
 
-    /// Timers are set or stopped.
-    pub fn setting(self, set: &[(Timer, Time)]) -> Did<S> {
+    /// A timer is set or stopped.
+    fn setting(self, timer: Timer, time: Time) -> Did {
         Did {
-            set: Few::of(set),
+            set: self.set.and((timer, time)),
             ..self
         }
     }
 
-    /// Requests are answered.
-    pub fn replying(self, replied: &[Tag]) -> Did<S> {
+    /// A request is answered.
+    fn replying(self, tag: Tag) -> Did {
         Did {
-            replied: Few::of(replied),
+            replied: self.replied.and(tag),
             ..self
         }
     }

@@ -1,13 +1,14 @@
 //! How a machine of a test starts.
 use super::answers::started;
-use super::host::{Host, holds, same};
+use super::few::Few;
+use super::host::{Host, got, holds, same};
 use super::machine::{kept_in, see};
 use super::seen::{Kept, Seen, keeps, sees};
 use super::shown::{Did, reports};
 use super::told::ID;
 use st_core::{
-    Core, Module, Refusal, Refused, Start, Time, Timer, a_machine_is_lawful, a_run_is_accounted,
-    a_run_keeps_machines_lawful, a_start_is_lawful,
+    Core, Module, Refusal, Refused, Report, Start, Time, Timer, a_machine_is_lawful,
+    a_run_is_accounted, a_run_keeps_machines_lawful, a_start_is_lawful,
 };
 use std::alloc::Global;
 use std::fmt::Debug;
@@ -15,10 +16,10 @@ use std::process::Abort;
 
 /// How a machine starts, the numbers of the events that its `init` inserts, and the timers that it sets.
 /// The number of the first event may be left out, and then it is 1.
-#[derive(Clone, Copy)]
-pub struct Begin<M, A> {
+#[derive(Drop)]
+pub struct Begin<M> {
     pub module: M,
-    pub arg: A,
+    pub arg: u32,
     pub now: u64,
     pub first: Option<u64>,
     pub inserted: &'static [u64],
@@ -26,10 +27,10 @@ pub struct Begin<M, A> {
 }
 
 /// Makes the call of a start.
-fn call_start<M: Module + Copy>(
+fn call_start<M: Module<Arg = u32> + Copy>(
     rt: &Host<impl Abort>,
     alloc: Global,
-    begin: &Begin<M, M::Arg>,
+    begin: &Begin<M>,
 ) -> Result<Start<M>, Refused<M>> {
     match begin.first {
         None => Core::start(alloc, begin.module, ID, &begin.arg, begin.now),
@@ -41,16 +42,13 @@ fn call_start<M: Module + Copy>(
     }
 }
 
-/// Starts a machine. Where it finds no memory, the module comes back, and the same call is made again.
-pub fn start<M: Module + Copy + Eq + Debug>(
+/// Makes the call of a start again where it found no memory: the module came back.
+fn start_again<M: Module<Arg = u32> + Copy + Eq + Debug>(
     rt: &Host<impl Abort>,
     alloc: Global,
-    begin: &Begin<M, M::Arg>,
+    begin: &Begin<M>,
+    refused: Refused<M>,
 ) -> Result<Start<M>, Refused<M>> {
-    let refused = match call_start(rt, alloc, begin) {
-        Ok(start) => return Ok(start),
-        Err(refused) => refused,
-    };
     if refused.refusal != Refusal::NoMemory {
         return Err(refused);
     }
@@ -61,9 +59,25 @@ pub fn start<M: Module + Copy + Eq + Debug>(
     call_start(rt, alloc, begin)
 }
 
+/// Starts a machine. Where it finds no memory, the module comes back, and the same call is made again.
+pub fn start<M: Module<Arg = u32> + Copy + Eq + Debug>(
+    rt: &Host<impl Abort>,
+    alloc: Global,
+    begin: &Begin<M>,
+) -> Result<Start<M>, Refused<M>> {
+    match call_start(rt, alloc, begin) {
+        Ok(start) => Ok(start),
+        Err(refused) => start_again(rt, alloc, begin, refused),
+    }
+}
+
 /// What a start does that leads to a machine in this state.
-fn wanted_of<M: Module>(begin: &Begin<M, M::Arg>, state: M::State) -> Did<M::State> {
-    let did = started(state).inserting(begin.inserted).setting(begin.set);
+fn wanted_of<M: Module>(begin: &Begin<M>, state: u32) -> Did {
+    let did = Did {
+        inserted: Few::of(begin.inserted),
+        set: Few::of(begin.set),
+        ..started(state)
+    };
     if begin.module.enters() {
         did.entered()
     } else {
@@ -71,32 +85,31 @@ fn wanted_of<M: Module>(begin: &Begin<M, M::Arg>, state: M::State) -> Did<M::Sta
     }
 }
 
-/// A machine that has started, and whose report says what it did.
-fn running<M: Module + Copy + Eq + Debug>(
-    rt: &Host<impl Abort>,
-    alloc: Global,
-    begin: &Begin<M, M::Arg>,
-) -> Core<M>
-where
-    M::State: Debug,
-{
-    match start(rt, alloc, begin).expect(rt, "the start is refused") {
-        Start::Running(core, report) => {
-            reports(rt, &report, &wanted_of(begin, core.state()));
-            core
-        }
-        Start::Ignored => panic!(rt; "the start was ignored"),
-        Start::Stopped(reason) => panic!(rt; "the start stopped for {reason}"),
+/// The machine that a start led to, and its report; or why there is none.
+fn into_running<M: Module>(start: Start<M>) -> Result<(Core<M>, Report<M::State>), &'static str> {
+    match start {
+        Start::Running(core, report) => Ok((core, report)),
+        Start::Ignored => Err("the start was ignored"),
+        Start::Stopped(_) => Err("the start stopped"),
     }
 }
 
+/// The machine that a start leads to, and its report.
+pub fn running<M: Module<Arg = u32> + Copy + Eq + Debug>(
+    rt: &Host<impl Abort>,
+    alloc: Global,
+    begin: &Begin<M>,
+) -> (Core<M>, Report<M::State>) {
+    let start = got(rt, "the start is refused", start(rt, alloc, begin));
+    got(rt, "a machine runs", into_running(start))
+}
+
 /// Looks that a machine has only started.
-fn has_begun<M: Module>(rt: &Host<impl Abort>, core: &Core<M>, begin: &Begin<M, M::Arg>)
-where
-    M::State: Debug,
-    M::Data: Copy + Eq + Debug,
-    M::Content: Copy + Eq + Debug,
-{
+fn has_begun<M: Module<State = u32, Data = u32, Content = u32>>(
+    rt: &Host<impl Abort>,
+    core: &Core<M>,
+    begin: &Begin<M>,
+) {
     let wanted = Seen {
         is_ready: !begin.inserted.is_empty(),
         state: core.state(),
@@ -118,18 +131,14 @@ fn is_lawful<M: Module>(core: &Core<M>, module: &M) {
     a_machine_is_lawful(core);
 }
 
-/// A machine that has started, and is looked at.
-pub fn begun<M: Module + Copy + Eq + Debug>(
+/// A machine that has started, whose report says what it did, and that is looked at.
+pub fn begun<M: Module<State = u32, Data = u32, Content = u32, Arg = u32> + Copy + Eq + Debug>(
     rt: &Host<impl Abort>,
     alloc: Global,
-    begin: &Begin<M, M::Arg>,
-) -> Core<M>
-where
-    M::State: Debug,
-    M::Data: Copy + Eq + Debug,
-    M::Content: Copy + Eq + Debug,
-{
-    let core = running(rt, alloc, begin);
+    begin: &Begin<M>,
+) -> Core<M> {
+    let (core, report) = running(rt, alloc, begin);
+    reports(rt, &report, &wanted_of(begin, core.state()));
     is_lawful(&core, &begin.module);
     has_begun(rt, &core, begin);
     core

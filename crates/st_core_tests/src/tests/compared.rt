@@ -1,94 +1,79 @@
 //! The same commands by single calls, and by one run.
+use super::begin::Begin;
 use super::host::{Host, holds, same};
 use super::machine::{Machine, read_all};
+use super::row::Row;
 use super::seen::{Running, Seen, Whole, ends, is_all};
-use super::shown::{Shown, agree, read};
-use super::tested::{does, run};
-use super::told::{Told, without_memory};
+use super::shown::{agree, read};
+use super::table::Table;
+use super::tested::{does, play, run};
+use super::told::without_memory;
 use st_core::Answer;
 use std::alloc::Global;
-use std::fmt::Debug;
 use std::process::Abort;
 
-/// Looks at the answers to commands, and at what they leave, with the time-outs that run. They are told to four
-/// machines that have started alike, though not to each in each case.
-pub fn all_alike<T: Machine>(
+/// Looks at the answers to commands, and at what they leave, with the time-outs that run. They are told to two
+/// machines that have started alike: to one by single calls, to the other by one run.
+pub fn both_ways<T: Machine>(
     rt: &Host<impl Abort>,
     alloc: Global,
-    single: &mut T,
-    at_once: &mut T,
-    again: &mut T,
-    without: &mut T,
-    steps: &[(Told<T::Content>, Shown<T::State, T::Content>)],
-    end: &Seen<T::State, T::Data>,
+    begin: &Begin<Table>,
+    rows: &[Row],
+    end: &Seen,
     timers: &[Running],
 ) {
-    let whole = by_single_calls(rt, single, steps);
+    let whole = by_single_calls::<T>(rt, alloc, begin, rows);
     ends(rt, &whole, end, timers);
-    runs_alike(rt, alloc, at_once, again, without, steps, &whole);
+    if !by_one_run::<T>(rt, alloc, begin, rows, &whole) {
+        rt.retry();
+        let found = by_one_run::<T>(rt, alloc, begin, rows, &whole);
+        holds(rt, "one allocation alone is refused", found);
+    }
 }
 
 /// What commands leave that are done by single calls. Their answers are looked at.
 fn by_single_calls<T: Machine>(
     rt: &Host<impl Abort>,
-    single: &mut T,
-    steps: &[(Told<T::Content>, Shown<T::State, T::Content>)],
-) -> Whole<T::State, T::Data, T::Content> {
-    for (told, wanted) in steps {
-        does(rt, single, *told, wanted);
-    }
-    read_all(rt, single)
-}
-
-/// Looks that commands leave by one run what they left by single calls. Where a command of the run found no
-/// memory, the run is made once more, of another machine.
-fn runs_alike<T: Machine>(
-    rt: &Host<impl Abort>,
     alloc: Global,
-    at_once: &mut T,
-    again: &mut T,
-    without: &mut T,
-    steps: &[(Told<T::Content>, Shown<T::State, T::Content>)],
-    whole: &Whole<T::State, T::Data, T::Content>,
-) {
-    if by_one_run(rt, alloc, at_once, without, steps) {
-        is_all(rt, &read_all(rt, at_once), whole);
-    } else {
-        rt.retry();
-        let found = by_one_run(rt, alloc, again, without, steps);
-        holds(rt, "one allocation alone is refused", found);
-        is_all(rt, &read_all(rt, again), whole);
-    }
+    begin: &Begin<Table>,
+    rows: &[Row],
+) -> Whole {
+    let mut single = T::begun(rt, alloc, begin);
+    play(rt, &mut single, rows);
+    read_all(rt, &single)
 }
 
-/// Does commands by one run, and looks at their answers. Says whether each found memory; where one found none,
-/// all is as by single calls without that command.
+/// Does commands by one run, and looks at their answers, and that they leave what they left by single calls. Says
+/// whether each found memory; where one found none, all is as by single calls without that command.
 fn by_one_run<T: Machine>(
     rt: &Host<impl Abort>,
     alloc: Global,
-    at_once: &mut T,
-    without: &mut T,
-    steps: &[(Told<T::Content>, Shown<T::State, T::Content>)],
+    begin: &Begin<Table>,
+    rows: &[Row],
+    whole: &Whole,
 ) -> bool {
-    let answers = run(rt, alloc, at_once, steps);
+    let mut at_once = T::begun(rt, alloc, begin);
+    let answers = run(rt, alloc, &mut at_once, rows);
     same(
         rt,
         "each command has its answer",
         &answers.len(),
-        &steps.len(),
+        &rows.len(),
     );
+    let left = read_all(rt, &at_once);
     let found = all_found_memory(answers.as_slice());
     if found {
-        answers_agree(rt, answers.as_slice(), steps);
+        answers_agree(rt, answers.as_slice(), rows);
+        is_all(rt, &left, whole);
     } else {
-        without_refused(rt, without, steps, answers.as_slice());
-        is_all(rt, &read_all(rt, at_once), &read_all(rt, without));
+        let others = without_refused::<T>(rt, alloc, begin, rows, answers.as_slice());
+        is_all(rt, &left, &others);
     }
     found
 }
 
 /// Says whether no command found no memory.
-fn all_found_memory<S: Copy, C: Copy>(answers: &[Answer<S, C>]) -> bool {
+fn all_found_memory(answers: &[Answer<u32, u32>]) -> bool {
     for answer in answers {
         if read(answer).found_no_memory() {
             return false;
@@ -98,29 +83,44 @@ fn all_found_memory<S: Copy, C: Copy>(answers: &[Answer<S, C>]) -> bool {
 }
 
 /// Looks that each answer is the one that is wanted.
-fn answers_agree<S: Copy + Eq + Debug, C: Copy + Eq + Debug>(
-    rt: &Host<impl Abort>,
-    answers: &[Answer<S, C>],
-    steps: &[(Told<C>, Shown<S, C>)],
-) {
-    for (answer, (_, wanted)) in answers.iter().zip(steps.iter()) {
-        agree(rt, answer, wanted);
+fn answers_agree(rt: &Host<impl Abort>, answers: &[Answer<u32, u32>], rows: &[Row]) {
+    for place in 0..rows.len() {
+        if let Some(answer) = answers.get(place) {
+            agree(rt, answer, &rows[place].wanted());
+        }
     }
 }
 
-/// Does commands by single calls, but for the one that found no memory. Each answers as in the run.
+/// What commands leave that are done by single calls, but for the one that found no memory. Each answers as in the
+/// run.
 fn without_refused<T: Machine>(
     rt: &Host<impl Abort>,
-    without: &mut T,
-    steps: &[(Told<T::Content>, Shown<T::State, T::Content>)],
-    answers: &[Answer<T::State, T::Content>],
-) {
-    for (answer, (told, _)) in answers.iter().zip(steps.iter()) {
-        let shown = read(answer);
-        if shown.found_no_memory() {
-            agree(rt, answer, &without_memory(*told));
-        } else {
-            does(rt, without, *told, &shown);
+    alloc: Global,
+    begin: &Begin<Table>,
+    rows: &[Row],
+    answers: &[Answer<u32, u32>],
+) -> Whole {
+    let mut without = T::begun(rt, alloc, begin);
+    for place in 0..rows.len() {
+        if let Some(answer) = answers.get(place) {
+            answers_alike(rt, &mut without, &rows[place], answer);
         }
+    }
+    read_all(rt, &without)
+}
+
+/// Does a command that was told in a run too, where it answered so: it answers the same. Where it found no memory
+/// there, it is left out.
+fn answers_alike<T: Machine>(
+    rt: &Host<impl Abort>,
+    machine: &mut T,
+    row: &Row,
+    answer: &Answer<u32, u32>,
+) {
+    let shown = read(answer);
+    if shown.found_no_memory() {
+        agree(rt, answer, &without_memory(row.told()));
+    } else {
+        does(rt, machine, row.told(), &shown);
     }
 }

@@ -1,16 +1,62 @@
 //! Runs that are put together from steps, from calls and from other runs.
-use super::begin::begun;
 use super::host::{Host, got, holds, same};
+use super::machine::Machine;
 use super::reserved::with_reserved;
 use super::shown::Shown::{Gone, Idle, Stopped, Ticked};
-use super::shown::{Shown, agree};
+use super::shown::agree;
 use super::table::Table;
 use super::table_machine::BEGIN;
-use super::told::tag;
-use crate::{AnswersOf, step_alone, turn_and_collect, two_runs, two_steps};
-use st_core::{Answer, Command, Core, Refusal};
+use super::told::FIRST;
+use crate::{AnswerOf, AnswersOf, step_alone, turn_and_collect, two_runs, two_steps};
+use st_core::{Answer, Command, Core, Refusal, Refused, Tag};
 use std::alloc::Global;
 use std::process::Abort;
+
+/// A machine of which runs are put together.
+trait Joined: Machine {
+    fn two_steps(
+        &mut self,
+        first: Command<u32>,
+        second: Command<u32>,
+    ) -> (AnswerOf<Table>, AnswerOf<Table>);
+
+    fn turn_and_collect(&mut self, now: u64, tag: Tag) -> (AnswerOf<Table>, AnswerOf<Table>);
+
+    fn two_runs(
+        &mut self,
+        first: Vec<Command<u32>>,
+        second: Vec<Command<u32>>,
+    ) -> Result<(AnswersOf<Table>, AnswersOf<Table>), Refused<Vec<Command<u32>>>>;
+
+    fn step_alone(&mut self, command: Command<u32>) -> AnswerOf<Table>;
+}
+
+impl Joined for Core<Table> {
+    fn two_steps(
+        &mut self,
+        first: Command<u32>,
+        second: Command<u32>,
+    ) -> (AnswerOf<Table>, AnswerOf<Table>) {
+        two_steps(self, first, second)
+    }
+
+    fn turn_and_collect(&mut self, now: u64, tag: Tag) -> (AnswerOf<Table>, AnswerOf<Table>) {
+        let (turned, collected) = turn_and_collect(self, now, tag);
+        (Answer::Turn(turned), Answer::Collect(collected))
+    }
+
+    fn two_runs(
+        &mut self,
+        first: Vec<Command<u32>>,
+        second: Vec<Command<u32>>,
+    ) -> Result<(AnswersOf<Table>, AnswersOf<Table>), Refused<Vec<Command<u32>>>> {
+        two_runs(self, first, second)
+    }
+
+    fn step_alone(&mut self, command: Command<u32>) -> AnswerOf<Table> {
+        step_alone(self, command)
+    }
+}
 
 /// A tick at each moment.
 fn ticks(rt: &Host<impl Abort>, alloc: Global, moments: &[u64]) -> Vec<Command<u32>> {
@@ -22,57 +68,79 @@ fn ticks(rt: &Host<impl Abort>, alloc: Global, moments: &[u64]) -> Vec<Command<u
     commands
 }
 
-/// Two runs. Where there is no place for the answers, they are made again.
-fn run_twice(
+/// Makes two runs.
+fn try_twice<T: Joined>(
     rt: &Host<impl Abort>,
     alloc: Global,
-    core: &mut Core<Table>,
-) -> (AnswersOf<Table>, AnswersOf<Table>) {
-    let (first, second) = (ticks(rt, alloc, &[6]), ticks(rt, alloc, &[7, 8]));
-    let refused = match two_runs(core, first, second) {
-        Ok(answers) => return answers,
-        Err(refused) => refused,
-    };
-    holds(
-        rt,
-        "memory was refused",
-        refused.refusal == Refusal::NoMemory,
-    );
-    rt.retry();
-    let (first, second) = (ticks(rt, alloc, &[6]), ticks(rt, alloc, &[7, 8]));
-    got(
-        rt,
-        "one allocation alone is refused",
-        two_runs(core, first, second),
-    )
+    machine: &mut T,
+) -> Result<(AnswersOf<Table>, AnswersOf<Table>), Refusal> {
+    let first = ticks(rt, alloc, &[6]);
+    match machine.two_runs(first, ticks(rt, alloc, &[7, 8])) {
+        Ok(answers) => Ok(answers),
+        Err(refused) => Err(refused.refusal),
+    }
 }
 
-/// Looks that a table's machine answers so.
-fn answers(rt: &Host<impl Abort>, answer: &Answer<u32, u32>, wanted: &Shown<u32, u32>) {
-    agree(rt, answer, wanted);
+/// Makes two runs. Where there is no place for the answers, they are made again.
+fn run_twice<T: Joined>(
+    rt: &Host<impl Abort>,
+    alloc: Global,
+    machine: &mut T,
+) -> (AnswersOf<Table>, AnswersOf<Table>) {
+    match try_twice(rt, alloc, machine) {
+        Ok(answers) => answers,
+        Err(refusal) => {
+            holds(rt, "memory was refused", refusal == Refusal::NoMemory);
+            rt.retry();
+            got(
+                rt,
+                "one allocation alone is refused",
+                try_twice(rt, alloc, machine),
+            )
+        }
+    }
+}
+
+/// Looks at the answers of two steps.
+fn steps_answer<T: Joined>(rt: &Host<impl Abort>, machine: &mut T) {
+    let (first, second) = machine.two_steps(Command::Tick(3), Command::Tick(4));
+    agree(rt, &first, &Ticked(0));
+    agree(rt, &second, &Ticked(0));
+}
+
+/// Looks at the answers of a turn and a collect.
+fn calls_answer<T: Joined>(rt: &Host<impl Abort>, machine: &mut T) {
+    let (turned, collected) = machine.turn_and_collect(5, FIRST);
+    agree(rt, &turned, &Idle);
+    agree(rt, &collected, &Gone);
+}
+
+/// Looks at the answers of two runs.
+fn runs_answer<T: Joined>(rt: &Host<impl Abort>, alloc: Global, machine: &mut T) {
+    let (one, other) = run_twice(rt, alloc, machine);
+    same(rt, "the first run has one answer", &one.len(), &1);
+    same(rt, "the second run has two answers", &other.len(), &2);
+    same(
+        rt,
+        "the latest moment is the last tick's",
+        &machine.see().latest,
+        &8,
+    );
+}
+
+/// Looks at the answers of a machine to steps, calls and runs that are put together.
+fn all_answer<T: Joined>(rt: &Host<impl Abort>, alloc: Global) {
+    let mut machine = T::begun(rt, alloc, &BEGIN);
+    steps_answer(rt, &mut machine);
+    calls_answer(rt, &mut machine);
+    runs_answer(rt, alloc, &mut machine);
+    agree(rt, &machine.step_alone(Command::Stop(9)), &Stopped(7));
 }
 
 /// The steps take no memory, so that none is refused.
 #[test]
 fn runs_are_put_together(rt: HostRuntime) {
     let rt = Host::new(rt);
-    let mut core = begun(&rt, rt.alloc(), &BEGIN);
-    let (first, second) = two_steps(&mut core, Command::Tick(3), Command::Tick(4));
-    answers(&rt, &first, &Ticked(0));
-    answers(&rt, &second, &Ticked(0));
-    let (turned, collected) = turn_and_collect(&mut core, 5, tag(1));
-    answers(&rt, &Answer::Turn(turned), &Idle);
-    answers(&rt, &Answer::Collect(collected), &Gone);
-    let (one, other) = run_twice(&rt, rt.alloc(), &mut core);
-    same(&rt, "the first run has one answer", &one.len(), &1);
-    same(&rt, "the second run has two answers", &other.len(), &2);
-    same(
-        &rt,
-        "the latest moment is the last tick's",
-        &core.latest(),
-        &8,
-    );
-    let stopped = step_alone(&mut core, Command::Stop(9));
-    answers(&rt, &stopped, &Stopped(7));
+    all_answer::<Core<Table>>(&rt, rt.alloc());
     rt.end();
 }

@@ -1,45 +1,57 @@
 //! A machine as a test sees it: what it is told, and what can be read of it.
+use super::begin::{Begin, begun};
 use super::few::Few;
-use super::host::{Host, holds};
+use super::host::{Host, got, holds};
 use super::seen::{Kept, Running, Seen, Whole};
 use super::table::Table;
 use super::told::{Told, tag};
-use st_core::{Answer, Command, Core, Module, Refusal, Refused};
-use std::fmt::Debug;
+use st_core::{Answer, Command, Core, Entry, Module, Refusal, Refused, Snapshot, Tag, Turns};
+use std::alloc::Global;
 use std::process::Abort;
 
 /// A machine. What is done with any machine is proved with no contract of the engine at hand, which makes
 /// these proofs short.
 pub trait Machine: Drop {
-    type State: Copy + Eq + Debug;
-
-    type Data: Copy + Eq + Debug;
-
-    type Content: Copy + Eq + Debug;
+    /// One that has started, and is looked at.
+    fn begun(rt: &Host<impl Abort>, alloc: Global, begin: &Begin<Table>) -> Self;
 
     /// Makes the call of one command.
-    fn call(&mut self, told: Told<Self::Content>) -> Answer<Self::State, Self::Content>;
+    fn call(&mut self, told: Told) -> Answer<u32, u32>;
 
     /// Makes the call of a run.
     fn call_run(
         &mut self,
-        commands: Vec<Command<Self::Content>>,
-    ) -> Result<Vec<Answer<Self::State, Self::Content>>, Refused<Vec<Command<Self::Content>>>>;
+        commands: Vec<Command<u32>>,
+    ) -> Result<Vec<Answer<u32, u32>>, Refused<Vec<Command<u32>>>>;
 
     /// What can be read of it but its replies and time-outs.
-    fn see(&self) -> Seen<Self::State, Self::Data>;
+    fn see(&self) -> Seen;
 
     /// The replies that are kept.
-    fn kept(&self) -> Kept<Self::Content>;
+    fn kept(&self) -> Kept;
 
     /// The running time-outs, or that there is no memory for them.
     fn try_timers(&self) -> Result<Few<Running>, Refusal>;
+
+    /// The moment at which the next time-out is due.
+    fn next_due(&self) -> Option<u64>;
+
+    /// The tag of the request that a post with this number opens.
+    fn tag_of(&self, request: u64) -> Tag;
+
+    /// Makes the call of turns until there is nothing to handle.
+    fn call_turns(&mut self, now: u64, at_most: u64) -> Turns;
+
+    /// Its snapshot, or that there is no memory for it.
+    fn try_snapshot(&mut self) -> Result<Snapshot<Table>, Refusal>;
 }
 
 /// Makes the call of one command.
-fn call<M: Module>(core: &mut Core<M>, told: Told<M::Content>) -> Answer<M::State, M::Content> {
+fn call<M: Module<State = u32, Content = u32>>(core: &mut Core<M>, told: Told) -> Answer<u32, u32> {
     match told {
-        Told::Post(entry, content) => Answer::Post(core.post(entry, content)),
+        Told::Cast(content) => Answer::Post(core.post(Entry::Cast, content)),
+        Told::Info(content) => Answer::Post(core.post(Entry::Info, content)),
+        Told::Call(content) => Answer::Post(core.post(Entry::Call, content)),
         Told::Tick(now) => Answer::Tick(core.tick_to(now)),
         Told::Turn(now) => Answer::Turn(core.turn(now)),
         Told::Reply(tag, content) => Answer::Reply(core.reply(tag, content)),
@@ -49,10 +61,7 @@ fn call<M: Module>(core: &mut Core<M>, told: Told<M::Content>) -> Answer<M::Stat
 }
 
 /// What can be read of a machine but its replies and time-outs.
-pub fn see<M: Module>(core: &Core<M>) -> Seen<M::State, M::Data>
-where
-    M::Data: Copy,
-{
+pub fn see<M: Module<State = u32, Data = u32>>(core: &Core<M>) -> Seen {
     Seen {
         is_ready: core.is_ready(),
         state: core.state(),
@@ -64,10 +73,7 @@ where
 }
 
 /// The replies that are kept.
-pub fn kept_in<M: Module>(core: &Core<M>) -> Kept<M::Content>
-where
-    M::Content: Copy,
-{
+pub fn kept_in<M: Module<Content = u32>>(core: &Core<M>) -> Kept {
     Kept {
         first: core.peek(tag(1)).copied(),
         second: core.peek(tag(2)).copied(),
@@ -83,13 +89,11 @@ fn try_timers<M: Module>(core: &Core<M>) -> Result<Few<Running>, Refusal> {
 }
 
 impl Machine for Core<Table> {
-    type State = u32;
+    fn begun(rt: &Host<impl Abort>, alloc: Global, begin: &Begin<Table>) -> Core<Table> {
+        begun(rt, alloc, begin)
+    }
 
-    type Data = u32;
-
-    type Content = u32;
-
-    fn call(&mut self, told: Told<u32>) -> Answer<u32, u32> {
+    fn call(&mut self, told: Told) -> Answer<u32, u32> {
         call(self, told)
     }
 
@@ -100,40 +104,54 @@ impl Machine for Core<Table> {
         self.run(commands)
     }
 
-    fn see(&self) -> Seen<u32, u32> {
+    fn see(&self) -> Seen {
         see(self)
     }
 
-    fn kept(&self) -> Kept<u32> {
+    fn kept(&self) -> Kept {
         kept_in(self)
     }
 
     fn try_timers(&self) -> Result<Few<Running>, Refusal> {
         try_timers(self)
     }
+
+    fn next_due(&self) -> Option<u64> {
+        Core::next_due(self)
+    }
+
+    fn tag_of(&self, request: u64) -> Tag {
+        self.tag(request)
+    }
+
+    fn call_turns(&mut self, now: u64, at_most: u64) -> Turns {
+        self.turn_until_idle(now, at_most)
+    }
+
+    fn try_snapshot(&mut self) -> Result<Snapshot<Table>, Refusal> {
+        self.snapshot()
+    }
+}
+
+/// The running time-outs, asked for again where memory was refused.
+fn timers_again<T: Machine>(rt: &Host<impl Abort>, machine: &T, refusal: Refusal) -> Few<Running> {
+    holds(rt, "memory was refused", refusal == Refusal::NoMemory);
+    rt.retry();
+    got(rt, "one allocation alone is refused", machine.try_timers())
 }
 
 /// The running time-outs. Where memory was refused, they are asked for again.
 pub fn timers_of<T: Machine>(rt: &Host<impl Abort>, machine: &T) -> Few<Running> {
     let running = match machine.try_timers() {
         Ok(running) => running,
-        Err(refusal) => {
-            holds(rt, "memory was refused", refusal == Refusal::NoMemory);
-            rt.retry();
-            machine
-                .try_timers()
-                .expect(rt, "one allocation alone is refused")
-        }
+        Err(refusal) => timers_again(rt, machine, refusal),
     };
     holds(rt, "each that runs is shown", running.is_whole());
     running
 }
 
 /// All that can be read of a machine.
-pub fn read_all<T: Machine>(
-    rt: &Host<impl Abort>,
-    machine: &T,
-) -> Whole<T::State, T::Data, T::Content> {
+pub fn read_all<T: Machine>(rt: &Host<impl Abort>, machine: &T) -> Whole {
     Whole {
         seen: machine.see(),
         kept: machine.kept(),

@@ -1,54 +1,81 @@
 //! Events that are postponed and inserted.
-use super::answers::{handled, turn};
-use super::begin::{Begin, begun};
+use super::begin::Begin;
 use super::host::Host;
 use super::machine::Machine;
+use super::row::More::{Inserts, PutsOff};
+use super::row::Row;
+use super::row::Row::{Tells, Turns};
 use super::seen::{Seen, sees};
 use super::shown::Shown::{Idle, NotPosted, NotTurned, Posted};
 use super::shown::{agree, read};
-use super::table_machine::{BEGIN, answers_are, at_rest, cast, postponing};
-use super::tested::does;
-use super::told::Told;
-use st_core::{Kind, Refusal};
+use super::table::Table;
+use super::table_machine::{BEGIN, answers_are, at_rest, postponing};
+use super::tested::play;
+use super::told::Told::{Cast, Turn};
+use st_core::{Core, Kind, Refusal};
+use std::alloc::Global;
+use std::process::Abort;
 
 /// Two casts are postponed, and the third changes the state.
 #[test]
 fn postponed_casts_keep_their_places(rt: HostRuntime) {
-    let rt = Host::new(rt);
-    let steps = [
-        (cast(10), Posted(1)),
-        (cast(10), Posted(2)),
-        (cast(3), Posted(3)),
-        (cast(0), Posted(4)),
-        turn(0, handled(1, Kind::Cast, 0, 0).put_off()),
-        turn(0, handled(2, Kind::Cast, 0, 0).put_off()),
-        turn(0, handled(3, Kind::Cast, 0, 1)),
-        turn(0, handled(1, Kind::Cast, 1, 1)),
-        turn(0, handled(2, Kind::Cast, 1, 1)),
-        turn(0, handled(4, Kind::Cast, 1, 1)),
-        (Told::Turn(0), Idle),
+    let rows = [
+        Tells(Cast(10), Posted(1)),
+        Tells(Cast(10), Posted(2)),
+        Tells(Cast(3), Posted(3)),
+        Tells(Cast(0), Posted(4)),
+        Turns(0, 1, Kind::Cast, 0, 0, &[PutsOff]),
+        Turns(0, 2, Kind::Cast, 0, 0, &[PutsOff]),
+        Turns(0, 3, Kind::Cast, 0, 1, &[]),
+        Turns(0, 1, Kind::Cast, 1, 1, &[]),
+        Turns(0, 2, Kind::Cast, 1, 1, &[]),
+        Turns(0, 4, Kind::Cast, 1, 1, &[]),
+        Tells(Turn(0), Idle),
     ];
-    answers_are(&rt, rt.alloc(), &BEGIN, &steps, &at_rest(1, 7, 0));
-    rt.end();
+    answers_are(rt, &BEGIN, &rows, &at_rest(1, 7, 0));
 }
 
 /// One cast is postponed; another changes the state, is postponed itself and inserts two events.
 #[test]
 fn inserted_events_come_before_retried_ones(rt: HostRuntime) {
-    let rt = Host::new(rt);
-    let steps = [
-        (cast(10), Posted(1)),
-        (cast(11), Posted(2)),
-        turn(0, handled(1, Kind::Cast, 0, 0).put_off()),
-        turn(0, handled(2, Kind::Cast, 0, 1).put_off().inserting(&[3, 4])),
-        turn(0, handled(3, Kind::Internal, 1, 1)),
-        turn(0, handled(4, Kind::Cast, 1, 1)),
-        turn(0, handled(1, Kind::Cast, 1, 1)),
-        turn(0, handled(2, Kind::Cast, 1, 1)),
-        (Told::Turn(0), Idle),
+    let rows = [
+        Tells(Cast(10), Posted(1)),
+        Tells(Cast(11), Posted(2)),
+        Turns(0, 1, Kind::Cast, 0, 0, &[PutsOff]),
+        Turns(0, 2, Kind::Cast, 0, 1, &[PutsOff, Inserts(3), Inserts(4)]),
+        Turns(0, 3, Kind::Internal, 1, 1, &[]),
+        Turns(0, 4, Kind::Cast, 1, 1, &[]),
+        Turns(0, 1, Kind::Cast, 1, 1, &[]),
+        Turns(0, 2, Kind::Cast, 1, 1, &[]),
+        Tells(Turn(0), Idle),
     ];
-    answers_are(&rt, rt.alloc(), &BEGIN, &steps, &at_rest(1, 7, 0));
-    rt.end();
+    answers_are(rt, &BEGIN, &rows, &at_rest(1, 7, 0));
+}
+
+/// Makes a turn of a machine that is seen so. Where it is refused, the machine is seen so still, and tried again the
+/// turn reports what it is to.
+fn turns_or_stays<T: Machine>(rt: &Host<impl Abort>, machine: &mut T, row: &Row, before: &Seen) {
+    sees(rt, &machine.see(), before);
+    let mut answer = machine.call(row.told());
+    if read(&answer).found_no_memory() {
+        sees(rt, &machine.see(), before);
+        rt.retry();
+        answer = machine.call(row.told());
+    }
+    agree(rt, &answer, &row.wanted());
+}
+
+/// Does the commands of rows, and then makes a turn of the machine, which is seen so before it.
+fn stays_behind<T: Machine>(
+    rt: &Host<impl Abort>,
+    alloc: Global,
+    rows: &[Row],
+    last: &Row,
+    before: &Seen,
+) {
+    let mut machine = T::begun(rt, alloc, &BEGIN);
+    play(rt, &mut machine, rows);
+    turns_or_stays(rt, &mut machine, last, before);
 }
 
 /// A growth of the second turn is refused: state, data and what waits are as they were, and tried again the turn
@@ -56,11 +83,12 @@ fn inserted_events_come_before_retried_ones(rt: HostRuntime) {
 #[test]
 fn a_refused_turn_changes_nothing(rt: HostRuntime) {
     let rt = Host::new(rt);
-    let mut core = begun(&rt, rt.alloc(), &BEGIN);
-    does(&rt, &mut core, cast(10), &Posted(1));
-    does(&rt, &mut core, cast(11), &Posted(2));
-    let (told, wanted) = turn(0, handled(1, Kind::Cast, 0, 0).put_off());
-    does(&rt, &mut core, told, &wanted);
+    let rows = [
+        Tells(Cast(10), Posted(1)),
+        Tells(Cast(11), Posted(2)),
+        Turns(0, 1, Kind::Cast, 0, 0, &[PutsOff]),
+    ];
+    let last = Turns(0, 2, Kind::Cast, 0, 1, &[PutsOff, Inserts(3), Inserts(4)]);
     let before = Seen {
         is_ready: true,
         state: 0,
@@ -69,129 +97,108 @@ fn a_refused_turn_changes_nothing(rt: HostRuntime) {
         waiting: 2,
         ended: None,
     };
-    sees(&rt, &core.see(), &before);
-    let (told, wanted) = turn(0, handled(2, Kind::Cast, 0, 1).put_off().inserting(&[3, 4]));
-    let mut answer = core.call(told);
-    if read(&answer).found_no_memory() {
-        sees(&rt, &core.see(), &before);
-        rt.retry();
-        answer = core.call(told);
-    }
-    agree(&rt, &answer, &wanted);
+    stays_behind::<Core<Table>>(&rt, rt.alloc(), &rows, &last, &before);
     rt.end();
 }
 
 #[test]
 fn postponed_events_stay_without_a_change(rt: HostRuntime) {
-    let rt = Host::new(rt);
-    let steps = [
-        (cast(10), Posted(1)),
-        (cast(12), Posted(2)),
-        turn(0, handled(1, Kind::Cast, 0, 0).put_off()),
-        turn(0, handled(2, Kind::Cast, 0, 0).put_off().inserting(&[3, 4])),
-        turn(0, handled(3, Kind::Internal, 0, 0)),
-        turn(0, handled(4, Kind::Cast, 0, 0)),
-        (Told::Turn(0), Idle),
+    let rows = [
+        Tells(Cast(10), Posted(1)),
+        Tells(Cast(12), Posted(2)),
+        Turns(0, 1, Kind::Cast, 0, 0, &[PutsOff]),
+        Turns(0, 2, Kind::Cast, 0, 0, &[PutsOff, Inserts(3), Inserts(4)]),
+        Turns(0, 3, Kind::Internal, 0, 0, &[]),
+        Turns(0, 4, Kind::Cast, 0, 0, &[]),
+        Tells(Turn(0), Idle),
     ];
     let end = postponing(2, 0, 7, 0);
-    answers_are(&rt, rt.alloc(), &BEGIN, &steps, &end);
-    rt.end();
+    answers_are(rt, &BEGIN, &rows, &end);
 }
 
 #[test]
 fn the_same_state_retries_nothing(rt: HostRuntime) {
-    let rt = Host::new(rt);
-    let steps = [
-        (cast(10), Posted(1)),
-        (cast(9), Posted(2)),
-        turn(0, handled(1, Kind::Cast, 0, 0).put_off()),
-        turn(0, handled(2, Kind::Cast, 0, 0)),
-        (Told::Turn(0), Idle),
+    let rows = [
+        Tells(Cast(10), Posted(1)),
+        Tells(Cast(9), Posted(2)),
+        Turns(0, 1, Kind::Cast, 0, 0, &[PutsOff]),
+        Turns(0, 2, Kind::Cast, 0, 0, &[]),
+        Tells(Turn(0), Idle),
     ];
     let end = postponing(1, 0, 7, 0);
-    answers_are(&rt, rt.alloc(), &BEGIN, &steps, &end);
-    rt.end();
+    answers_are(rt, &BEGIN, &rows, &end);
 }
 
 #[test]
 fn the_last_postpone_decides(rt: HostRuntime) {
-    let rt = Host::new(rt);
-    let steps = [
-        (cast(13), Posted(1)),
-        (cast(14), Posted(2)),
-        turn(0, handled(1, Kind::Cast, 0, 0).put_off()),
-        turn(0, handled(2, Kind::Cast, 0, 0)),
-        (Told::Turn(0), Idle),
+    let rows = [
+        Tells(Cast(13), Posted(1)),
+        Tells(Cast(14), Posted(2)),
+        Turns(0, 1, Kind::Cast, 0, 0, &[PutsOff]),
+        Turns(0, 2, Kind::Cast, 0, 0, &[]),
+        Tells(Turn(0), Idle),
     ];
     let end = postponing(1, 0, 7, 0);
-    answers_are(&rt, rt.alloc(), &BEGIN, &steps, &end);
-    rt.end();
+    answers_are(rt, &BEGIN, &rows, &end);
 }
 
 /// One event was posted before the insertion, and one is posted after it.
 #[test]
 fn inserted_events_come_before_posted_ones(rt: HostRuntime) {
-    let rt = Host::new(rt);
-    let steps = [
-        (cast(7), Posted(1)),
-        (cast(0), Posted(2)),
-        turn(0, handled(1, Kind::Cast, 0, 0).inserting(&[3, 4])),
-        (cast(0), Posted(5)),
-        turn(0, handled(3, Kind::Internal, 0, 0)),
-        turn(0, handled(4, Kind::Cast, 0, 0)),
-        turn(0, handled(2, Kind::Cast, 0, 0)),
-        turn(0, handled(5, Kind::Cast, 0, 0)),
-        (Told::Turn(0), Idle),
+    let rows = [
+        Tells(Cast(7), Posted(1)),
+        Tells(Cast(0), Posted(2)),
+        Turns(0, 1, Kind::Cast, 0, 0, &[Inserts(3), Inserts(4)]),
+        Tells(Cast(0), Posted(5)),
+        Turns(0, 3, Kind::Internal, 0, 0, &[]),
+        Turns(0, 4, Kind::Cast, 0, 0, &[]),
+        Turns(0, 2, Kind::Cast, 0, 0, &[]),
+        Turns(0, 5, Kind::Cast, 0, 0, &[]),
+        Tells(Turn(0), Idle),
     ];
-    answers_are(&rt, rt.alloc(), &BEGIN, &steps, &at_rest(0, 7, 0));
-    rt.end();
+    answers_are(rt, &BEGIN, &rows, &at_rest(0, 7, 0));
 }
 
 #[test]
 fn inserted_events_stand_behind_postponed_ones(rt: HostRuntime) {
-    let rt = Host::new(rt);
-    let steps = [
-        (cast(10), Posted(1)),
-        (cast(12), Posted(2)),
-        turn(0, handled(1, Kind::Cast, 0, 0).put_off()),
-        (cast(0), Posted(3)),
-        turn(0, handled(2, Kind::Cast, 0, 0).put_off().inserting(&[4, 5])),
-        turn(0, handled(4, Kind::Internal, 0, 0)),
-        turn(0, handled(5, Kind::Cast, 0, 0)),
-        turn(0, handled(3, Kind::Cast, 0, 0)),
-        (Told::Turn(0), Idle),
+    let rows = [
+        Tells(Cast(10), Posted(1)),
+        Tells(Cast(12), Posted(2)),
+        Turns(0, 1, Kind::Cast, 0, 0, &[PutsOff]),
+        Tells(Cast(0), Posted(3)),
+        Turns(0, 2, Kind::Cast, 0, 0, &[PutsOff, Inserts(4), Inserts(5)]),
+        Turns(0, 4, Kind::Internal, 0, 0, &[]),
+        Turns(0, 5, Kind::Cast, 0, 0, &[]),
+        Turns(0, 3, Kind::Cast, 0, 0, &[]),
+        Tells(Turn(0), Idle),
     ];
     let end = postponing(2, 0, 7, 0);
-    answers_are(&rt, rt.alloc(), &BEGIN, &steps, &end);
-    rt.end();
+    answers_are(rt, &BEGIN, &rows, &end);
 }
 
 /// What an inserted event inserts comes before what was inserted with it.
 #[test]
 fn inserted_events_come_before_inserted_ones(rt: HostRuntime) {
-    let rt = Host::new(rt);
-    let steps = [
-        (cast(8), Posted(1)),
-        turn(0, handled(1, Kind::Cast, 0, 0).inserting(&[2, 3])),
-        turn(0, handled(2, Kind::Internal, 0, 0).inserting(&[4, 5])),
-        turn(0, handled(4, Kind::Internal, 0, 0)),
-        turn(0, handled(5, Kind::Cast, 0, 0)),
-        turn(0, handled(3, Kind::Cast, 0, 0)),
-        (Told::Turn(0), Idle),
+    let rows = [
+        Tells(Cast(8), Posted(1)),
+        Turns(0, 1, Kind::Cast, 0, 0, &[Inserts(2), Inserts(3)]),
+        Turns(0, 2, Kind::Internal, 0, 0, &[Inserts(4), Inserts(5)]),
+        Turns(0, 4, Kind::Internal, 0, 0, &[]),
+        Turns(0, 5, Kind::Cast, 0, 0, &[]),
+        Turns(0, 3, Kind::Cast, 0, 0, &[]),
+        Tells(Turn(0), Idle),
     ];
-    answers_are(&rt, rt.alloc(), &BEGIN, &steps, &at_rest(0, 7, 0));
-    rt.end();
+    answers_are(rt, &BEGIN, &rows, &at_rest(0, 7, 0));
 }
 
 #[test]
 fn inserted_at_the_start_come_first(rt: HostRuntime) {
-    let rt = Host::new(rt);
-    let steps = [
-        (cast(0), Posted(7)),
-        turn(0, handled(5, Kind::Internal, 0, 0)),
-        turn(0, handled(6, Kind::Cast, 0, 0)),
-        turn(0, handled(7, Kind::Cast, 0, 0)),
-        (Told::Turn(0), Idle),
+    let rows = [
+        Tells(Cast(0), Posted(7)),
+        Turns(0, 5, Kind::Internal, 0, 0, &[]),
+        Turns(0, 6, Kind::Cast, 0, 0, &[]),
+        Turns(0, 7, Kind::Cast, 0, 0, &[]),
+        Tells(Turn(0), Idle),
     ];
     let begin = Begin {
         arg: 3,
@@ -200,24 +207,19 @@ fn inserted_at_the_start_come_first(rt: HostRuntime) {
         inserted: &[5, 6],
         ..BEGIN
     };
-    answers_are(&rt, rt.alloc(), &begin, &steps, &at_rest(0, 7, 12));
-    rt.end();
+    answers_are(rt, &begin, &rows, &at_rest(0, 7, 12));
 }
 
 /// Two events are to be inserted, and one number is left. A moment out of range is told first.
 #[test]
 fn inserts_need_numbers(rt: HostRuntime) {
-    let rt = Host::new(rt);
-    let steps = [
-        (cast(7), Posted(9_223_372_036_854_775_806)),
-        (Told::Turn(20), NotTurned(Refusal::Exhausted)),
-        (
-            Told::Turn(9_223_372_036_854_775_808),
-            NotTurned(Refusal::Moment),
-        ),
-        (Told::Turn(30), NotTurned(Refusal::Exhausted)),
-        (cast(0), Posted(9_223_372_036_854_775_807)),
-        (Told::Turn(40), NotTurned(Refusal::Exhausted)),
+    let rows = [
+        Tells(Cast(7), Posted(9_223_372_036_854_775_806)),
+        Tells(Turn(20), NotTurned(Refusal::Exhausted)),
+        Tells(Turn(9_223_372_036_854_775_808), NotTurned(Refusal::Moment)),
+        Tells(Turn(30), NotTurned(Refusal::Exhausted)),
+        Tells(Cast(0), Posted(9_223_372_036_854_775_807)),
+        Tells(Turn(40), NotTurned(Refusal::Exhausted)),
     ];
     let begin = Begin {
         now: 3,
@@ -229,32 +231,33 @@ fn inserts_need_numbers(rt: HostRuntime) {
         waiting: 2,
         ..at_rest(0, 7, 3)
     };
-    answers_are(&rt, rt.alloc(), &begin, &steps, &end);
-    rt.end();
+    answers_are(rt, &begin, &rows, &end);
 }
 
 #[test]
 fn the_last_numbers_are_inserted(rt: HostRuntime) {
-    let rt = Host::new(rt);
-    let steps = [
-        (cast(7), Posted(9_223_372_036_854_775_805)),
-        turn(
+    let rows = [
+        Tells(Cast(7), Posted(9_223_372_036_854_775_805)),
+        Turns(
             20,
-            handled(9_223_372_036_854_775_805, Kind::Cast, 0, 0).inserting(&[
-                9_223_372_036_854_775_806,
-                9_223_372_036_854_775_807,
-            ]),
+            9_223_372_036_854_775_805,
+            Kind::Cast,
+            0,
+            0,
+            &[
+                Inserts(9_223_372_036_854_775_806),
+                Inserts(9_223_372_036_854_775_807),
+            ],
         ),
-        (cast(6), NotPosted(Refusal::Exhausted, 6)),
-        turn(20, handled(9_223_372_036_854_775_806, Kind::Internal, 0, 0)),
-        turn(20, handled(9_223_372_036_854_775_807, Kind::Cast, 0, 0)),
-        (Told::Turn(20), Idle),
+        Tells(Cast(6), NotPosted(Refusal::Exhausted, 6)),
+        Turns(20, 9_223_372_036_854_775_806, Kind::Internal, 0, 0, &[]),
+        Turns(20, 9_223_372_036_854_775_807, Kind::Cast, 0, 0, &[]),
+        Tells(Turn(20), Idle),
     ];
     let begin = Begin {
         now: 3,
         first: Some(9_223_372_036_854_775_805),
         ..BEGIN
     };
-    answers_are(&rt, rt.alloc(), &begin, &steps, &at_rest(0, 7, 20));
-    rt.end();
+    answers_are(rt, &begin, &rows, &at_rest(0, 7, 20));
 }

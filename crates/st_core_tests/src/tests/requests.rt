@@ -1,28 +1,33 @@
 //! Calls, replies, and what is collected.
-use super::answers::{handled, handled_call, turn};
-use super::begin::{Begin, begun};
+use super::begin::Begin;
 use super::host::Host;
 use super::machine::Machine;
+use super::row::More::{Ends, Enters, Replies};
+use super::row::Row;
+use super::row::Row::{Tells, Turns};
 use super::seen::{Kept, Seen, keeps};
 use super::shown::Shown::{
     Closed, Collected, Gone, Idle, NotPosted, NotTurned, Posted, Replied, Stopped, Waiting,
 };
 use super::table::Table;
-use super::table_machine::{BEGIN, answers_are, at_end, at_rest, call, cast};
+use super::table_machine::{BEGIN, answers_are, at_end, at_rest};
 use super::tested::does;
-use super::told::{ID, Told, tag};
-use st_core::{Kind, MachineId, Refusal, Tag};
+use super::told::Told::{Call, Cast, Collect, Reply, Stop, Turn};
+use super::told::{FIRST, ID, SECOND, THIRD};
+use st_core::{Core, Kind, MachineId, Refusal, Tag};
+use std::alloc::Global;
+use std::process::Abort;
 
-/// The first request to the machine.
-const FIRST: Tag = Tag {
+/// The last request that a machine can get.
+const LAST: Tag = Tag {
     machine: ID,
-    request: 1,
+    request: 9_223_372_036_854_775_807,
 };
 
-/// The second request to the machine.
-const SECOND: Tag = Tag {
+/// A request that a machine cannot get.
+const BEYOND: Tag = Tag {
     machine: ID,
-    request: 2,
+    request: 9_223_372_036_854_775_808,
 };
 
 /// A request to another machine in the same place.
@@ -35,90 +40,83 @@ const FOREIGN: Tag = Tag {
 /// itself and to the second, which has its reply.
 #[test]
 fn a_stop_answers_some_and_closes_the_others(rt: HostRuntime) {
-    let rt = Host::new(rt);
-    let steps = [
-        (call(37), Posted(1)),
-        (call(0), Posted(2)),
-        (call(0), Posted(3)),
-        (Told::Reply(SECOND, 50), Replied(true)),
-        turn(0, handled_call(FIRST, 0, 0).ended(9, 7).replying(&[FIRST])),
-        (Told::Collect(FIRST), Collected(40)),
-        (Told::Collect(SECOND), Collected(50)),
-        (Told::Collect(tag(3)), Closed(9)),
-        (Told::Collect(tag(3)), Gone),
+    let rows = [
+        Tells(Call(37), Posted(1)),
+        Tells(Call(0), Posted(2)),
+        Tells(Call(0), Posted(3)),
+        Tells(Reply(SECOND, 50), Replied(true)),
+        Turns(0, 1, Kind::Call(FIRST), 0, 0, &[Ends(9, 7), Replies(FIRST)]),
+        Tells(Collect(FIRST), Collected(40)),
+        Tells(Collect(SECOND), Collected(50)),
+        Tells(Collect(THIRD), Closed(9)),
+        Tells(Collect(THIRD), Gone),
     ];
-    answers_are(&rt, rt.alloc(), &BEGIN, &steps, &at_end(9, 7, 7, 0));
-    rt.end();
+    answers_are(rt, &BEGIN, &rows, &at_end(9, 7, 7, 0));
 }
 
 #[test]
 fn a_reply_is_collected_once(rt: HostRuntime) {
-    let rt = Host::new(rt);
-    let steps = [
-        (call(5), Posted(1)),
-        (Told::Collect(FIRST), Waiting),
-        turn(4, handled_call(FIRST, 0, 0).replying(&[FIRST])),
-        (Told::Reply(FIRST, 8), Replied(false)),
-        (Told::Collect(FIRST), Collected(50)),
-        (Told::Collect(FIRST), Gone),
-        (Told::Reply(FIRST, 9), Replied(false)),
-        (Told::Collect(FIRST), Gone),
-        (Told::Turn(5), Idle),
+    let rows = [
+        Tells(Call(5), Posted(1)),
+        Tells(Collect(FIRST), Waiting),
+        Turns(4, 1, Kind::Call(FIRST), 0, 0, &[Replies(FIRST)]),
+        Tells(Reply(FIRST, 8), Replied(false)),
+        Tells(Collect(FIRST), Collected(50)),
+        Tells(Collect(FIRST), Gone),
+        Tells(Reply(FIRST, 9), Replied(false)),
+        Tells(Collect(FIRST), Gone),
+        Tells(Turn(5), Idle),
     ];
-    answers_are(&rt, rt.alloc(), &BEGIN, &steps, &at_rest(0, 7, 5));
-    rt.end();
+    answers_are(rt, &BEGIN, &rows, &at_rest(0, 7, 5));
 }
 
 /// Two replies to one request in one list, and then a reply from outside.
 #[test]
 fn the_first_reply_is_taken(rt: HostRuntime) {
-    let rt = Host::new(rt);
-    let steps = [
-        (call(39), Posted(1)),
-        turn(0, handled_call(FIRST, 0, 0).replying(&[FIRST])),
-        (Told::Reply(FIRST, 9), Replied(false)),
-        (Told::Collect(FIRST), Collected(50)),
+    let rows = [
+        Tells(Call(39), Posted(1)),
+        Turns(0, 1, Kind::Call(FIRST), 0, 0, &[Replies(FIRST)]),
+        Tells(Reply(FIRST, 9), Replied(false)),
+        Tells(Collect(FIRST), Collected(50)),
     ];
-    answers_are(&rt, rt.alloc(), &BEGIN, &steps, &at_rest(0, 7, 0));
-    rt.end();
+    answers_are(rt, &BEGIN, &rows, &at_rest(0, 7, 0));
 }
 
 /// A cast whose number a tag has, a number that was not given, a request to another machine.
 #[test]
 fn a_reply_to_an_unknown_tag_is_let_go(rt: HostRuntime) {
-    let rt = Host::new(rt);
-    let steps = [
-        (cast(0), Posted(1)),
-        (call(40), Posted(2)),
-        (Told::Reply(FIRST, 5), Replied(false)),
-        (Told::Reply(tag(3), 5), Replied(false)),
-        (Told::Reply(FOREIGN, 5), Replied(false)),
-        (Told::Collect(FIRST), Gone),
-        (Told::Collect(FOREIGN), Gone),
-        turn(0, handled(1, Kind::Cast, 0, 0)),
-        turn(0, handled_call(SECOND, 0, 0)),
-        (Told::Collect(SECOND), Waiting),
-        (Told::Collect(FOREIGN), Gone),
+    let rows = [
+        Tells(Cast(0), Posted(1)),
+        Tells(Call(40), Posted(2)),
+        Tells(Reply(FIRST, 5), Replied(false)),
+        Tells(Reply(THIRD, 5), Replied(false)),
+        Tells(Reply(FOREIGN, 5), Replied(false)),
+        Tells(Collect(FIRST), Gone),
+        Tells(Collect(FOREIGN), Gone),
+        Turns(0, 1, Kind::Cast, 0, 0, &[]),
+        Turns(0, 2, Kind::Call(SECOND), 0, 0, &[]),
+        Tells(Collect(SECOND), Waiting),
+        Tells(Collect(FOREIGN), Gone),
     ];
-    answers_are(&rt, rt.alloc(), &BEGIN, &steps, &at_rest(0, 7, 0));
-    rt.end();
+    answers_are(rt, &BEGIN, &rows, &at_rest(0, 7, 0));
 }
 
 /// `handle` replies to the second request, and `enter` after it to the first.
 #[test]
 fn replies_of_an_enter_call_come_later(rt: HostRuntime) {
-    let rt = Host::new(rt);
-    let steps = [
-        (call(38), Posted(1)),
-        (call(0), Posted(2)),
-        turn(
+    let rows = [
+        Tells(Call(38), Posted(1)),
+        Tells(Call(0), Posted(2)),
+        Turns(
             0,
-            handled_call(FIRST, 0, 1)
-                .entered()
-                .replying(&[SECOND, FIRST]),
+            1,
+            Kind::Call(FIRST),
+            0,
+            1,
+            &[Enters, Replies(SECOND), Replies(FIRST)],
         ),
-        (Told::Collect(FIRST), Collected(62)),
-        (Told::Collect(SECOND), Collected(52)),
+        Tells(Collect(FIRST), Collected(62)),
+        Tells(Collect(SECOND), Collected(52)),
     ];
     let begin = Begin {
         module: Table { number: 65 },
@@ -129,28 +127,27 @@ fn replies_of_an_enter_call_come_later(rt: HostRuntime) {
         waiting: 1,
         ..at_rest(1, 7, 0)
     };
-    answers_are(&rt, rt.alloc(), &begin, &steps, &end);
-    rt.end();
+    answers_are(rt, &begin, &rows, &end);
 }
 
 /// `handle` replies to the second request, and the enter call stops with a reply to the first.
 #[test]
 fn an_enter_call_stops_with_the_replies_of_both(rt: HostRuntime) {
-    let rt = Host::new(rt);
-    let steps = [
-        (call(38), Posted(1)),
-        (call(0), Posted(2)),
-        (call(0), Posted(3)),
-        turn(
+    let rows = [
+        Tells(Call(38), Posted(1)),
+        Tells(Call(0), Posted(2)),
+        Tells(Call(0), Posted(3)),
+        Turns(
             0,
-            handled_call(FIRST, 0, 1)
-                .entered()
-                .ended(4, 8)
-                .replying(&[SECOND, FIRST]),
+            1,
+            Kind::Call(FIRST),
+            0,
+            1,
+            &[Enters, Ends(4, 8), Replies(SECOND), Replies(FIRST)],
         ),
-        (Told::Collect(FIRST), Collected(61)),
-        (Told::Collect(SECOND), Collected(52)),
-        (Told::Collect(tag(3)), Closed(4)),
+        Tells(Collect(FIRST), Collected(61)),
+        Tells(Collect(SECOND), Collected(52)),
+        Tells(Collect(THIRD), Closed(4)),
     ];
     let begin = Begin {
         module: Table { number: 71 },
@@ -160,69 +157,70 @@ fn an_enter_call_stops_with_the_replies_of_both(rt: HostRuntime) {
         ended: Some((4, 8)),
         ..at_rest(1, 8, 0)
     };
-    answers_are(&rt, rt.alloc(), &begin, &steps, &end);
-    rt.end();
+    answers_are(rt, &begin, &rows, &end);
 }
 
 /// A reply that was kept stays, and the open request is closed. From then on no reply is taken.
 #[test]
 fn a_stop_from_outside_closes_open_requests(rt: HostRuntime) {
-    let rt = Host::new(rt);
-    let steps = [
-        (call(0), Posted(1)),
-        (call(0), Posted(2)),
-        (Told::Reply(FIRST, 6), Replied(true)),
-        (Told::Stop(5), Stopped(7)),
-        (Told::Reply(SECOND, 6), Replied(false)),
-        (call(3), NotPosted(Refusal::Stopped(5), 3)),
-        (Told::Turn(0), NotTurned(Refusal::Stopped(5))),
-        (Told::Collect(SECOND), Closed(5)),
-        (Told::Collect(SECOND), Gone),
-        (Told::Collect(FIRST), Collected(6)),
-        (Told::Collect(FIRST), Gone),
+    let rows = [
+        Tells(Call(0), Posted(1)),
+        Tells(Call(0), Posted(2)),
+        Tells(Reply(FIRST, 6), Replied(true)),
+        Tells(Stop(5), Stopped(7)),
+        Tells(Reply(SECOND, 6), Replied(false)),
+        Tells(Call(3), NotPosted(Refusal::Stopped(5), 3)),
+        Tells(Turn(0), NotTurned(Refusal::Stopped(5))),
+        Tells(Collect(SECOND), Closed(5)),
+        Tells(Collect(SECOND), Gone),
+        Tells(Collect(FIRST), Collected(6)),
+        Tells(Collect(FIRST), Gone),
     ];
-    answers_are(&rt, rt.alloc(), &BEGIN, &steps, &at_end(5, 7, 7, 0));
-    rt.end();
+    answers_are(rt, &BEGIN, &rows, &at_end(5, 7, 7, 0));
+}
+
+/// Does the commands of rows, and looks after each which reply is kept for the second request.
+fn keeps_second<T: Machine>(rt: &Host<impl Abort>, alloc: Global, rows: &[(Row, Option<u32>)]) {
+    let mut machine = T::begun(rt, alloc, &BEGIN);
+    for (row, second) in rows {
+        does(rt, &mut machine, row.told(), &row.wanted());
+        let wanted = Kept {
+            second: *second,
+            ..Kept::none()
+        };
+        keeps(rt, &machine.kept(), &wanted);
+    }
 }
 
 /// A reply is shown as often as is asked, until it is collected.
 #[test]
 fn a_reply_is_shown(rt: HostRuntime) {
     let rt = Host::new(rt);
-    let mut core = begun(&rt, rt.alloc(), &BEGIN);
-    does(&rt, &mut core, call(0), &Posted(1));
-    does(&rt, &mut core, call(0), &Posted(2));
-    keeps(&rt, &core.kept(), &Kept::none());
-    does(&rt, &mut core, Told::Reply(SECOND, 6), &Replied(true));
-    let shown = Kept {
-        second: Some(6),
-        ..Kept::none()
-    };
-    keeps(&rt, &core.kept(), &shown);
-    does(&rt, &mut core, Told::Stop(5), &Stopped(7));
-    keeps(&rt, &core.kept(), &shown);
-    does(&rt, &mut core, Told::Collect(SECOND), &Collected(6));
-    keeps(&rt, &core.kept(), &Kept::none());
+    let rows = [
+        (Tells(Call(0), Posted(1)), None),
+        (Tells(Call(0), Posted(2)), None),
+        (Tells(Reply(SECOND, 6), Replied(true)), Some(6)),
+        (Tells(Stop(5), Stopped(7)), Some(6)),
+        (Tells(Collect(SECOND), Collected(6)), None),
+    ];
+    keeps_second::<Core<Table>>(&rt, rt.alloc(), &rows);
     rt.end();
 }
 
 /// A call that comes where the last number is given.
 #[test]
 fn a_call_takes_the_last_number(rt: HostRuntime) {
-    let rt = Host::new(rt);
-    let last = tag(9_223_372_036_854_775_807);
-    let steps = [
-        (call(0), Posted(9_223_372_036_854_775_807)),
-        (call(6), NotPosted(Refusal::Exhausted, 6)),
-        (Told::Reply(last, 4), Replied(true)),
-        turn(0, handled_call(last, 0, 0)),
-        (Told::Collect(last), Collected(4)),
-        (Told::Collect(tag(9_223_372_036_854_775_808)), Gone),
+    let rows = [
+        Tells(Call(0), Posted(9_223_372_036_854_775_807)),
+        Tells(Call(6), NotPosted(Refusal::Exhausted, 6)),
+        Tells(Reply(LAST, 4), Replied(true)),
+        Turns(0, 9_223_372_036_854_775_807, Kind::Call(LAST), 0, 0, &[]),
+        Tells(Collect(LAST), Collected(4)),
+        Tells(Collect(BEYOND), Gone),
     ];
     let begin = Begin {
         first: Some(9_223_372_036_854_775_807),
         ..BEGIN
     };
-    answers_are(&rt, rt.alloc(), &begin, &steps, &at_rest(0, 7, 0));
-    rt.end();
+    answers_are(rt, &begin, &rows, &at_rest(0, 7, 0));
 }

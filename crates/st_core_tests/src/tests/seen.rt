@@ -3,44 +3,43 @@ use super::few::Few;
 use super::host::{Host, same};
 use st_core::{Due, Reason, Timer};
 use std::alloc::AllocError;
-use std::fmt::Debug;
 use std::process::Abort;
 
 /// What can be read of a machine but its replies and time-outs.
 #[derive(Copy, Debug, PartialEq, Eq)]
-pub struct Seen<S, D> {
+pub struct Seen {
     pub is_ready: bool,
-    pub state: S,
-    pub held: D,
+    pub state: u32,
+    pub held: u32,
     pub latest: u64,
     pub waiting: usize,
     pub ended: Option<(Reason, u32)>,
 }
 
-impl<S: Copy, D: Copy> Clone for Seen<S, D> {
-    fn clone(&self) -> Result<Seen<S, D>, AllocError> {
+impl Clone for Seen {
+    fn clone(&self) -> Result<Seen, AllocError> {
         Ok(*self)
     }
 }
 
 /// The replies that are kept for the first four requests, where there are some.
 #[derive(Copy, Debug, PartialEq, Eq)]
-pub struct Kept<C> {
-    pub first: Option<C>,
-    pub second: Option<C>,
-    pub third: Option<C>,
-    pub fourth: Option<C>,
+pub struct Kept {
+    pub first: Option<u32>,
+    pub second: Option<u32>,
+    pub third: Option<u32>,
+    pub fourth: Option<u32>,
 }
 
-impl<C: Copy> Clone for Kept<C> {
-    fn clone(&self) -> Result<Kept<C>, AllocError> {
+impl Clone for Kept {
+    fn clone(&self) -> Result<Kept, AllocError> {
         Ok(*self)
     }
 }
 
-impl<C> Kept<C> {
+impl Kept {
     /// No reply is kept.
-    pub fn none() -> Kept<C> {
+    pub fn none() -> Kept {
         Kept {
             first: None,
             second: None,
@@ -55,34 +54,25 @@ pub type Running = (Timer, u64, Due);
 
 /// All that can be read of a machine.
 #[derive(Copy, Debug, PartialEq, Eq)]
-pub struct Whole<S, D, C> {
-    pub seen: Seen<S, D>,
-    pub kept: Kept<C>,
+pub struct Whole {
+    pub seen: Seen,
+    pub kept: Kept,
     pub timers: Few<Running>,
 }
 
-impl<S: Copy, D: Copy, C: Copy> Clone for Whole<S, D, C> {
-    fn clone(&self) -> Result<Whole<S, D, C>, AllocError> {
+impl Clone for Whole {
+    fn clone(&self) -> Result<Whole, AllocError> {
         Ok(*self)
     }
 }
 
 /// Looks that all is the same that can be read of a machine.
-pub fn is_all<S: Eq + Debug, D: Eq + Debug, C: Eq + Debug>(
-    rt: &Host<impl Abort>,
-    whole: &Whole<S, D, C>,
-    wanted: &Whole<S, D, C>,
-) {
+pub fn is_all(rt: &Host<impl Abort>, whole: &Whole, wanted: &Whole) {
     same(rt, "all that can be read", whole, wanted);
 }
 
 /// Looks that commands end as is wanted, with these time-outs.
-pub fn ends<S: Eq + Debug, D: Eq + Debug, C>(
-    rt: &Host<impl Abort>,
-    whole: &Whole<S, D, C>,
-    seen: &Seen<S, D>,
-    timers: &[Running],
-) {
+pub fn ends(rt: &Host<impl Abort>, whole: &Whole, seen: &Seen, timers: &[Running]) {
     sees(rt, &whole.seen, seen);
     same(
         rt,
@@ -93,15 +83,11 @@ pub fn ends<S: Eq + Debug, D: Eq + Debug, C>(
 }
 
 /// Looks that a machine is seen as is wanted.
-pub fn sees<S: Eq + Debug, D: Eq + Debug>(
-    rt: &Host<impl Abort>,
-    seen: &Seen<S, D>,
-    wanted: &Seen<S, D>,
-) {
+pub fn sees(rt: &Host<impl Abort>, seen: &Seen, wanted: &Seen) {
     same(rt, "what is seen", seen, wanted);
 }
 
 /// Looks that the replies that are kept are those that are wanted.
-pub fn keeps<C: Eq + Debug>(rt: &Host<impl Abort>, kept: &Kept<C>, wanted: &Kept<C>) {
+pub fn keeps(rt: &Host<impl Abort>, kept: &Kept, wanted: &Kept) {
     same(rt, "the replies that are kept", kept, wanted);
 }

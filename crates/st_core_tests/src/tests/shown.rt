@@ -1,25 +1,22 @@
 //! Answers and reports as values that can be copied and compared.
 use super::few::Few;
 use super::host::{Host, same};
-use st_core::{
-    Answer, Call, Collected, Done, Kind, Reason, Refusal, Report, Tag, Time, Timer, Turned,
-};
+use st_core::{Answer, Call, Collected, Done, Reason, Refusal, Report, Tag, Time, Timer, Turned};
 use std::alloc::AllocError;
-use std::fmt::Debug;
 use std::process::Abort;
 
 /// What a command answers.
 #[derive(Copy, Debug, PartialEq, Eq)]
-pub enum Shown<S, C> {
+pub enum Shown {
     /// A post is accepted, and its event gets this number.
     Posted(u64),
     /// A post is refused, and its content comes back.
-    NotPosted(Refusal, C),
+    NotPosted(Refusal, u32),
     /// At a tick so many time-outs expire.
     Ticked(u64),
     NotTicked(Refusal),
     /// A turn handles an event.
-    Reported(Did<S>),
+    Reported(Did),
     /// A turn finds no event.
     Idle,
     NotTurned(Refusal),
@@ -28,7 +25,7 @@ pub enum Shown<S, C> {
     /// The request that is collected is open.
     Waiting,
     /// A reply is collected.
-    Collected(C),
+    Collected(u32),
     /// The request that is collected was open when the machine ended.
     Closed(Reason),
     /// Nothing is kept for the request that is collected.
@@ -38,33 +35,33 @@ pub enum Shown<S, C> {
     NotStopped(Refusal),
 }
 
-impl<S: Copy, C: Copy> Clone for Shown<S, C> {
-    fn clone(&self) -> Result<Shown<S, C>, AllocError> {
+impl Clone for Shown {
+    fn clone(&self) -> Result<Shown, AllocError> {
         Ok(*self)
     }
 }
 
 /// What a start or a turn does.
 #[derive(Copy, Debug, PartialEq, Eq)]
-pub struct Did<S> {
+pub struct Did {
     pub event: Option<u64>,
     pub done: Done,
-    pub calls: Few<Call<S>>,
-    pub before: S,
-    pub after: S,
+    pub calls: Few<Call<u32>>,
+    pub before: u32,
+    pub after: u32,
     pub replied: Few<Tag>,
     pub inserted: Few<u64>,
     pub set: Few<(Timer, Time)>,
 }
 
-impl<S: Copy> Clone for Did<S> {
-    fn clone(&self) -> Result<Did<S>, AllocError> {
+impl Clone for Did {
+    fn clone(&self) -> Result<Did, AllocError> {
         Ok(*self)
     }
 }
 
 /// A report, as a value that can be compared.
-pub fn read_report<S: Copy>(report: &Report<S>) -> Did<S> {
+pub fn read_report(report: &Report<u32>) -> Did {
     Did {
         event: report.event,
         done: report.done,
@@ -78,7 +75,7 @@ pub fn read_report<S: Copy>(report: &Report<S>) -> Did<S> {
 }
 
 /// What was collected, as a value that can be compared.
-fn read_collected<S, C: Copy>(collected: &Collected<C>) -> Shown<S, C> {
+fn read_collected(collected: &Collected<u32>) -> Shown {
     match collected {
         Collected::Waiting => Shown::Waiting,
         Collected::Reply(content) => Shown::Collected(*content),
@@ -88,7 +85,7 @@ fn read_collected<S, C: Copy>(collected: &Collected<C>) -> Shown<S, C> {
 }
 
 /// An answer, as a value that can be compared.
-pub fn read<S: Copy, C: Copy>(answer: &Answer<S, C>) -> Shown<S, C> {
+pub fn read(answer: &Answer<u32, u32>) -> Shown {
     match answer {
         Answer::Post(Ok(number)) => Shown::Posted(*number),
         Answer::Post(Err(refused)) => Shown::NotPosted(refused.refusal, refused.value),
@@ -106,20 +103,16 @@ pub fn read<S: Copy, C: Copy>(answer: &Answer<S, C>) -> Shown<S, C> {
 
 /// Looks that an answer is the one that is wanted. Each look at a machine's answer is this one, for the traits
 /// of all these types are found once, here.
-pub fn agree<S: Copy + Eq + Debug, C: Copy + Eq + Debug>(
-    rt: &Host<impl Abort>,
-    answer: &Answer<S, C>,
-    wanted: &Shown<S, C>,
-) {
+pub fn agree(rt: &Host<impl Abort>, answer: &Answer<u32, u32>, wanted: &Shown) {
     same(rt, "the answer", &read(answer), wanted);
 }
 
 /// Looks that a report says what is wanted.
-pub fn reports<S: Copy + Eq + Debug>(rt: &Host<impl Abort>, report: &Report<S>, wanted: &Did<S>) {
+pub fn reports(rt: &Host<impl Abort>, report: &Report<u32>, wanted: &Did) {
     same(rt, "the report", &read_report(report), wanted);
 }
 
-impl<S, C> Shown<S, C> {
+impl Shown {
     /// Why a command is refused, if it is.
     pub fn refusal(&self) -> Option<Refusal> {
         match self {

@@ -1,31 +1,46 @@
 //! Snapshots.
-use super::answers::{handled, handled_call, turn};
-use super::begin::begun;
-use super::host::{Host, holds, same};
-use super::machine::read_all;
+use super::host::{Host, got, holds, same};
+use super::machine::{Machine, read_all};
+use super::row::More::{Inserts, PutsOff, Replies, Sets};
+use super::row::Row;
+use super::row::Row::{Tells, Turns};
 use super::seen::is_all;
 use super::shown::Shown::{Posted, Stopped, Ticked};
 use super::table::Table;
-use super::table_machine::{BEGIN, call, cast};
-use super::tested::does;
-use super::told::{ID, Told, tag};
-use st_core::{
-    Core, Due, Event, Item, Kind, Refusal, Request, RequestState, Running, Snapshot, Time, Timer,
-};
+use super::table_machine::BEGIN;
+use super::tested::{does, play};
+use super::told::Told::{Call, Cast, Stop, Tick};
+use super::told::{FIRST, ID, SECOND};
+use st_core::Time::After;
+use st_core::Timer::Named;
+use st_core::{Core, Due, Event, Item, Kind, Refusal, Request, RequestState, Running, Snapshot};
 use std::alloc::Global;
 use std::process::Abort;
 
+/// A machine's snapshot, made again where it found no memory.
+fn snapped_again<T: Machine>(
+    rt: &Host<impl Abort>,
+    machine: &mut T,
+    refusal: Refusal,
+) -> Snapshot<Table> {
+    holds(rt, "memory was refused", refusal == Refusal::NoMemory);
+    rt.retry();
+    got(
+        rt,
+        "one allocation alone is refused",
+        machine.try_snapshot(),
+    )
+}
+
 /// A machine's snapshot, which changes nothing that can be read. Where it finds no memory, it is made again.
-fn snapped(rt: &Host<impl Abort>, machine: &mut Core<Table>) -> Snapshot<Table> {
+fn snapped<T: Machine>(rt: &Host<impl Abort>, machine: &mut T) -> Snapshot<Table> {
     let before = read_all(rt, machine);
-    let mut snapshot = machine.snapshot();
+    let snapshot = machine.try_snapshot();
     is_all(rt, &read_all(rt, machine), &before);
-    if let Err(refusal) = &snapshot {
-        holds(rt, "memory was refused", *refusal == Refusal::NoMemory);
-        rt.retry();
-        snapshot = machine.snapshot();
+    match snapshot {
+        Ok(snapshot) => snapshot,
+        Err(refusal) => snapped_again(rt, machine, refusal),
     }
-    snapshot.expect(rt, "one allocation alone is refused")
 }
 
 /// A cast with its number and its content.
@@ -37,42 +52,16 @@ fn a_cast(number: u64, content: u32) -> Event<u32> {
     }
 }
 
-/// A machine with a reply that is kept and a request that is open, an event that is postponed, one that was inserted,
-/// one that was posted, and an expiry that waits.
-fn with_all(rt: &Host<impl Abort>, alloc: Global) -> Core<Table> {
-    let steps = [
-        (call(5), Posted(1)),
-        (call(0), Posted(2)),
-        (cast(26), Posted(3)),
-        (cast(12), Posted(4)),
-        (cast(0), Posted(5)),
-        turn(0, handled_call(tag(1), 0, 0).replying(&[tag(1)])),
-        turn(0, handled_call(tag(2), 0, 0)),
-        turn(
-            0,
-            handled(3, Kind::Cast, 0, 0).setting(&[(Timer::Named(1), Time::After(5))]),
-        ),
-        turn(0, handled(4, Kind::Cast, 0, 0).put_off().inserting(&[7, 8])),
-        turn(0, handled(7, Kind::Internal, 0, 0)),
-        (Told::Tick(5), Ticked(1)),
-    ];
-    let mut machine = begun(rt, alloc, &BEGIN);
-    for (told, wanted) in &steps {
-        does(rt, &mut machine, *told, wanted);
-    }
-    machine
-}
-
 /// Looks at the events and the time-outs of its snapshot.
 fn schedule_is_whole(rt: &Host<impl Abort>, whole: &Snapshot<Table>) {
     let pending = [
         Item::Received(a_cast(4, 12)),
         Item::Received(a_cast(8, 21)),
         Item::Posted(a_cast(5, 0)),
-        Item::Expiry(Timer::Named(1)),
+        Item::Expiry(Named(1)),
     ];
     let running = [Running {
-        timer: Timer::Named(1),
+        timer: Named(1),
         number: 6,
         due: Due::At(5),
         content: 0,
@@ -91,11 +80,11 @@ fn schedule_is_whole(rt: &Host<impl Abort>, whole: &Snapshot<Table>) {
 fn requests_are_whole(rt: &Host<impl Abort>, whole: &Snapshot<Table>) {
     let requests = [
         Request {
-            tag: tag(1),
+            tag: FIRST,
             held: RequestState::Reply(50),
         },
         Request {
-            tag: tag(2),
+            tag: SECOND,
             held: RequestState::Open,
         },
     ];
@@ -106,7 +95,7 @@ fn requests_are_whole(rt: &Host<impl Abort>, whole: &Snapshot<Table>) {
 /// Looks at the snapshot that follows a stop.
 fn is_closed(rt: &Host<impl Abort>, end: &Snapshot<Table>) {
     let closed = Request {
-        tag: tag(2),
+        tag: SECOND,
         held: RequestState::Stopped(9),
     };
     holds(
@@ -119,23 +108,54 @@ fn is_closed(rt: &Host<impl Abort>, end: &Snapshot<Table>) {
     holds(rt, "the open one is closed", is_closed);
 }
 
-/// A snapshot of a machine, another of the same, and one after it is stopped.
+/// Looks at a machine's snapshot.
+fn is_whole(rt: &Host<impl Abort>, whole: &Snapshot<Table>) {
+    holds(rt, "the id", whole.id == ID);
+    let parts = (whole.state, whole.data, whole.latest);
+    same(rt, "state, data and moment", &parts, &(0, 7, 5));
+    schedule_is_whole(rt, whole);
+    requests_are_whole(rt, whole);
+    holds(rt, "it runs", whole.ended == None);
+}
+
+/// Looks at another snapshot of a machine, and at one after it is stopped.
+fn snapshots_follow<T: Machine>(rt: &Host<impl Abort>, machine: &mut T, whole: &Snapshot<Table>) {
+    let again = snapped(rt, machine);
+    holds(rt, "another snapshot is equal", *whole == again);
+    does(rt, machine, Stop(9), &Stopped(7));
+    let end = snapped(rt, machine);
+    holds(rt, "the end is another", *whole != end);
+    is_closed(rt, &end);
+}
+
+/// Looks at the snapshots of a machine that has done the commands of rows.
+fn is_snapped<T: Machine>(rt: &Host<impl Abort>, alloc: Global, rows: &[Row]) {
+    let mut machine = T::begun(rt, alloc, &BEGIN);
+    play(rt, &mut machine, rows);
+    let whole = snapped(rt, &mut machine);
+    is_whole(rt, &whole);
+    snapshots_follow(rt, &mut machine, &whole);
+}
+
+/// A snapshot of a machine, another of the same, and one after it is stopped. The machine has a reply that is kept and
+/// a request that is open, an event that is postponed, one that was inserted, one that was posted, and an expiry that
+/// waits.
 #[test]
 fn a_snapshot_is_the_whole_machine(rt: HostRuntime) {
     let rt = Host::new(rt);
-    let mut machine = with_all(&rt, rt.alloc());
-    let whole = snapped(&rt, &mut machine);
-    holds(&rt, "the id", whole.id == ID);
-    let parts = (whole.state, whole.data, whole.latest);
-    same(&rt, "state, data and moment", &parts, &(0, 7, 5));
-    schedule_is_whole(&rt, &whole);
-    requests_are_whole(&rt, &whole);
-    holds(&rt, "it runs", whole.ended == None);
-    let again = snapped(&rt, &mut machine);
-    holds(&rt, "another snapshot is equal", whole == again);
-    does(&rt, &mut machine, Told::Stop(9), &Stopped(7));
-    let end = snapped(&rt, &mut machine);
-    holds(&rt, "the end is another", whole != end);
-    is_closed(&rt, &end);
+    let rows = [
+        Tells(Call(5), Posted(1)),
+        Tells(Call(0), Posted(2)),
+        Tells(Cast(26), Posted(3)),
+        Tells(Cast(12), Posted(4)),
+        Tells(Cast(0), Posted(5)),
+        Turns(0, 1, Kind::Call(FIRST), 0, 0, &[Replies(FIRST)]),
+        Turns(0, 2, Kind::Call(SECOND), 0, 0, &[]),
+        Turns(0, 3, Kind::Cast, 0, 0, &[Sets(Named(1), After(5))]),
+        Turns(0, 4, Kind::Cast, 0, 0, &[PutsOff, Inserts(7), Inserts(8)]),
+        Turns(0, 7, Kind::Internal, 0, 0, &[]),
+        Tells(Tick(5), Ticked(1)),
+    ];
+    is_snapped::<Core<Table>>(&rt, rt.alloc(), &rows);
     rt.end();
 }

@@ -1,5 +1,5 @@
 //! The module by a table: each content has its outcome, each argument its start.
-ghost use Rattle.std.specs.Prelude.{◌≡◌, true, [], ◌∷◌, IfOk, refl};
+ghost use Rattle.std.specs.Prelude.{◌≡◌, true, [], ◌∷◌, ◌++◌, IfOk, refl};
 ghost use Rattle.std.proofs.Common.{rules};
 ghost use Rattle.st_events.specs.declared.action.Action.TheVariants as action;
 ghost use Rattle.st_events.specs.declared.enter_action.EnterAction.TheVariants as enter_action;
@@ -9,7 +9,7 @@ ghost use Rattle.st_core_tests.specs.WorkedTable.{first_tag, second_tag, five_ac
 
 use st_core::{
     Action, Actions, EnterAction, EnterActions, EnterOutcome, Init, Kind, MachineId, Module,
-    Outcome, Reason, Replies, Tag, Time, Timer,
+    Outcome, Reason, SmallList, Tag, Time, Timer,
 };
 use std::alloc::{AllocError, Global};
 
@@ -107,36 +107,37 @@ pub struct Table {
     pub number: u64,
 }
 
+/// A list with one element more.
+fn with<T: Drop>(list: SmallList<T>, element: T) -> Result<SmallList<T>, AllocError>
+    ensures { IfOk result (λ longer. longer ≡ list ++ element ∷ []) }
+{
+    let mut longer = list;
+    longer.push(element)?;
+    Ok(longer)
+}
+
+/// A list of one element.
+fn one<T: Drop>(alloc: Global, first: T) -> Result<SmallList<T>, AllocError>
+    ensures { IfOk result (λ list. list ≡ first ∷ []) }
+{
+    with(SmallList::new(alloc), first)
+}
+
+/// A list of two elements.
+fn two<T: Drop>(alloc: Global, first: T, second: T) -> Result<SmallList<T>, AllocError>
+    ensures { IfOk result (λ list. list ≡ first ∷ second ∷ []) }
+{
+    with(one(alloc, first)?, second)
+}
+
 /// Five hibernations, one action more than a list holds without memory.
 fn five(alloc: Global) -> Result<Actions<u32>, AllocError>
     ensures { IfOk result (λ actions. actions ≡ five_actions) }
 {
-    let mut actions = Actions::new(alloc);
-    actions.push(Action::Hibernate)?;
-    actions.push(Action::Hibernate)?;
-    actions.push(Action::Hibernate)?;
-    actions.push(Action::Hibernate)?;
-    actions.push(Action::Hibernate)?;
-    Ok(actions)
-}
-
-/// One action.
-fn one(alloc: Global, first: Action<u32>) -> Result<Actions<u32>, AllocError>
-    ensures { IfOk result (λ actions. actions ≡ first ∷ []) }
-{
-    let mut actions = Actions::new(alloc);
-    actions.push(first)?;
-    Ok(actions)
-}
-
-/// Two actions.
-fn two(alloc: Global, first: Action<u32>, second: Action<u32>) -> Result<Actions<u32>, AllocError>
-    ensures { IfOk result (λ actions. actions ≡ first ∷ second ∷ []) }
-{
-    let mut actions = Actions::new(alloc);
-    actions.push(first)?;
-    actions.push(second)?;
-    Ok(actions)
+    let actions = two(alloc, Action::Hibernate, Action::Hibernate)?;
+    let actions = with(actions, Action::Hibernate)?;
+    let actions = with(actions, Action::Hibernate)?;
+    with(actions, Action::Hibernate)
 }
 
 /// Two events are inserted.
@@ -150,24 +151,12 @@ fn inserts(alloc: Global) -> Result<Actions<u32>, AllocError>
     )
 }
 
-/// The event is postponed, and two are inserted.
-fn postpone_and_inserts(alloc: Global) -> Result<Actions<u32>, AllocError>
-    ensures { IfOk result (λ actions. actions ≡ action.Postpone true ∷ two_inserts) }
+/// Two events are inserted behind one action.
+fn with_inserts(alloc: Global, first: Action<u32>) -> Result<Actions<u32>, AllocError>
+    ensures { IfOk result (λ actions. actions ≡ first ∷ two_inserts) }
 {
-    let mut actions = Actions::new(alloc);
-    actions.push(Action::Postpone(true))?;
-    actions.push(Action::NextEvent(Kind::Internal, 20))?;
-    actions.push(Action::NextEvent(Kind::Cast, 21))?;
-    Ok(actions)
-}
-
-/// A reply of 40.
-fn last_reply(alloc: Global) -> Result<Replies<u32>, AllocError>
-    ensures { IfOk result (λ replies. replies ≡ (first_tag, 40) ∷ []) }
-{
-    let mut replies = Replies::new(alloc);
-    replies.push((TAG, 40))?;
-    Ok(replies)
+    let actions = two(alloc, first, Action::NextEvent(Kind::Internal, 20))?;
+    with(actions, Action::NextEvent(Kind::Cast, 21))
 }
 
 /// A timer is set to come with the content 0.
@@ -181,20 +170,9 @@ fn set(timer: Timer, milliseconds: u32) -> Action<u32>
 fn postpone_and_settings(alloc: Global) -> Result<Actions<u32>, AllocError>
     ensures { IfOk result (λ actions. actions ≡ action.Postpone true ∷ action.Set (timer.Named 1) (time.After 5) 0 ∷ action.Set timer.State (time.After 10) 0 ∷ action.Set (timer.Named 2) (time.After 5) 0 ∷ []) }
 {
-    let mut actions = two(alloc, Action::Postpone(true), set(Timer::Named(1), 5))?;
-    actions.push(set(Timer::State, 10))?;
-    actions.push(set(Timer::Named(2), 5))?;
-    Ok(actions)
-}
-
-/// Replies to both requests.
-fn two_replies(alloc: Global) -> Result<Replies<u32>, AllocError>
-    ensures { IfOk result (λ replies. replies ≡ (first_tag, 40) ∷ (second_tag, 51) ∷ []) }
-{
-    let mut replies = Replies::new(alloc);
-    replies.push((TAG, 40))?;
-    replies.push((SECOND, 51))?;
-    Ok(replies)
+    let actions = two(alloc, Action::Postpone(true), set(Timer::Named(1), 5))?;
+    let actions = with(actions, set(Timer::State, 10))?;
+    with(actions, set(Timer::Named(2), 5))
 }
 
 /// What `handle` answers to the contents that reply.
@@ -206,7 +184,7 @@ fn handle_replying(
     ensures { IfOk result (λ outcome. outcome ≡ handled_by_replying content held) }
 {
     match content {
-        37 => Ok(Outcome::StopAndReply(9, two_replies(alloc)?, None)),
+        37 => Ok(Outcome::StopAndReply(9, two(alloc, (TAG, 40), (SECOND, 51))?, None)),
         38 => Ok(Outcome::NextState(1, held, one(alloc, Action::Reply(SECOND, 52))?)),
         39 => Ok(Outcome::KeepStateAndData(two(
             alloc,
@@ -271,19 +249,8 @@ fn handle_setting(
 fn three(alloc: Global) -> Result<Actions<u32>, AllocError>
     ensures { IfOk result (λ actions. actions ≡ three_settings) }
 {
-    let mut actions = two(alloc, set(Timer::Named(1), 20), set(Timer::Named(2), 10))?;
-    actions.push(set(Timer::Named(3), 20))?;
-    Ok(actions)
-}
-
-/// A timer is set, and two events are inserted.
-fn setting_and_inserts(alloc: Global) -> Result<Actions<u32>, AllocError>
-    ensures { IfOk result (λ actions. actions ≡ action.Set (timer.Named 1) (time.After 0) 0 ∷ two_inserts) }
-{
-    let mut actions = one(alloc, set(Timer::Named(1), 0))?;
-    actions.push(Action::NextEvent(Kind::Internal, 20))?;
-    actions.push(Action::NextEvent(Kind::Cast, 21))?;
-    Ok(actions)
+    let actions = two(alloc, set(Timer::Named(1), 20), set(Timer::Named(2), 10))?;
+    with(actions, set(Timer::Named(3), 20))
 }
 
 /// What `handle` answers in any state, where the content is not one of those of the first state.
@@ -308,7 +275,7 @@ fn handle_anywhere(
         9 => Ok(Outcome::NextState(0, held, Actions::new(alloc))),
         15 => Ok(Outcome::Stop(9, None)),
         16 => Ok(Outcome::Stop(9, Some(8))),
-        17 => Ok(Outcome::StopAndReply(9, last_reply(alloc)?, Some(8))),
+        17 => Ok(Outcome::StopAndReply(9, one(alloc, (TAG, 40))?, Some(8))),
         _ => handle_setting(alloc, content, held),
     }
 }
@@ -323,8 +290,8 @@ fn handle_at_first(
 {
     match content {
         10 => Ok(Outcome::KeepStateAndData(one(alloc, Action::Postpone(true))?)),
-        11 => Ok(Outcome::NextState(1, held, postpone_and_inserts(alloc)?)),
-        12 => Ok(Outcome::KeepStateAndData(postpone_and_inserts(alloc)?)),
+        11 => Ok(Outcome::NextState(1, held, with_inserts(alloc, Action::Postpone(true))?)),
+        12 => Ok(Outcome::KeepStateAndData(with_inserts(alloc, Action::Postpone(true))?)),
         13 => Ok(Outcome::KeepStateAndData(two(
             alloc,
             Action::Postpone(false),
@@ -343,33 +310,25 @@ fn handle_at_first(
 fn entering(alloc: Global) -> Result<EnterActions<u32>, AllocError>
     ensures { IfOk result (λ actions. actions ≡ entering_actions) }
 {
-    let mut actions = EnterActions::new(alloc);
-    actions.push(EnterAction::Reply(TAG, 60))?;
-    actions.push(EnterAction::Set(Timer::State, Time::After(20), 0))?;
-    actions.push(EnterAction::Set(Timer::Named(1), Time::After(9), 0))?;
-    Ok(actions)
+    let actions = two(
+        alloc,
+        EnterAction::Reply(TAG, 60),
+        EnterAction::Set(Timer::State, Time::After(20), 0),
+    )?;
+    with(
+        actions,
+        EnterAction::Set(Timer::Named(1), Time::After(9), 0),
+    )
 }
 
 /// Five hibernations of an enter call.
 fn five_entering(alloc: Global) -> Result<EnterActions<u32>, AllocError>
     ensures { IfOk result (λ actions. actions ≡ five_enter_actions) }
 {
-    let mut actions = EnterActions::new(alloc);
-    actions.push(EnterAction::Hibernate)?;
-    actions.push(EnterAction::Hibernate)?;
-    actions.push(EnterAction::Hibernate)?;
-    actions.push(EnterAction::Hibernate)?;
-    actions.push(EnterAction::Hibernate)?;
-    Ok(actions)
-}
-
-/// The one reply of the module 71's enter call.
-fn entering_reply(alloc: Global) -> Result<Replies<u32>, AllocError>
-    ensures { IfOk result (λ replies. replies ≡ (first_tag, 61) ∷ []) }
-{
-    let mut replies = Replies::new(alloc);
-    replies.push((TAG, 61))?;
-    Ok(replies)
+    let actions = two(alloc, EnterAction::Hibernate, EnterAction::Hibernate)?;
+    let actions = with(actions, EnterAction::Hibernate)?;
+    let actions = with(actions, EnterAction::Hibernate)?;
+    with(actions, EnterAction::Hibernate)
 }
 
 /// What `enter` answers where a state is come to from another.
@@ -386,11 +345,10 @@ fn enter_changed(
             let data = if old == 0 { 31 } else { 32 };
             Ok(EnterOutcome::KeepState(data, EnterActions::new(alloc)))
         }
-        71 => Ok(EnterOutcome::StopAndReply(4, entering_reply(alloc)?, Some(8))),
+        71 => Ok(EnterOutcome::StopAndReply(4, one(alloc, (TAG, 61))?, Some(8))),
         72 => Ok(EnterOutcome::Stop(4, None)),
         65 => {
-            let mut actions = EnterActions::new(alloc);
-            actions.push(EnterAction::Reply(TAG, 62))?;
+            let actions = one(alloc, EnterAction::Reply(TAG, 62))?;
             Ok(EnterOutcome::KeepStateAndData(actions))
         }
         _ => Ok(EnterOutcome::KeepStateAndData(EnterActions::new(alloc))),
@@ -421,14 +379,17 @@ impl Module for Table {
             0 => Ok(Init::Ok(0, 7, Actions::new(alloc))),
             1 => Ok(Init::Ignore),
             2 => Ok(Init::Ok(0, 7, five(alloc)?)),
-            3 => Ok(Init::Ok(0, 7, postpone_and_inserts(alloc)?)),
+            3 => Ok(Init::Ok(0, 7, with_inserts(alloc, Action::Postpone(true))?)),
             5 => Ok(Init::Ok(0, 7, one(alloc, set(Timer::Named(5), 5))?)),
             6 => {
                 let latest = one(alloc, set(Timer::Named(1), 4_294_967_295))?;
                 Ok(Init::Ok(0, 7, latest))
             }
             7 => Ok(Init::Ok(0, 7, three(alloc)?)),
-            8 => Ok(Init::Ok(0, 7, setting_and_inserts(alloc)?)),
+            8 => {
+                let first = set(Timer::Named(1), 0);
+                Ok(Init::Ok(0, 7, with_inserts(alloc, first)?))
+            },
             reason => Ok(Init::Stop(reason)),
         }
     }

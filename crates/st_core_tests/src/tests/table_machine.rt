@@ -1,29 +1,17 @@
-//! A table's machine: what it is told, how it begins, and what is read of it.
-use super::begin::{Begin, begun};
-use super::compared::all_alike;
+//! A table's machine: how it begins, what is read of it, and how rows are played.
+use super::begin::Begin;
+use super::compared::both_ways;
 use super::host::Host;
+use super::row::Row;
 use super::seen::{Running, Seen};
-use super::shown::Shown;
 use super::table::Table;
-use super::told::Told;
-use st_core::{Entry, Reason};
+use st_core::{Core, Reason};
 use std::alloc::Global;
+use std::io::Print;
 use std::process::Abort;
 
-pub fn cast(content: u32) -> Told<u32> {
-    Told::Post(Entry::Cast, content)
-}
-
-pub fn info(content: u32) -> Told<u32> {
-    Told::Post(Entry::Info, content)
-}
-
-pub fn call(content: u32) -> Told<u32> {
-    Told::Post(Entry::Call, content)
-}
-
 /// A table's machine at the moment 0.
-pub const BEGIN: Begin<Table, u32> = Begin {
+pub const BEGIN: Begin<Table> = Begin {
     module: Table { number: 50 },
     arg: 0,
     now: 0,
@@ -33,7 +21,7 @@ pub const BEGIN: Begin<Table, u32> = Begin {
 };
 
 /// What can be read of a table's machine in which nothing waits.
-pub fn at_rest(state: u32, held: u32, latest: u64) -> Seen<u32, u32> {
+pub fn at_rest(state: u32, held: u32, latest: u64) -> Seen {
     Seen {
         is_ready: false,
         state,
@@ -45,7 +33,7 @@ pub fn at_rest(state: u32, held: u32, latest: u64) -> Seen<u32, u32> {
 }
 
 /// What can be read of a table's machine in which so many events are postponed, and no other waits.
-pub fn postponing(waiting: usize, state: u32, held: u32, latest: u64) -> Seen<u32, u32> {
+pub fn postponing(waiting: usize, state: u32, held: u32, latest: u64) -> Seen {
     Seen {
         waiting,
         ..at_rest(state, held, latest)
@@ -53,46 +41,43 @@ pub fn postponing(waiting: usize, state: u32, held: u32, latest: u64) -> Seen<u3
 }
 
 /// What can be read of a table's machine that has ended.
-pub fn at_end(reason: Reason, word: u32, held: u32, latest: u64) -> Seen<u32, u32> {
+pub fn at_end(reason: Reason, word: u32, held: u32, latest: u64) -> Seen {
     Seen {
         ended: Some((reason, word)),
         ..at_rest(0, held, latest)
     }
 }
 
-/// Looks at the answers to commands, and at what they leave, with no time-out that runs.
-pub fn answers_are(
+/// Looks at the answers to the commands of rows, and at what they leave, with no time-out that runs.
+pub fn rows_agree(
     rt: &Host<impl Abort>,
     alloc: Global,
-    begin: &Begin<Table, u32>,
-    steps: &[(Told<u32>, Shown<u32, u32>)],
-    end: &Seen<u32, u32>,
+    begin: &Begin<Table>,
+    rows: &[Row],
+    end: &Seen,
 ) {
-    timers_are(rt, alloc, begin, steps, end, &[]);
+    both_ways::<Core<Table>>(rt, alloc, begin, rows, end, &[]);
 }
 
-/// Looks at the answers to commands, and at what they leave, with the time-outs that run.
-pub fn timers_are(
-    rt: &Host<impl Abort>,
-    alloc: Global,
-    begin: &Begin<Table, u32>,
-    steps: &[(Told<u32>, Shown<u32, u32>)],
-    end: &Seen<u32, u32>,
+/// A whole test: the answers to the commands of rows, and what they leave, with no time-out that runs.
+pub fn answers_are<R: Abort + AllocGlobal + Print + Drop>(
+    rt: R,
+    begin: &Begin<Table>,
+    rows: &[Row],
+    end: &Seen,
+) {
+    timers_are(rt, begin, rows, end, &[]);
+}
+
+/// A whole test: the answers to the commands of rows, and what they leave, with the time-outs that run.
+pub fn timers_are<R: Abort + AllocGlobal + Print + Drop>(
+    rt: R,
+    begin: &Begin<Table>,
+    rows: &[Row],
+    end: &Seen,
     timers: &[Running],
 ) {
-    let mut single = begun(rt, alloc, begin);
-    let mut at_once = begun(rt, alloc, begin);
-    let mut again = begun(rt, alloc, begin);
-    let mut without = begun(rt, alloc, begin);
-    all_alike(
-        rt,
-        alloc,
-        &mut single,
-        &mut at_once,
-        &mut again,
-        &mut without,
-        steps,
-        end,
-        timers,
-    );
+    let rt = Host::new(rt);
+    both_ways::<Core<Table>>(&rt, rt.alloc(), begin, rows, end, timers);
+    rt.end();
 }

@@ -1,19 +1,16 @@
 //! Calls of a machine: where one finds no memory, the machine is looked at, and the call is made again.
 use super::host::{Host, got, holds};
 use super::machine::{Machine, read_all};
-use super::seen::is_all;
+use super::row::Row;
+use super::seen::{Whole, is_all};
 use super::shown::{Shown, agree, read};
 use super::told::{Told, are_commands, commands, without_memory};
-use st_core::{Answer, Refusal};
+use st_core::{Answer, Command, Refusal, Refused};
 use std::alloc::Global;
 use std::process::Abort;
 
 /// Makes the call of one command. A refusal changes nothing that can be read.
-fn try_tell<T: Machine>(
-    rt: &Host<impl Abort>,
-    machine: &mut T,
-    told: Told<T::Content>,
-) -> Answer<T::State, T::Content> {
+fn try_tell<T: Machine>(rt: &Host<impl Abort>, machine: &mut T, told: Told) -> Answer<u32, u32> {
     let before = read_all(rt, machine);
     let answer = machine.call(told);
     if read(&answer).refusal().is_some() {
@@ -24,11 +21,7 @@ fn try_tell<T: Machine>(
 
 /// Does one command by a call of its own. Where it finds no memory, the content comes back, and the
 /// same call is made again.
-pub fn tell<T: Machine>(
-    rt: &Host<impl Abort>,
-    machine: &mut T,
-    told: Told<T::Content>,
-) -> Answer<T::State, T::Content> {
+pub fn tell<T: Machine>(rt: &Host<impl Abort>, machine: &mut T, told: Told) -> Answer<u32, u32> {
     let answer = try_tell(rt, machine, told);
     if !read(&answer).found_no_memory() {
         return answer;
@@ -41,14 +34,38 @@ pub fn tell<T: Machine>(
 }
 
 /// Does one command, and looks at its answer.
-pub fn does<T: Machine>(
-    rt: &Host<impl Abort>,
-    machine: &mut T,
-    told: Told<T::Content>,
-    wanted: &Shown<T::State, T::Content>,
-) {
+pub fn does<T: Machine>(rt: &Host<impl Abort>, machine: &mut T, told: Told, wanted: &Shown) {
     let answer = tell(rt, machine, told);
     agree(rt, &answer, wanted);
+}
+
+/// Does the commands of rows, and looks at their answers.
+pub fn play<T: Machine>(rt: &Host<impl Abort>, machine: &mut T, rows: &[Row]) {
+    for row in rows {
+        does(rt, machine, row.told(), &row.wanted());
+    }
+}
+
+/// Makes a run again that found no memory for its answers: nothing that can be read has changed, and the commands came
+/// back.
+fn run_again<T: Machine>(
+    rt: &Host<impl Abort>,
+    machine: &mut T,
+    rows: &[Row],
+    before: &Whole,
+    refused: Refused<Vec<Command<u32>>>,
+) -> Vec<Answer<u32, u32>> {
+    let no_memory = refused.refusal == Refusal::NoMemory;
+    holds(rt, "memory was refused", no_memory);
+    is_all(rt, &read_all(rt, machine), before);
+    let are_back = are_commands(refused.value.as_slice(), rows);
+    holds(rt, "the commands come back", are_back);
+    rt.retry();
+    got(
+        rt,
+        "one allocation alone is refused",
+        machine.call_run(refused.value),
+    )
 }
 
 /// Does commands by one run. Where there is no memory for the answers, nothing that can be read
@@ -57,25 +74,11 @@ pub fn run<T: Machine>(
     rt: &Host<impl Abort>,
     alloc: Global,
     machine: &mut T,
-    steps: &[(Told<T::Content>, Shown<T::State, T::Content>)],
-) -> Vec<Answer<T::State, T::Content>> {
+    rows: &[Row],
+) -> Vec<Answer<u32, u32>> {
     let before = read_all(rt, machine);
-    let refused = match machine.call_run(commands(rt, alloc, steps)) {
-        Ok(answers) => return answers,
-        Err(refused) => refused,
-    };
-    holds(
-        rt,
-        "memory was refused",
-        refused.refusal == Refusal::NoMemory,
-    );
-    is_all(rt, &read_all(rt, machine), &before);
-    let are_back = are_commands(refused.value.as_slice(), steps);
-    holds(rt, "the commands come back", are_back);
-    rt.retry();
-    got(
-        rt,
-        "one allocation alone is refused",
-        machine.call_run(refused.value),
-    )
+    match machine.call_run(commands(rt, alloc, rows)) {
+        Ok(answers) => answers,
+        Err(refused) => run_again(rt, machine, rows, &before, refused),
+    }
 }

@@ -1,12 +1,31 @@
 //! Commands that can be told again.
 use super::host::{Host, holds};
 use super::reserved::with_reserved;
+use super::row::Row;
 use super::shown::Shown;
 use st_core::{Command, Entry, MachineId, Reason, Refusal, Tag};
 use std::alloc::{AllocError, Global};
 use std::process::Abort;
 
 pub const ID: MachineId = MachineId { slot: 0, serial: 1 };
+
+/// The first request to the machine.
+pub const FIRST: Tag = Tag {
+    machine: ID,
+    request: 1,
+};
+
+/// The second request to the machine.
+pub const SECOND: Tag = Tag {
+    machine: ID,
+    request: 2,
+};
+
+/// The third request to the machine.
+pub const THIRD: Tag = Tag {
+    machine: ID,
+    request: 3,
+};
 
 /// The tag of the request that a post with this number opens.
 pub fn tag(request: u64) -> Tag {
@@ -18,25 +37,32 @@ pub fn tag(request: u64) -> Tag {
 
 /// A command that can be told again.
 #[derive(Copy)]
-pub enum Told<C> {
-    Post(Entry, C),
+pub enum Told {
+    /// A post of a content, as a cast.
+    Cast(u32),
+    /// The same as an info.
+    Info(u32),
+    /// The same as a call.
+    Call(u32),
     Tick(u64),
     Turn(u64),
-    Reply(Tag, C),
+    Reply(Tag, u32),
     Collect(Tag),
     Stop(Reason),
 }
 
-impl<C: Copy> Clone for Told<C> {
-    fn clone(&self) -> Result<Told<C>, AllocError> {
+impl Clone for Told {
+    fn clone(&self) -> Result<Told, AllocError> {
         Ok(*self)
     }
 }
 
 /// What a command answers that finds no memory. A reply and a collect take none, so they always answer.
-pub fn without_memory<S, C: Copy>(told: Told<C>) -> Shown<S, C> {
+pub fn without_memory(told: Told) -> Shown {
     match told {
-        Told::Post(_, content) => Shown::NotPosted(Refusal::NoMemory, content),
+        Told::Cast(content) => Shown::NotPosted(Refusal::NoMemory, content),
+        Told::Info(content) => Shown::NotPosted(Refusal::NoMemory, content),
+        Told::Call(content) => Shown::NotPosted(Refusal::NoMemory, content),
         Told::Tick(_) => Shown::NotTicked(Refusal::NoMemory),
         Told::Turn(_) => Shown::NotTurned(Refusal::NoMemory),
         Told::Reply(_, _) => Shown::Replied(false),
@@ -46,9 +72,11 @@ pub fn without_memory<S, C: Copy>(told: Told<C>) -> Shown<S, C> {
 }
 
 /// The command itself.
-fn command_of<C: Copy>(told: Told<C>) -> Command<C> {
+fn command_of(told: Told) -> Command<u32> {
     match told {
-        Told::Post(entry, content) => Command::Post(entry, content),
+        Told::Cast(content) => Command::Post(Entry::Cast, content),
+        Told::Info(content) => Command::Post(Entry::Info, content),
+        Told::Call(content) => Command::Post(Entry::Call, content),
         Told::Tick(now) => Command::Tick(now),
         Told::Turn(now) => Command::Turn(now),
         Told::Reply(tag, content) => Command::Reply(tag, content),
@@ -58,28 +86,27 @@ fn command_of<C: Copy>(told: Told<C>) -> Command<C> {
 }
 
 /// The commands of a run. Where memory was refused, it is asked for again.
-pub fn commands<S, C: Copy>(
-    rt: &Host<impl Abort>,
-    alloc: Global,
-    steps: &[(Told<C>, Shown<S, C>)],
-) -> Vec<Command<C>> {
-    let mut commands = with_reserved(rt, alloc, steps.len());
-    for (told, _) in steps {
-        let pushed = commands.push(command_of(*told));
+pub fn commands(rt: &Host<impl Abort>, alloc: Global, rows: &[Row]) -> Vec<Command<u32>> {
+    let mut commands = with_reserved(rt, alloc, rows.len());
+    for row in rows {
+        let pushed = commands.push(command_of(row.told()));
         holds(rt, "there is a place for each command", pushed.is_ok());
     }
     commands
 }
 
+/// Says whether this is the command.
+fn is_command(command: &Command<u32>, told: Told) -> bool {
+    *command == command_of(told)
+}
+
 /// Says whether these are the commands of a run.
-pub fn are_commands<S, C: Copy + Eq>(
-    commands: &[Command<C>],
-    steps: &[(Told<C>, Shown<S, C>)],
-) -> bool {
-    for (command, (told, _)) in commands.iter().zip(steps.iter()) {
-        if *command != command_of(*told) {
-            return false;
+pub fn are_commands(commands: &[Command<u32>], rows: &[Row]) -> bool {
+    for place in 0..rows.len() {
+        match commands.get(place) {
+            Some(command) if is_command(command, rows[place].told()) => {}
+            _ => return false,
         }
     }
-    commands.len() == steps.len()
+    commands.len() == rows.len()
 }

@@ -1,11 +1,8 @@
-//! How halls, their machines and pools begin and end. All find memory.
-ghost use Rattle.std.specs.Prelude.{◌≤◌};
-
+//! How halls and their machines begin. All find memory.
 use super::host::{Host, got};
 use super::mark::Mark;
 use super::plain::Plain;
 use st_hall::{Hall, Machine, MachineId, Port, Registry, Started};
-use st_pool::{Gate, Machines, Pool, PoolEnd, Runtime};
 use std::process::Abort;
 use std::sync::{Arc, Wait};
 
@@ -48,63 +45,41 @@ fn running(rt: &impl Abort, started: Started) -> MachineId {
 
 /// Starts a machine under a name, or under none, and answers its id.
 pub fn start<R: Wait + Drop>(
-    rt: &Host<impl Abort>,
+    rt: &impl Abort,
     hall: &Hall<Plain, R>,
     mark: &Arc<Mark>,
     name: Option<&str>,
 ) -> MachineId {
     let plain = Plain::new(mark).expect(rt, "an owner");
-    running(
-        rt,
-        got(rt, "it is started", hall.start(name, plain, &(), 0)),
-    )
+    let started = got(rt, "it is started", hall.start(name, plain, &(), 0));
+    running(rt, started)
 }
 
 /// A port of the machine of an id.
 pub fn port<R: Wait + Drop>(
-    rt: &Host<impl Abort>,
+    rt: &impl Abort,
     threads: &impl Wait,
     hall: &Hall<Plain, R>,
     id: MachineId,
 ) -> Port<Plain> {
     let machine = hall.machine(id).expect(rt, "it is there");
-    Machine::port(&machine, threads).expect(rt, "a port")
+    let port = Machine::port(&machine, threads).expect(rt, "a port");
+    drop(machine);
+    port
 }
 
 /// A port of each of so many machines of a hall that was filled.
-pub fn ports<R: Runtime>(
+pub fn ports<R: Wait + Drop>(
     rt: &Host<impl Abort + AllocGlobal>,
-    threads: R,
+    threads: &impl Wait,
     hall: &Hall<Plain, R>,
     count: usize,
 ) -> Vec<Port<Plain>> {
     let mut ports = Vec::new(rt.alloc());
     for slot in 0..count {
         let serial = (slot as u64).saturating_add(1);
-        let port = port(rt, &threads, hall, id(slot, serial));
+        let port = port(rt, threads, hall, id(slot, serial));
         ports.push(port).expect(rt, "a place");
     }
     ports
-}
-
-/// A pool of so many workers, which serve these machines.
-pub fn started<R, T, G>(
-    rt: &Host<impl Abort + AllocGlobal>,
-    threads: R,
-    workers: usize,
-    machines: &Arc<T>,
-    gate: &Arc<G>,
-) -> Pool<R>
-where
-    R: Runtime,
-    T: Machines + Drop + Send + Sync + 'static,
-    G: Gate + Drop + Send + Sync + 'static,
-    requires { (1 ≤ workers) × (workers ≤ 16) }
-{
-    Pool::start(threads, rt.alloc(), workers, machines, gate).expect(rt, "a pool")
-}
-
-/// Closes a pool.
-pub fn closes<R: Runtime>(rt: &Host<impl Abort>, pool: &mut Pool<R>) -> PoolEnd {
-    got(rt, "there is memory", pool.close())
 }

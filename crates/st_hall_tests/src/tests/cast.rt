@@ -1,33 +1,51 @@
-//! Events are cast, and what is seen of machines that were served.
+//! Events are posted and cast, and what is seen of machines that were served.
 use super::host::{got, holds};
 use super::plain::Plain;
-use st_client::{Wake, cast};
-use st_hall::Port;
+use st_client::cast;
+use st_hall::{Port, Token};
+use st_lock::Entry;
+use st_pool::Scheduler;
 use std::process::Abort;
 use std::sync::Wait;
 
+/// Posts an event that inserts one more to a machine at rest, and answers its number and the token that was issued.
+pub fn posts(rt: &impl Abort, threads: &impl Wait, port: &mut Port<Plain>) -> (u64, Token) {
+    let posted = got(rt, "it is posted", port.post(threads, Entry::Cast, 2));
+    (posted.number, posted.wake.expect(rt, "it was at rest"))
+}
+
 /// Casts a content. If its token was issued, it is scheduled.
-pub fn casts<W: Wake>(
+fn casts(
     rt: &impl Abort,
     threads: &impl Wait,
     port: &mut Port<Plain>,
-    wake: &W,
+    scheduler: &Scheduler,
     content: u32,
 ) {
-    let sent = got(rt, "it is posted", cast(threads, port, wake, content));
+    let sent = cast(threads, port, scheduler, content);
+    let sent = got(rt, "it is posted", sent);
     holds(rt, "its token is scheduled", sent.left == None);
 }
 
-/// Casts a content through each of some ports.
-pub fn casts_each<W: Wake>(
+/// Which of two contents is cast to the machine of a place: one to every other machine.
+fn content_of(place: usize, contents: (u32, u32)) -> u32 {
+    if place % 2 == 0 {
+        contents.0
+    } else {
+        contents.1
+    }
+}
+
+/// Casts through each of some ports one of two contents, in turn.
+pub fn casts_each(
     rt: &impl Abort,
     threads: &impl Wait,
     ports: &mut Vec<Port<Plain>>,
-    wake: &W,
-    content: u32,
+    scheduler: &Scheduler,
+    contents: (u32, u32),
 ) {
-    for port in ports.iter_mut() {
-        casts(rt, threads, port, wake, content);
+    for (place, port) in ports.iter_mut().enumerate() {
+        casts(rt, threads, port, scheduler, content_of(place, contents));
     }
 }
 
@@ -36,6 +54,7 @@ fn is_at_rest(rt: &impl Abort, threads: &impl Wait, port: &mut Port<Plain>, entr
     let look = got(rt, "there is memory", port.look(threads));
     holds(rt, "it has no work", look.waiting == 0);
     holds(rt, "its entries", look.entries == entries);
+    drop(look);
 }
 
 /// Looks that the machines of some ports rest, whose journals have so many entries each.
@@ -47,5 +66,30 @@ pub fn are_at_rest(
 ) {
     for port in ports.iter_mut() {
         is_at_rest(rt, threads, port, entries);
+    }
+}
+
+/// Looks that a port has posted so many events, that its machine counts as many, and shows their numbers.
+fn is_mine(rt: &impl Abort, threads: &impl Wait, port: &mut Port<Plain>, posts: u64) {
+    let look = got(rt, "there is memory", port.look(threads));
+    holds(rt, "the posts of the port", port.count() == posts);
+    holds(rt, "they are mine", look.mine == posts);
+    let numbers = look.numbers.as_slice().len() as u64;
+    holds(rt, "their numbers are mine", numbers == posts);
+    drop(look);
+}
+
+/// Casts twice more through each of some ports, which have posted so many events, with nobody to serve them.
+pub fn casts_twice_more(
+    rt: &impl Abort,
+    threads: &impl Wait,
+    ports: &mut Vec<Port<Plain>>,
+    posts: u64,
+) {
+    for port in ports.iter_mut() {
+        for _ in 0..2 {
+            got(rt, "it is posted", port.post(threads, Entry::Cast, 1));
+        }
+        is_mine(rt, threads, port, posts.saturating_add(2));
     }
 }

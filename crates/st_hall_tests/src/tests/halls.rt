@@ -1,17 +1,11 @@
 //! A hall's calls, one after another.
 use super::begun::{hall, id, mark, port, start};
+use super::cast::posts;
 use super::host::{Host, got, holds};
 use super::plain::Plain;
-use st_hall::{Hall, MachineId, Port, Refusal, Token};
-use st_lock::Entry;
+use st_hall::{Hall, MachineId, Refusal, Token};
 use std::process::Abort;
 use std::sync::Wait;
-
-/// Posts an event that inserts one more to a machine at rest, and answers the token that it was issued.
-fn posted(rt: &impl Abort, threads: &impl Wait, port: &mut Port<Plain>) -> Token {
-    let posted = got(rt, "it is posted", port.post(threads, Entry::Cast, 2));
-    posted.wake.expect(rt, "it was at rest")
-}
 
 /// Serves a machine that has two events by its token. A turn at a moment that is too late leaves the token outstanding.
 fn is_served_twice<R: Wait + Drop>(rt: &impl Abort, hall: &Hall<Plain, R>, token: Token) {
@@ -35,6 +29,7 @@ fn stop<R: Wait + Drop>(
     let machine = hall.machine(id).expect(rt, "it is there");
     holds(rt, "its id", machine.id() == id);
     holds(rt, "the last word", machine.stop(threads, 3) == Ok(7));
+    drop(machine);
 }
 
 /// Removes a machine once it has ended, and looks that its name and its id name nothing then.
@@ -67,13 +62,15 @@ fn a_machine_is_found_served_and_removed(rt: HostRuntime) {
     holds(&rt, "it is found", hall.whereis("front") == Ok(id));
     holds(&rt, "it is the only one", hall.len() == 1);
     let mut port = port(&rt, &threads, &hall, id);
-    let first = posted(&rt, &threads, &mut port);
+    let (_, first) = posts(&rt, &threads, &mut port);
     is_served_twice(&rt, &hall, first);
-    let second = posted(&rt, &threads, &mut port);
+    let (_, second) = posts(&rt, &threads, &mut port);
     holds(&rt, "the tokens differ", second != first);
     is_removed(&rt, &threads, &hall, id, "front");
     holds(&rt, "its token rests", hall.turn(second, 5) == None);
     holds(&rt, "it is empty at last", hall.is_empty());
+    drop(port);
+    drop(hall);
     rt.end_with_memory();
 }
 
@@ -102,5 +99,8 @@ fn names_stand_in_order(rt: HostRuntime) {
     holds(&rt, "two names are left", names.len() == 2);
     is_named(&rt, &names[0], "front", id(0, 1));
     is_named(&rt, &names[1], "side", id(2, 3));
+    drop(names);
+    drop(mark);
+    drop(hall);
     rt.end_with_memory();
 }

@@ -1,17 +1,19 @@
 //! A look through a port beside the journal's last turn.
 use super::begun::{hall, mark, port, start};
+use super::cast::posts;
 use super::host::{Host, got, holds};
 use super::plain::Plain;
 use st_hall::{Machine, Port};
-use st_lock::{Answer, Entry, JournalEntry, Turned};
+use st_lock::{Answer, Command, JournalEntry, Turned};
 use std::process::Abort;
 use std::sync::Wait;
 
-/// What is seen of a turn: the number of its entry, the event that it handled, the state that it left, and how many
+/// What is seen of a turn: the number of its entry, its moment, the event that it handled, the state that it left, and how many
 /// events it inserted.
 #[derive(Clone, Copy, PartialEq)]
 pub struct LastTurn {
     number: u64,
+    now: u64,
     event: Option<u64>,
     state: u32,
     inserted: usize,
@@ -19,9 +21,10 @@ pub struct LastTurn {
 
 /// What is seen of an entry, if it is a turn with an event.
 fn turn_of(entry: &JournalEntry<u32, u32>) -> Option<LastTurn> {
-    match &entry.answer {
-        Answer::Turn(Ok(Turned::Reported(report))) => Some(LastTurn {
+    match (&entry.command, &entry.answer) {
+        (Command::Turn(now), Answer::Turn(Ok(Turned::Reported(report)))) => Some(LastTurn {
             number: entry.number,
+            now: *now,
             event: report.event,
             state: report.after,
             inserted: report.inserted.as_slice().len(),
@@ -35,7 +38,9 @@ fn last_turn(rt: &impl Abort, threads: &impl Wait, machine: &Machine<Plain>) -> 
     let journal = got(rt, "there is memory", machine.journal(threads, "plain"));
     let last = journal.entries.as_slice().last();
     let last = last.expect(rt, "it was served");
-    turn_of(last).expect(rt, "the last command was a turn with an event")
+    let turn = turn_of(last).expect(rt, "the last command was a turn with an event");
+    drop(journal);
+    turn
 }
 
 /// Looks at a machine that was posted one event: what is seen is what the last turn reported, which handled this event.
@@ -44,6 +49,7 @@ fn seen_after(rt: &impl Abort, threads: &impl Wait, port: &mut Port<Plain>, even
     let look = got(rt, "there is memory", port.look(threads));
     let last = LastTurn {
         number: look.entries,
+        now: 5,
         event: Some(event),
         state: look.state,
         inserted: look.waiting,
@@ -52,7 +58,9 @@ fn seen_after(rt: &impl Abort, threads: &impl Wait, port: &mut Port<Plain>, even
     holds(rt, "what the last turn reported", reported == last);
     holds(rt, "the data", look.held == 7);
     holds(rt, "one is mine", look.mine == 1);
-    look.waiting
+    let waiting = look.waiting;
+    drop(look);
+    waiting
 }
 
 #[test]
@@ -62,15 +70,16 @@ fn a_look_shows_what_the_last_turn_reported(rt: HostRuntime) {
     let hall = hall(&rt, threads);
     let id = start(&rt, &hall, &mark(&rt, true), None);
     let mut port = port(&rt, &threads, &hall, id);
-    let posted = got(&rt, "it is posted", port.post(&threads, Entry::Cast, 2));
-    let token = posted.wake.expect(&rt, "it was at rest");
+    let (number, token) = posts(&rt, &threads, &mut port);
     let first = hall.turn(token, 5);
     holds(&rt, "one more event waits", first == Some(token));
-    let waiting = seen_after(&rt, &threads, &mut port, posted.number);
+    let waiting = seen_after(&rt, &threads, &mut port, number);
     holds(&rt, "the event that it inserted", waiting == 1);
     holds(&rt, "no event waits", hall.turn(token, 5) == None);
-    let inserted = posted.number.saturating_add(1);
+    let inserted = number.saturating_add(1);
     let waiting = seen_after(&rt, &threads, &mut port, inserted);
     holds(&rt, "no event was inserted", waiting == 0);
+    drop(port);
+    drop(hall);
     rt.end_with_memory();
 }

@@ -70,5 +70,7 @@ fn a_refused_call_changes_nothing(rt: HostRuntime) {
     let (name, named) = &names[0];
     holds(&rt, "its name", name.as_str() == "front");
     holds(&rt, "its machine", *named == id);
+    drop(names);
+    drop(hall);
     rt.end();
 }

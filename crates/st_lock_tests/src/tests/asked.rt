@@ -42,6 +42,8 @@ pub enum Answered {
     Uncopied(Refusal),
     /// No call was made, for the port is not open.
     NotOpen,
+    /// What no call answers: a look or a copy is wanted, which is compared part by part.
+    InParts,
 }
 
 impl Answered {

@@ -1,5 +1,6 @@
 //! How a cell of a test begins.
 use super::host::{Host, got, holds};
+use super::pair::Pair;
 use super::plain::Plain;
 use super::twin::{snapshot_of, steps};
 use st_core::{
@@ -13,10 +14,59 @@ use std::process::Abort;
 /// The machine's id.
 pub const ID: MachineId = MachineId { slot: 0, serial: 1 };
 
-/// The machine's token with this wake number.
-pub fn token(wake: u64) -> Token {
-    Token { machine: ID, wake }
-}
+/// The machine's token with the wake number 0.
+pub const TOKEN_0: Token = Token {
+    machine: ID,
+    wake: 0,
+};
+
+/// The machine's token with the wake number 1.
+pub const TOKEN_1: Token = Token {
+    machine: ID,
+    wake: 1,
+};
+
+/// The machine's token with the wake number 2.
+pub const TOKEN_2: Token = Token {
+    machine: ID,
+    wake: 2,
+};
+
+/// The machine's token with the wake number 3.
+pub const TOKEN_3: Token = Token {
+    machine: ID,
+    wake: 3,
+};
+
+/// The machine's token with the wake number 5.
+pub const TOKEN_5: Token = Token {
+    machine: ID,
+    wake: 5,
+};
+
+/// The machine's token with the wake number 8.
+pub const TOKEN_8: Token = Token {
+    machine: ID,
+    wake: 8,
+};
+
+/// The machine's request with the number 1.
+pub const REQUEST_1: Tag = Tag {
+    machine: ID,
+    request: 1,
+};
+
+/// The machine's request with the number 2.
+pub const REQUEST_2: Tag = Tag {
+    machine: ID,
+    request: 2,
+};
+
+/// The machine's request with the number 3.
+pub const REQUEST_3: Tag = Tag {
+    machine: ID,
+    request: 3,
+};
 
 /// The machine's request with this number.
 pub fn tag(number: u64) -> Tag {
@@ -91,16 +141,16 @@ pub fn begun(
     first: u64,
     contents: &[u32],
     wake: Option<Token>,
-) -> (Cell<Plain>, Core<Plain>) {
+) -> Pair {
     let mut twin = machine(rt, alloc, first, contents);
     let base = snapshot_of(rt, &mut twin);
     let core = machine(rt, alloc, first, contents);
     let (cell, token) = cell_of(rt, alloc, core, &base);
     holds(rt, "the token at first", token == wake);
-    (cell, twin)
+    Pair { cell, twin }
 }
 
 /// A cell whose machine has just started, and a machine that has begun alike.
-pub fn just_begun(rt: &Host<impl Abort>, alloc: Global) -> (Cell<Plain>, Core<Plain>) {
+pub fn just_begun(rt: &Host<impl Abort>, alloc: Global) -> Pair {
     begun(rt, alloc, 1, [].as_slice(), None)
 }

@@ -1,123 +1,108 @@
 //! A machine is posted events and served, and its journal is cut.
-use super::asked::{Answered, Asked};
-use super::begun::{just_begun, token};
-use super::did::handled;
+use super::asked::Asked;
+use super::begun::{TOKEN_1, TOKEN_2, TOKEN_5, just_begun};
+use super::did::FINISHED;
 use super::host::Host;
-use super::played::plays_over;
-use super::row::{
-    Row, Sight, answers, looks, opens, posts, refuses, removable, rests, stops, turns,
-};
+use super::row::{Post, Row, Sight};
 use st_core::{Entry, Kind, Refusal};
 use st_lock::Next;
 
+/// A cast through the first port.
+const CAST: Post = (1, Entry::Cast, 0);
+
+/// There is work still.
+const AGAIN: Next = Next::Again(TOKEN_1);
+
 /// A machine is posted events, served and stopped.
-pub fn until_a_stop() -> [Row; 14] {
-    let cast = (1, Entry::Cast, 0);
-    [
-        opens(1),
-        posts(1, cast, 1, Some(token(1))),
-        posts(2, cast, 2, None),
-        turns(
-            3,
-            token(1),
-            0,
-            Next::Again(token(1)),
-            handled(1, Kind::Cast),
-        ),
-        refuses(Asked::Turn(token(2), 0), Refusal::NotQueued),
-        turns(4, token(1), 0, Next::Rest, handled(2, Kind::Cast)),
-        looks(
-            1,
-            Sight {
-                waiting: 0,
-                entries: 4,
-                mine: 2,
-                numbers: &[1, 2],
-                ended: None,
-            },
-        ),
-        removable(false),
-        posts(5, cast, 3, Some(token(5))),
-        removable(false),
-        stops(6, 3, 7),
-        removable(true),
-        rests(token(5), 0),
-        looks(
-            1,
-            Sight {
-                waiting: 0,
-                entries: 6,
-                mine: 3,
-                numbers: &[1, 2, 3],
-                ended: Some((3, 7)),
-            },
-        ),
-    ]
-}
+pub static UNTIL_A_STOP: [Row; 14] = [
+    Row::Opens(1),
+    Row::Posts(1, CAST, 1, Some(TOKEN_1)),
+    Row::Posts(2, CAST, 2, None),
+    Row::Turns(3, TOKEN_1, 2, AGAIN, (1, Kind::Cast), FINISHED),
+    Row::Refuses(Asked::Turn(TOKEN_2, 0), Refusal::NotQueued),
+    Row::Turns(4, TOKEN_1, 6, Next::Rest, (2, Kind::Cast), FINISHED),
+    Row::Looks(
+        1,
+        Sight {
+            waiting: 0,
+            entries: 4,
+            mine: 2,
+            numbers: &[1, 2],
+            ended: None,
+        },
+    ),
+    Row::Removable(false),
+    Row::Posts(5, CAST, 3, Some(TOKEN_5)),
+    Row::Removable(false),
+    Row::Stops(6, 3, 7),
+    Row::Removable(true),
+    Row::Rests(TOKEN_5, 9),
+    Row::Looks(
+        1,
+        Sight {
+            waiting: 0,
+            entries: 6,
+            mine: 3,
+            numbers: &[1, 2, 3],
+            ended: Some((3, 7)),
+        },
+    ),
+];
 
 /// What is done before the journal is cut.
-pub fn before_a_cut() -> [Row; 6] {
-    let cast = (1, Entry::Cast, 0);
-    [
-        opens(1),
-        posts(1, cast, 1, Some(token(1))),
-        posts(2, cast, 2, None),
-        turns(
-            3,
-            token(1),
-            0,
-            Next::Again(token(1)),
-            handled(1, Kind::Cast),
-        ),
-        refuses(Asked::Turn(token(2), 0), Refusal::NotQueued),
-        turns(4, token(1), 0, Next::Rest, handled(2, Kind::Cast)),
-    ]
-}
+pub static BEFORE_A_CUT: [Row; 6] = [
+    Row::Opens(1),
+    Row::Posts(1, CAST, 1, Some(TOKEN_1)),
+    Row::Posts(2, CAST, 2, None),
+    Row::Turns(3, TOKEN_1, 2, AGAIN, (1, Kind::Cast), FINISHED),
+    Row::Refuses(Asked::Turn(TOKEN_2, 0), Refusal::NotQueued),
+    Row::Turns(4, TOKEN_1, 6, Next::Rest, (2, Kind::Cast), FINISHED),
+];
 
 /// What is done and seen behind it.
-pub fn after_a_cut() -> [Row; 3] {
-    let cast = (1, Entry::Cast, 0);
-    [
-        looks(
-            1,
-            Sight {
-                waiting: 0,
-                entries: 4,
-                mine: 2,
-                numbers: &[],
-                ended: None,
-            },
-        ),
-        posts(5, cast, 3, Some(token(5))),
-        looks(
-            1,
-            Sight {
-                waiting: 1,
-                entries: 5,
-                mine: 3,
-                numbers: &[3],
-                ended: None,
-            },
-        ),
-    ]
-}
+pub static AFTER_A_CUT: [Row; 3] = [
+    Row::Looks(
+        1,
+        Sight {
+            waiting: 0,
+            entries: 4,
+            mine: 2,
+            numbers: &[],
+            ended: None,
+        },
+    ),
+    Row::Posts(5, CAST, 3, Some(TOKEN_5)),
+    Row::Looks(
+        1,
+        Sight {
+            waiting: 1,
+            entries: 5,
+            mine: 3,
+            numbers: &[3],
+            ended: None,
+        },
+    ),
+];
+
+/// What is seen of a cell behind it.
+static ONE_PORT: [Row; 1] = [Row::HasPorts(1)];
 
 #[test]
 fn a_cell_by_rows(rt: HostRuntime) {
     let rt = Host::new(rt);
-    let rows = until_a_stop();
-    plays_over(&rt, just_begun(&rt, rt.alloc()), rows.as_slice());
+    let mut pair = just_begun(&rt, rt.alloc());
+    pair.plays(&rt, UNTIL_A_STOP.as_slice());
+    drop(pair);
     rt.end();
 }
 
 #[test]
 fn a_journal_is_cut(rt: HostRuntime) {
     let rt = Host::new(rt);
-    let before = before_a_cut();
-    let after = after_a_cut();
-    let ports = [answers(Asked::Ports, Answered::Ports(1))];
-    let begun = plays_over(&rt, just_begun(&rt, rt.alloc()), before.as_slice());
-    let begun = plays_over(&rt, begun, after.as_slice());
-    plays_over(&rt, begun, ports.as_slice());
+    let mut pair = just_begun(&rt, rt.alloc());
+    pair.plays(&rt, BEFORE_A_CUT.as_slice());
+    pair.plays(&rt, AFTER_A_CUT.as_slice());
+    pair.plays(&rt, ONE_PORT.as_slice());
+    drop(pair);
     rt.end();
 }

@@ -1,22 +1,12 @@
 //! Machines end, and requests are answered and collected.
 use super::asked::Asked;
-use super::begun::{ID, just_begun, tag, token};
-use super::did::handled;
+use super::begun::{REQUEST_1, REQUEST_2, REQUEST_3, TOKEN_0, TOKEN_1, just_begun};
+use super::did::{Did, ENDED, FINISHED};
 use super::host::Host;
-use super::played::plays_over;
-use super::row::{
-    Sight, collects, collects_nothing, collects_reason, copies, has_token, looks, opens, posts,
-    refuses, removable, replies, rests, stops, turns,
-};
-use st_core::{Collected, Entry, Kind, MachineId, Refusal, Tag};
+use super::row::{Row, Sight};
+use st_core::{Entry, Kind, MachineId, Refusal};
 use st_events::Token;
 use st_lock::Next;
-
-/// The machine's first request.
-const FIRST: Tag = Tag {
-    machine: ID,
-    request: 1,
-};
 
 /// The token of another machine.
 const FOREIGN: Token = Token {
@@ -27,74 +17,96 @@ const FOREIGN: Token = Token {
 /// The first moment that is refused.
 const TOO_LATE: u64 = 9_223_372_036_854_775_808;
 
+/// The first request is answered.
+const REPLIED: Did = Did {
+    replied: &[REQUEST_1],
+    ..FINISHED
+};
+
+/// Requests are answered and collected.
+static REQUESTS: [Row; 14] = [
+    Row::Opens(1),
+    Row::Posts(1, (1, Entry::Call, 6), 1, Some(TOKEN_1)),
+    Row::Posts(2, (1, Entry::Call, 0), 2, None),
+    Row::Posts(3, (1, Entry::Call, 0), 3, None),
+    Row::Turns(
+        4,
+        TOKEN_1,
+        0,
+        Next::Again(TOKEN_1),
+        (1, Kind::Call(REQUEST_1)),
+        REPLIED,
+    ),
+    Row::Replies(5, REQUEST_2, 60, true),
+    Row::Replies(6, REQUEST_2, 61, false),
+    Row::Collects(7, REQUEST_1, 50),
+    Row::Misses(REQUEST_1),
+    Row::Waits(REQUEST_3),
+    Row::Refuses(Asked::Tick(TOO_LATE), Refusal::Moment),
+    Row::Refuses(Asked::Turn(TOKEN_1, TOO_LATE), Refusal::Moment),
+    Row::Refuses(Asked::Turn(TOKEN_0, 0), Refusal::NotQueued),
+    Row::Refuses(Asked::Turn(FOREIGN, 0), Refusal::NotQueued),
+];
+
+/// Then the machine is stopped.
+static STOPPED: [Row; 16] = [
+    Row::Removable(false),
+    Row::Stops(8, 3, 7),
+    Row::Removable(true),
+    Row::Refuses(Asked::Post(1, Entry::Cast, 8), Refusal::Stopped(3)),
+    Row::Refuses(Asked::Tick(9), Refusal::Stopped(3)),
+    Row::Refuses(Asked::Tick(TOO_LATE), Refusal::Stopped(3)),
+    Row::Refuses(Asked::Stop(4), Refusal::Stopped(3)),
+    Row::HasToken(Some(TOKEN_1)),
+    Row::Rests(TOKEN_1, 9),
+    Row::HasToken(None),
+    Row::Refuses(Asked::Turn(TOKEN_1, 9), Refusal::NotQueued),
+    Row::CollectsReason(9, REQUEST_3, 3),
+    Row::Misses(REQUEST_3),
+    Row::Collects(10, REQUEST_2, 60),
+    Row::Replies(11, REQUEST_3, 62, false),
+    Row::Copies("front", 0),
+];
+
 #[test]
 fn requests_and_the_end(rt: HostRuntime) {
     let rt = Host::new(rt);
-    let replied = handled(1, Kind::Call(tag(1))).replying(&[FIRST]);
-    let rows = [
-        opens(1),
-        posts(1, (1, Entry::Call, 6), 1, Some(token(1))),
-        posts(2, (1, Entry::Call, 0), 2, None),
-        posts(3, (1, Entry::Call, 0), 3, None),
-        turns(4, token(1), 0, Next::Again(token(1)), replied),
-        replies(5, tag(2), 60, true),
-        replies(6, tag(2), 61, false),
-        collects(7, tag(1), 50),
-        collects_nothing(tag(1), Collected::Gone),
-        collects_nothing(tag(3), Collected::Waiting),
-        refuses(Asked::Tick(TOO_LATE), Refusal::Moment),
-        refuses(Asked::Turn(token(1), TOO_LATE), Refusal::Moment),
-        refuses(Asked::Turn(token(0), 0), Refusal::NotQueued),
-        refuses(Asked::Turn(FOREIGN, 0), Refusal::NotQueued),
-    ];
-    let end = [
-        removable(false),
-        stops(8, 3, 7),
-        removable(true),
-        refuses(Asked::Post(1, Entry::Cast, 8), Refusal::Stopped(3)),
-        refuses(Asked::Tick(9), Refusal::Stopped(3)),
-        refuses(Asked::Tick(TOO_LATE), Refusal::Stopped(3)),
-        refuses(Asked::Stop(4), Refusal::Stopped(3)),
-        has_token(Some(token(1))),
-        rests(token(1), 9),
-        has_token(None),
-        refuses(Asked::Turn(token(1), 9), Refusal::NotQueued),
-        collects_reason(9, tag(3), 3),
-        collects_nothing(tag(3), Collected::Gone),
-        collects(10, tag(2), 60),
-        replies(11, tag(3), 62, false),
-        copies("front", 0),
-    ];
-    let begun = plays_over(&rt, just_begun(&rt, rt.alloc()), rows.as_slice());
-    plays_over(&rt, begun, end.as_slice());
+    let mut pair = just_begun(&rt, rt.alloc());
+    pair.plays(&rt, REQUESTS.as_slice());
+    pair.plays(&rt, STOPPED.as_slice());
+    drop(pair);
     rt.end();
 }
+
+/// A machine ends by its turn.
+static BY_A_TURN: [Row; 11] = [
+    Row::Opens(1),
+    Row::Posts(1, (1, Entry::Cast, 1), 1, Some(TOKEN_1)),
+    Row::Posts(2, (1, Entry::Call, 0), 2, None),
+    Row::Turns(3, TOKEN_1, 4, Next::Rest, (1, Kind::Cast), ENDED),
+    Row::HasToken(None),
+    Row::Removable(true),
+    Row::Refuses(Asked::Post(1, Entry::Cast, 8), Refusal::Stopped(9)),
+    Row::Refuses(Asked::Tick(5), Refusal::Stopped(9)),
+    Row::Refuses(Asked::Stop(4), Refusal::Stopped(9)),
+    Row::CollectsReason(4, REQUEST_2, 9),
+    Row::Looks(
+        1,
+        Sight {
+            waiting: 0,
+            entries: 4,
+            mine: 2,
+            numbers: &[1, 2],
+            ended: Some((9, 7)),
+        },
+    ),
+];
 
 #[test]
 fn a_machine_ends_by_its_turn(rt: HostRuntime) {
     let rt = Host::new(rt);
-    let rows = [
-        opens(1),
-        posts(1, (1, Entry::Cast, 1), 1, Some(token(1))),
-        posts(2, (1, Entry::Call, 0), 2, None),
-        turns(3, token(1), 4, Next::Rest, handled(1, Kind::Cast).ending()),
-        has_token(None),
-        removable(true),
-        refuses(Asked::Post(1, Entry::Cast, 8), Refusal::Stopped(9)),
-        refuses(Asked::Tick(5), Refusal::Stopped(9)),
-        refuses(Asked::Stop(4), Refusal::Stopped(9)),
-        collects_reason(4, tag(2), 9),
-        looks(
-            1,
-            Sight {
-                waiting: 0,
-                entries: 4,
-                mine: 2,
-                numbers: &[1, 2],
-                ended: Some((9, 7)),
-            },
-        ),
-    ];
-    plays_over(&rt, just_begun(&rt, rt.alloc()), rows.as_slice());
+    let mut pair = just_begun(&rt, rt.alloc());
+    pair.plays(&rt, BY_A_TURN.as_slice());
+    drop(pair);
     rt.end();
 }

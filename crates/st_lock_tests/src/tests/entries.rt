@@ -1,115 +1,131 @@
 //! Each entry of a journal, as it is written.
-use super::asked::{Answered, Asked};
-use super::begun::{just_begun, tag, token};
-use super::did::handled;
+use super::begun::{REQUEST_1, TOKEN_1, TOKEN_8, just_begun};
+use super::did::{Did, FINISHED, PUT_OFF};
 use super::host::Host;
-use super::played::plays_over;
-use super::row::{Sight, answers, copies, looks, opens, posts, ticks, turns};
+use super::row::{Row, Sight};
 use st_core::{Entry, Kind, Time, Timer};
 use st_lock::Next;
+
+/// There is work still.
+const AGAIN: Next = Next::Again(TOKEN_1);
+
+/// Events are posted through two ports.
+static TWO_PORTS: [Row; 9] = [
+    Row::Opens(1),
+    Row::Opens(2),
+    Row::HasPorts(2),
+    Row::Posts(1, (1, Entry::Call, 0), 1, Some(TOKEN_1)),
+    Row::Posts(2, (2, Entry::Cast, 0), 2, None),
+    Row::Posts(3, (1, Entry::Info, 0), 3, None),
+    Row::Looks(
+        1,
+        Sight {
+            waiting: 3,
+            entries: 3,
+            mine: 2,
+            numbers: &[1, 3],
+            ended: None,
+        },
+    ),
+    Row::Looks(
+        2,
+        Sight {
+            waiting: 3,
+            entries: 3,
+            mine: 1,
+            numbers: &[2],
+            ended: None,
+        },
+    ),
+    Row::Copies("", 0),
+];
+
+/// What is done and seen through them behind a cut.
+static TWO_PORTS_LATER: [Row; 4] = [
+    Row::Turns(4, TOKEN_1, 2, AGAIN, (1, Kind::Call(REQUEST_1)), FINISHED),
+    Row::Posts(5, (2, Entry::Cast, 0), 4, None),
+    Row::Looks(
+        1,
+        Sight {
+            waiting: 3,
+            entries: 5,
+            mine: 2,
+            numbers: &[],
+            ended: None,
+        },
+    ),
+    Row::Looks(
+        2,
+        Sight {
+            waiting: 3,
+            entries: 5,
+            mine: 2,
+            numbers: &[4],
+            ended: None,
+        },
+    ),
+];
 
 #[test]
 fn two_ports_count_apart(rt: HostRuntime) {
     let rt = Host::new(rt);
-    let rows = [
-        opens(1),
-        opens(2),
-        answers(Asked::Ports, Answered::Ports(2)),
-        posts(1, (1, Entry::Call, 0), 1, Some(token(1))),
-        posts(2, (2, Entry::Cast, 0), 2, None),
-        posts(3, (1, Entry::Info, 0), 3, None),
-        looks(
-            1,
-            Sight {
-                waiting: 3,
-                entries: 3,
-                mine: 2,
-                numbers: &[1, 3],
-                ended: None,
-            },
-        ),
-        looks(
-            2,
-            Sight {
-                waiting: 3,
-                entries: 3,
-                mine: 1,
-                numbers: &[2],
-                ended: None,
-            },
-        ),
-        copies("", 0),
-    ];
-    let later = [
-        turns(
-            4,
-            token(1),
-            2,
-            Next::Again(token(1)),
-            handled(1, Kind::Call(tag(1))),
-        ),
-        posts(5, (2, Entry::Cast, 0), 4, None),
-        looks(
-            1,
-            Sight {
-                waiting: 3,
-                entries: 5,
-                mine: 2,
-                numbers: &[],
-                ended: None,
-            },
-        ),
-        looks(
-            2,
-            Sight {
-                waiting: 3,
-                entries: 5,
-                mine: 2,
-                numbers: &[4],
-                ended: None,
-            },
-        ),
-    ];
-    let begun = plays_over(&rt, just_begun(&rt, rt.alloc()), rows.as_slice());
-    plays_over(&rt, begun, later.as_slice());
+    let mut pair = just_begun(&rt, rt.alloc());
+    pair.plays(&rt, TWO_PORTS.as_slice());
+    pair.plays(&rt, TWO_PORTS_LATER.as_slice());
+    drop(pair);
     rt.end();
 }
+
+/// An event is inserted, and the state time-out is set.
+const ASKED: Did = Did {
+    inserted: &[3],
+    set: &[(Timer::State, Time::After(5))],
+    ..FINISHED
+};
+
+/// A machine is told a moment and served.
+static SERVED: [Row; 8] = [
+    Row::Opens(1),
+    Row::Posts(1, (1, Entry::Cast, 5), 1, Some(TOKEN_1)),
+    Row::Posts(2, (1, Entry::Cast, 4), 2, None),
+    Row::Ticks(3, 0, 0, None),
+    Row::Turns(4, TOKEN_1, 2, AGAIN, (1, Kind::Cast), ASKED),
+    Row::Turns(5, TOKEN_1, 2, AGAIN, (3, Kind::Internal), FINISHED),
+    Row::Turns(6, TOKEN_1, 3, Next::Rest, (2, Kind::Cast), PUT_OFF),
+    Row::Copies("front", 0),
+];
+
+/// Behind a cut its time-out expires.
+static EXPIRED: [Row; 5] = [
+    Row::Copies("front", 3),
+    Row::Ticks(7, 6, 0, None),
+    Row::Ticks(8, 7, 1, Some(TOKEN_8)),
+    Row::Turns(
+        9,
+        TOKEN_8,
+        7,
+        Next::Rest,
+        (4, Kind::Timeout(Timer::State)),
+        FINISHED,
+    ),
+    Row::Looks(
+        1,
+        Sight {
+            waiting: 1,
+            entries: 9,
+            mine: 2,
+            numbers: &[],
+            ended: None,
+        },
+    ),
+];
 
 #[test]
 fn ticks_and_turns(rt: HostRuntime) {
     let rt = Host::new(rt);
-    let again = Next::Again(token(1));
-    let asked = handled(1, Kind::Cast)
-        .inserting(&[3])
-        .setting(&[(Timer::State, Time::After(5))]);
-    let rows = [
-        opens(1),
-        posts(1, (1, Entry::Cast, 5), 1, Some(token(1))),
-        posts(2, (1, Entry::Cast, 4), 2, None),
-        ticks(3, 0, 0, None),
-        turns(4, token(1), 2, again, asked),
-        turns(5, token(1), 2, again, handled(3, Kind::Internal)),
-        turns(6, token(1), 3, Next::Rest, handled(2, Kind::Cast).put_off()),
-        copies("front", 0),
-    ];
-    let time_out = handled(4, Kind::Timeout(Timer::State));
-    let later = [
-        copies("front", 3),
-        ticks(7, 6, 0, None),
-        ticks(8, 7, 1, Some(token(8))),
-        turns(9, token(8), 7, Next::Rest, time_out),
-        looks(
-            1,
-            Sight {
-                waiting: 1,
-                entries: 9,
-                mine: 2,
-                numbers: &[],
-                ended: None,
-            },
-        ),
-    ];
-    let begun = plays_over(&rt, just_begun(&rt, rt.alloc()), rows.as_slice());
-    plays_over(&rt, begun, later.as_slice());
+    let mut pair = just_begun(&rt, rt.alloc());
+    pair.plays(&rt, SERVED.as_slice());
+    pair.plays(&rt, EXPIRED.as_slice());
+    drop(pair);
     rt.end();
 }

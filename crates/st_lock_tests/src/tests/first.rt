@@ -1,11 +1,10 @@
 //! Machines that have an event at first, and machines that come to the last numbers.
 use super::asked::Asked;
-use super::begun::{begun, tag, token};
-use super::did::handled;
+use super::begun::{ID, TOKEN_0, TOKEN_1, TOKEN_3, begun};
+use super::did::{Did, FINISHED};
 use super::host::Host;
-use super::played::plays_over;
-use super::row::{Sight, copies, has_token, looks, opens, posts, refuses, rests, stops, turns};
-use st_core::{Entry, Kind, Refusal};
+use super::row::{Row, Sight};
+use st_core::{Entry, Kind, Refusal, Tag};
 use st_lock::Next;
 
 /// The last number that an event gets.
@@ -14,73 +13,95 @@ const LAST: u64 = 9_223_372_036_854_775_807;
 /// The last number but one.
 const LAST_BUT_ONE: u64 = 9_223_372_036_854_775_806;
 
+/// The request with the last number.
+const LAST_REQUEST: Tag = Tag {
+    machine: ID,
+    request: LAST,
+};
+
+/// An event with the number 2 is inserted.
+const INSERTED: Did = Did {
+    inserted: &[2],
+    ..FINISHED
+};
+
+/// The machine is served before a port is opened.
+static EVENT_FIRST: [Row; 6] = [
+    Row::HasToken(Some(TOKEN_0)),
+    Row::Turns(
+        1,
+        TOKEN_0,
+        3,
+        Next::Again(TOKEN_0),
+        (1, Kind::Cast),
+        INSERTED,
+    ),
+    Row::Turns(2, TOKEN_0, 3, Next::Rest, (2, Kind::Internal), FINISHED),
+    Row::Opens(1),
+    Row::Posts(3, (1, Entry::Cast, 0), 3, Some(TOKEN_3)),
+    Row::Copies("front", 0),
+];
+
 #[test]
 fn an_event_comes_first(rt: HostRuntime) {
     let rt = Host::new(rt);
-    let wake = Some(token(0));
-    let rows = [
-        has_token(wake),
-        turns(
-            1,
-            token(0),
-            3,
-            Next::Again(token(0)),
-            handled(1, Kind::Cast).inserting(&[2]),
-        ),
-        turns(2, token(0), 3, Next::Rest, handled(2, Kind::Internal)),
-        opens(1),
-        posts(3, (1, Entry::Cast, 0), 3, Some(token(3))),
-        copies("front", 0),
-    ];
-    let begun = begun(&rt, rt.alloc(), 1, [2].as_slice(), wake);
-    plays_over(&rt, begun, rows.as_slice());
+    let mut pair = begun(&rt, rt.alloc(), 1, [2].as_slice(), Some(TOKEN_0));
+    pair.plays(&rt, EVENT_FIRST.as_slice());
+    drop(pair);
     rt.end();
 }
+
+/// The last number is given, and no other.
+static LAST_GIVEN: [Row; 5] = [
+    Row::Opens(1),
+    Row::Posts(1, (1, Entry::Call, 0), LAST, Some(TOKEN_1)),
+    Row::Refuses(Asked::Post(1, Entry::Cast, 8), Refusal::Exhausted),
+    Row::Turns(
+        2,
+        TOKEN_1,
+        0,
+        Next::Rest,
+        (LAST, Kind::Call(LAST_REQUEST)),
+        FINISHED,
+    ),
+    Row::Refuses(Asked::Post(1, Entry::Call, 8), Refusal::Exhausted),
+];
 
 #[test]
 fn the_last_number_is_given_once(rt: HostRuntime) {
     let rt = Host::new(rt);
-    let rows = [
-        opens(1),
-        posts(1, (1, Entry::Call, 0), LAST, Some(token(1))),
-        refuses(Asked::Post(1, Entry::Cast, 8), Refusal::Exhausted),
-        turns(
-            2,
-            token(1),
-            0,
-            Next::Rest,
-            handled(LAST, Kind::Call(tag(LAST))),
-        ),
-        refuses(Asked::Post(1, Entry::Call, 8), Refusal::Exhausted),
-    ];
-    let begun = begun(&rt, rt.alloc(), LAST, [].as_slice(), None);
-    plays_over(&rt, begun, rows.as_slice());
+    let mut pair = begun(&rt, rt.alloc(), LAST, [].as_slice(), None);
+    pair.plays(&rt, LAST_GIVEN.as_slice());
+    drop(pair);
     rt.end();
 }
+
+/// A turn wants more numbers than there are.
+static NUMBERS_WANTED: [Row; 8] = [
+    Row::Opens(1),
+    Row::Posts(1, (1, Entry::Cast, 7), LAST_BUT_ONE, Some(TOKEN_1)),
+    Row::Refuses(Asked::Turn(TOKEN_1, 0), Refusal::Exhausted),
+    Row::HasToken(Some(TOKEN_1)),
+    Row::Looks(
+        1,
+        Sight {
+            waiting: 1,
+            entries: 1,
+            mine: 1,
+            numbers: &[LAST_BUT_ONE],
+            ended: None,
+        },
+    ),
+    Row::Stops(2, 5, 7),
+    Row::Rests(TOKEN_1, 0),
+    Row::HasToken(None),
+];
 
 #[test]
 fn a_turn_without_numbers_keeps_its_token(rt: HostRuntime) {
     let rt = Host::new(rt);
-    let rows = [
-        opens(1),
-        posts(1, (1, Entry::Cast, 7), LAST_BUT_ONE, Some(token(1))),
-        refuses(Asked::Turn(token(1), 0), Refusal::Exhausted),
-        has_token(Some(token(1))),
-        looks(
-            1,
-            Sight {
-                waiting: 1,
-                entries: 1,
-                mine: 1,
-                numbers: &[LAST_BUT_ONE],
-                ended: None,
-            },
-        ),
-        stops(2, 5, 7),
-        rests(token(1), 0),
-        has_token(None),
-    ];
-    let begun = begun(&rt, rt.alloc(), LAST_BUT_ONE, [].as_slice(), None);
-    plays_over(&rt, begun, rows.as_slice());
+    let mut pair = begun(&rt, rt.alloc(), LAST_BUT_ONE, [].as_slice(), None);
+    pair.plays(&rt, NUMBERS_WANTED.as_slice());
+    drop(pair);
     rt.end();
 }

@@ -1,77 +1,96 @@
 //! Each call where one allocation is refused: nothing that can be read changes, and it is made again.
 use super::asked::Asked;
-use super::begun::{just_begun, tag, token};
-use super::did::handled;
+use super::begun::{REQUEST_1, TOKEN_1, TOKEN_5, just_begun};
+use super::did::{Did, FINISHED};
 use super::host::Host;
-use super::played::plays_over;
-use super::row::{
-    Row, Sight, collects, copies, looks, opens, posts, refuses, replies, rests, stops, ticks, turns,
-};
+use super::row::{Row, Sight};
 use st_core::{Entry, Kind, Refusal, Time, Timer};
 use st_lock::Next;
+use std::alloc::Global;
+use std::process::Abort;
+
+/// The state time-out is set.
+const SET: Did = Did {
+    set: &[(Timer::State, Time::After(5))],
+    ..FINISHED
+};
 
 /// Each call, one after another.
-pub fn each_call() -> [Row; 12] {
-    [
-        opens(1),
-        posts(1, (1, Entry::Call, 0), 1, Some(token(1))),
-        posts(2, (1, Entry::Cast, 3), 2, None),
-        turns(
-            3,
-            token(1),
-            0,
-            Next::Again(token(1)),
-            handled(1, Kind::Call(tag(1))),
-        ),
-        turns(
-            4,
-            token(1),
-            0,
-            Next::Rest,
-            handled(2, Kind::Cast).setting(&[(Timer::State, Time::After(5))]),
-        ),
-        ticks(5, 5, 1, Some(token(5))),
-        replies(6, tag(1), 60, true),
-        collects(7, tag(1), 60),
-        looks(
-            1,
-            Sight {
-                waiting: 0,
-                entries: 7,
-                mine: 2,
-                numbers: &[1, 2],
-                ended: None,
-            },
-        ),
-        copies("front", 0),
-        stops(8, 3, 7),
-        rests(token(5), 5),
-    ]
-}
+pub static EACH_CALL: [Row; 12] = [
+    Row::Opens(1),
+    Row::Posts(1, (1, Entry::Call, 0), 1, Some(TOKEN_1)),
+    Row::Posts(2, (1, Entry::Cast, 3), 2, None),
+    Row::Turns(
+        3,
+        TOKEN_1,
+        0,
+        Next::Again(TOKEN_1),
+        (1, Kind::Call(REQUEST_1)),
+        FINISHED,
+    ),
+    Row::Turns(4, TOKEN_1, 0, Next::Rest, (2, Kind::Cast), SET),
+    Row::Ticks(5, 5, 1, Some(TOKEN_5)),
+    Row::Replies(6, REQUEST_1, 60, true),
+    Row::Collects(7, REQUEST_1, 60),
+    Row::Looks(
+        1,
+        Sight {
+            waiting: 0,
+            entries: 7,
+            mine: 2,
+            numbers: &[1, 2],
+            ended: None,
+        },
+    ),
+    Row::Copies("front", 0),
+    Row::Stops(8, 3, 7),
+    Row::Rests(TOKEN_5, 5),
+];
 
 #[test]
 fn each_call_is_made_again(rt: HostRuntime) {
     let rt = Host::new(rt);
-    let rows = each_call();
-    plays_over(&rt, just_begun(&rt, rt.alloc()), rows.as_slice());
+    let mut pair = just_begun(&rt, rt.alloc());
+    pair.plays(&rt, EACH_CALL.as_slice());
+    drop(pair);
     rt.end();
+}
+
+/// A stop of a cell that has just begun.
+static AT_ONCE: [Row; 2] = [
+    Row::Stops(1, 3, 7),
+    Row::Refuses(Asked::Stop(4), Refusal::Stopped(3)),
+];
+
+/// A port is opened.
+static ONE_PORT: [Row; 1] = [Row::Opens(1)];
+
+/// A stop.
+static STOP: [Row; 1] = [Row::Stops(1, 3, 7)];
+
+/// A stop behind a post.
+static POSTED: [Row; 4] = [
+    Row::Opens(1),
+    Row::Posts(1, (1, Entry::Cast, 0), 1, Some(TOKEN_1)),
+    Row::Stops(2, 3, 7),
+    Row::Rests(TOKEN_1, 0),
+];
+
+/// Plays lists of rows over a cell that has just begun; its journal is cut behind each.
+fn plays(rt: &Host<impl Abort>, alloc: Global, lists: &[&'static [Row]]) {
+    let mut pair = just_begun(rt, alloc);
+    for rows in lists {
+        pair.plays(rt, rows);
+    }
+    drop(pair);
 }
 
 /// A stop finds its place in a cell that has just begun, after a cut, and behind a post.
 #[test]
 fn a_stop_takes_no_memory(rt: HostRuntime) {
     let rt = Host::new(rt);
-    let at_once = [stops(1, 3, 7), refuses(Asked::Stop(4), Refusal::Stopped(3))];
-    plays_over(&rt, just_begun(&rt, rt.alloc()), at_once.as_slice());
-    let (before, after) = ([opens(1)], [stops(1, 3, 7)]);
-    let begun = plays_over(&rt, just_begun(&rt, rt.alloc()), before.as_slice());
-    plays_over(&rt, begun, after.as_slice());
-    let posted = [
-        opens(1),
-        posts(1, (1, Entry::Cast, 0), 1, Some(token(1))),
-        stops(2, 3, 7),
-        rests(token(1), 0),
-    ];
-    plays_over(&rt, just_begun(&rt, rt.alloc()), posted.as_slice());
+    plays(&rt, rt.alloc(), &[AT_ONCE.as_slice()]);
+    plays(&rt, rt.alloc(), &[ONE_PORT.as_slice(), STOP.as_slice()]);
+    plays(&rt, rt.alloc(), &[POSTED.as_slice()]);
     rt.end();
 }

@@ -1,24 +1,23 @@
 //! Rows one after another: where a call finds no memory, the cell is looked at, and the call is made again.
-use super::asked::{Answered, Asked, Given, refused};
+use super::asked::{Given, refused};
 use super::begun::ID;
 use super::did::reports;
 use super::host::{Host, holds};
 use super::kept::Kept;
-use super::plain::Plain;
-use super::row::{Line, Row, Sight, Told, Wanted, answers};
+use super::row::{Line, Row, Sight, Told};
 use super::shows::shows;
 use super::twin::{Twin, replays, snapshot_of};
 use super::whole::{Whole, read_all};
-use st_core::{Answer, Core, MachineState, Refusal, Turned};
-use st_lock::{Cell, Journal, JournalEntry, Look};
+use st_core::{Answer, MachineState, Refusal, Turned};
+use st_lock::{Journal, JournalEntry, Look};
 use std::process::Abort;
 
 /// Looks that an answer in a journal is the one that is wanted of a row.
 fn is_told(rt: &impl Abort, row: usize, answer: &Answer<u32, u32>, told: &Told) {
     match (answer, told) {
         (_, Told::Answer(other)) => shows(rt, row, "the answer in its entry", *answer == *other),
-        (Answer::Turn(Ok(Turned::Reported(report))), Told::Turned(did)) => {
-            reports(rt, row, report, did);
+        (Answer::Turn(Ok(Turned::Reported(report))), Told::Turned(handled, did)) => {
+            reports(rt, row, report, *handled, did);
         }
         _ => shows(rt, row, "its entry has a report", false),
     }
@@ -45,8 +44,8 @@ fn is_there(rt: &impl Abort, row: usize, entry: Option<&JournalEntry<u32, u32>>,
 pub fn are_lines(rt: &impl Abort, entries: &[JournalEntry<u32, u32>], rows: &[Row], done: usize) {
     let mut left = entries.iter();
     for (place, row) in rows.iter().take(done).enumerate() {
-        if let Some(line) = &row.line {
-            is_there(rt, place, left.next(), line);
+        if let Some(line) = row.line() {
+            is_there(rt, place, left.next(), &line);
         }
     }
     holds(rt, "there is no entry more", left.next().is_none());
@@ -74,42 +73,31 @@ fn is_kept<T: Kept>(rt: &impl Abort, cell: &T, past: &Past<'_>) {
 /// Looks that a call that found no memory may find none, and that what it was given came back.
 pub fn is_given_back(rt: &impl Abort, place: usize, row: &Row, given: &Given) {
     shows(rt, place, "it takes no memory", row.takes_memory());
-    let wanted = refused(row.asked, Refusal::NoMemory);
+    let wanted = refused(row.asked(), Refusal::NoMemory);
     shows(rt, place, "what it was given comes back", given.is(&wanted));
 }
 
-/// Looks that a refusal changed nothing that can be read, and says whether there was no memory for the call, which is
-/// made again then. What it was given came back.
-fn found_no_memory<T: Kept>(
-    rt: &Host<impl Abort>,
-    cell: &T,
-    row: &Row,
-    past: &Past<'_>,
-    given: &Given,
-    before: &Whole,
-) -> bool {
-    let Some(refusal) = given.refusal() else {
-        return false;
-    };
+/// Looks that a refusal changed nothing that can be read.
+fn is_unchanged<T: Kept>(rt: &Host<impl Abort>, cell: &T, past: &Past<'_>, before: &Whole) {
     let is_as_before = read_all(rt, cell) == *before;
     shows(rt, past.done, "a refusal changes nothing", is_as_before);
     is_kept(rt, cell, past);
-    if refusal != Refusal::NoMemory {
-        return false;
-    }
-    is_given_back(rt, past.done, row, given);
-    rt.retry();
-    true
 }
 
-/// Makes one call. Where it finds no memory, the same call is made again.
+/// Makes one call. Where it is refused, nothing that can be read has changed; and where it finds no memory, what it was
+/// given came back, and the same call is made again.
 fn tell<T: Kept>(rt: &Host<impl Abort>, cell: &mut T, row: &Row, past: &Past<'_>) -> Given {
     let before = read_all(rt, cell);
-    let given = cell.ask(row.asked);
-    if found_no_memory(rt, cell, row, past, &given, &before) {
-        return cell.ask(row.asked);
+    let given = cell.ask(row.asked());
+    if given.refusal().is_some() {
+        is_unchanged(rt, cell, past, &before);
     }
-    given
+    if given.refusal() != Some(Refusal::NoMemory) {
+        return given;
+    }
+    is_given_back(rt, past.done, row, &given);
+    rt.retry();
+    cell.ask(row.asked())
 }
 
 /// Looks that a look is the one that is wanted of a row.
@@ -158,21 +146,20 @@ fn is_copy<T: Kept>(
 }
 
 /// Looks that what a call came to is what is wanted of its row.
-fn agrees<T: Kept>(rt: &impl Abort, row: usize, cell: &T, given: &Given, wanted: &Wanted) {
-    match (given, wanted) {
-        (_, Wanted::Answer(other)) => shows(rt, row, "the answer", given.is(other)),
-        (Given::Look(look), Wanted::Look(sight)) => is_sight(rt, row, look, sight),
-        (Given::Journal(journal), Wanted::Journal(label, from)) => {
-            is_copy(rt, row, cell, journal, label, *from);
+fn agrees<T: Kept>(rt: &impl Abort, place: usize, cell: &T, given: &Given, row: &Row) {
+    match (given, row) {
+        (Given::Look(look), Row::Looks(_, sight)) => is_sight(rt, place, look, sight),
+        (Given::Journal(journal), Row::Copies(label, from)) => {
+            is_copy(rt, place, cell, journal, label, *from);
         }
-        _ => shows(rt, row, "a look or a copy", false),
+        _ => shows(rt, place, "the answer", given.is(&row.answer())),
     }
 }
 
 /// Makes one call, and looks at its answer.
 fn does<T: Kept>(rt: &Host<impl Abort>, cell: &mut T, row: &Row, past: &Past<'_>) {
     let given = tell(rt, cell, row, past);
-    agrees(rt, past.done, cell, &given, &row.wanted);
+    agrees(rt, past.done, cell, &given, row);
 }
 
 /// The journal is told to the twin, which answers what the journal says, and cut. The base is what the twin is then,
@@ -181,8 +168,7 @@ fn cuts<T: Kept, U: Twin>(rt: &Host<impl Abort>, cell: &mut T, twin: &mut U, pas
     replays(rt, twin, cell.read_entries());
     let base = snapshot_of(rt, twin);
     let before = cell.see();
-    let row = answers(Asked::Cut, Answered::Cut(Ok(())));
-    does(rt, cell, &row, past);
+    does(rt, cell, &Row::Cuts, past);
     holds(rt, "a cut changes nothing else", cell.see() == before);
     let is_empty = cell.read_entries().is_empty();
     holds(rt, "the journal is empty behind a cut", is_empty);
@@ -193,7 +179,7 @@ fn cuts<T: Kept, U: Twin>(rt: &Host<impl Abort>, cell: &mut T, twin: &mut U, pas
 /// Makes calls one after another of a cell whose journal is empty, and looks at their answers, and at the whole journal
 /// and the base before each call and after the last one. Then the journal is cut. The twin is what the cell's machine
 /// was before the first call, and becomes what it is after the last one.
-fn plays<T: Kept, U: Twin>(rt: &Host<impl Abort>, cell: &mut T, twin: &mut U, rows: &[Row]) {
+pub fn plays<T: Kept, U: Twin>(rt: &Host<impl Abort>, cell: &mut T, twin: &mut U, rows: &[Row]) {
     let base = snapshot_of(rt, twin);
     for (done, row) in rows.iter().enumerate() {
         let past = Past {
@@ -211,15 +197,4 @@ fn plays<T: Kept, U: Twin>(rt: &Host<impl Abort>, cell: &mut T, twin: &mut U, ro
     };
     is_kept(rt, cell, &past);
     cuts(rt, cell, twin, &past);
-}
-
-/// Plays rows over a cell, beside a machine that has begun alike, and answers both. Behind the rows the journal is cut.
-pub fn plays_over(
-    rt: &Host<impl Abort>,
-    begun: (Cell<Plain>, Core<Plain>),
-    rows: &[Row],
-) -> (Cell<Plain>, Core<Plain>) {
-    let (mut cell, mut twin) = begun;
-    plays(rt, &mut cell, &mut twin, rows);
-    (cell, twin)
 }

@@ -1,6 +1,6 @@
 //! Rows: a call, what it is to answer, and the entry that it is to have.
 use super::asked::{Answered, Asked, refused};
-use super::did::Did;
+use super::did::{Did, Handled};
 use st_core::{Answer, Collected, Command, Entry, Reason, Refusal, Tag};
 use st_events::Token;
 use st_lock::Next;
@@ -16,24 +16,13 @@ pub struct Sight {
     pub ended: Option<(Reason, u32)>,
 }
 
-/// What a call is to answer.
-#[derive(Drop)]
-pub enum Wanted {
-    /// This answer.
-    Answer(Answered),
-    /// This look.
-    Look(Sight),
-    /// A copy of the journal, with this label and this moment.
-    Journal(&'static str, u64),
-}
-
 /// What an entry is to say that was answered.
 #[derive(Drop)]
 pub enum Told {
     /// This answer.
     Answer(Answer<u32, u32>),
-    /// The report of a turn that did this.
-    Turned(Did),
+    /// The report of a turn that handled this event, and did this.
+    Turned(Handled, Did),
 }
 
 /// The entry that a call is to have.
@@ -45,186 +34,166 @@ pub struct Line {
     pub told: Told,
 }
 
-/// A call, what it is to answer, and the entry that it is to have.
-#[derive(Drop)]
-pub struct Row {
-    pub asked: Asked,
-    pub wanted: Wanted,
-    pub line: Option<Line>,
-}
-
-impl Row {
-    /// Says whether the call may find no memory: where it has an entry, but for a stop, whose place is reserved; a turn
-    /// that finds too few numbers left; and what makes a list or a copy.
-    pub fn takes_memory(&self) -> bool {
-        match self.asked {
-            Asked::Stop(_) => false,
-            Asked::Port | Asked::Look(_) | Asked::Journal(_) | Asked::Cut => true,
-            Asked::Turn(_, _) => self.line.is_some() || self.is_exhausted(),
-            _ => self.line.is_some(),
-        }
-    }
-
-    /// Says whether the call is to be refused for want of numbers.
-    fn is_exhausted(&self) -> bool {
-        match &self.wanted {
-            Wanted::Answer(answered) => answered.refusal() == Some(Refusal::Exhausted),
-            _ => false,
-        }
-    }
-}
-
-/// A call that has no entry.
-pub fn answers(asked: Asked, answered: Answered) -> Row {
-    Row {
-        asked,
-        wanted: Wanted::Answer(answered),
-        line: None,
-    }
-}
-
-/// A call that is refused, and gives back what it was given.
-pub fn refuses(asked: Asked, refusal: Refusal) -> Row {
-    answers(asked, refused(asked, refusal))
-}
-
-/// The next port is opened, and this is its number.
-pub fn opens(number: u64) -> Row {
-    answers(Asked::Port, Answered::Port(Ok(number)))
-}
-
-/// A look through a port.
-pub fn looks(port: u64, sight: Sight) -> Row {
-    Row {
-        asked: Asked::Look(port),
-        wanted: Wanted::Look(sight),
-        line: None,
-    }
-}
-
-/// A copy of the journal, with a label; the machine had seen this moment before the first entry.
-pub fn copies(label: &'static str, from: u64) -> Row {
-    Row {
-        asked: Asked::Journal(label),
-        wanted: Wanted::Journal(label, from),
-        line: None,
-    }
-}
-
-/// The outstanding token is this one.
-pub fn has_token(token: Option<Token>) -> Row {
-    answers(Asked::Token, Answered::Token(token))
-}
-
-/// The machine can be removed, or cannot.
-pub fn removable(can: bool) -> Row {
-    answers(Asked::Removable, Answered::Removable(can))
-}
-
 /// What a port posts: the port, how, and a content.
 pub type Post = (u64, Entry, u32);
 
-/// A port posts an event, which gets this number; and the token is issued, if one is.
-pub fn posts(entry: u64, post: Post, number: u64, wake: Option<Token>) -> Row {
-    let (port, how, content) = post;
-    Row {
-        asked: Asked::Post(port, how, content),
-        wanted: Wanted::Answer(Answered::Posted(Ok(Posted { number, wake }))),
-        line: Some(Line {
-            number: entry,
-            port: Some(port),
-            command: Command::Post(how, content),
-            told: Told::Answer(Answer::Post(Ok(number))),
-        }),
+/// A call, and what it is to answer. Where it is to have an entry, that entry's number comes first.
+#[derive(Clone, Copy)]
+pub enum Row {
+    /// The next port is opened, and this is its number.
+    Opens(u64),
+    /// A port posts an event, which gets this number; and the token is issued, if one is.
+    Posts(u64, Post, u64, Option<Token>),
+    /// The machine is served by a token, at a moment: what becomes of the token, the event that is handled, and what is
+    /// done.
+    Turns(u64, Token, u64, Next, Handled, Did),
+    /// The machine is told the moment: so many time-outs expire; and the token is issued, if one is.
+    Ticks(u64, u64, u64, Option<Token>),
+    /// A request is answered with a content, which is taken or not.
+    Replies(u64, Tag, u32, bool),
+    /// The reply to a request is handed out.
+    Collects(u64, Tag, u32),
+    /// The reason is handed out for which the machine has ended before it replied.
+    CollectsReason(u64, Tag, Reason),
+    /// The machine is stopped for a reason, with this last word.
+    Stops(u64, Reason, u32),
+    /// Nothing is handed out: no reply has come to the request.
+    Waits(Tag),
+    /// Nothing is handed out: nothing is kept for the request.
+    Misses(Tag),
+    /// The token of a machine that has no work, or has ended, is retired at a moment, with no turn.
+    Rests(Token, u64),
+    /// A look through a port.
+    Looks(u64, Sight),
+    /// A copy of the journal, with a label; the machine had seen this moment before the first entry.
+    Copies(&'static str, u64),
+    /// The journal is cut.
+    Cuts,
+    /// So many ports are open.
+    HasPorts(usize),
+    /// The outstanding token is this one.
+    HasToken(Option<Token>),
+    /// The machine can be removed, or cannot.
+    Removable(bool),
+    /// A call is refused, and gives back what it was given.
+    Refuses(Asked, Refusal),
+}
+
+impl Row {
+    /// The call.
+    pub fn asked(&self) -> Asked {
+        match *self {
+            Row::Opens(_) => Asked::Port,
+            Row::Posts(_, (port, how, content), _, _) => Asked::Post(port, how, content),
+            Row::Turns(_, token, now, _, _, _) => Asked::Turn(token, now),
+            Row::Ticks(_, now, _, _) => Asked::Tick(now),
+            Row::Replies(_, tag, content, _) => Asked::Reply(tag, content),
+            Row::Collects(_, tag, _) => Asked::Collect(tag),
+            Row::CollectsReason(_, tag, _) => Asked::Collect(tag),
+            Row::Stops(_, reason, _) => Asked::Stop(reason),
+            Row::Waits(tag) => Asked::Collect(tag),
+            Row::Misses(tag) => Asked::Collect(tag),
+            Row::Rests(token, now) => Asked::Turn(token, now),
+            Row::Looks(port, _) => Asked::Look(port),
+            Row::Copies(label, _) => Asked::Journal(label),
+            Row::Cuts => Asked::Cut,
+            Row::HasPorts(_) => Asked::Ports,
+            Row::HasToken(_) => Asked::Token,
+            Row::Removable(_) => Asked::Removable,
+            Row::Refuses(asked, _) => asked,
+        }
     }
-}
 
-/// A call that is no post, with its entry.
-fn tells(asked: Asked, answered: Answered, entry: u64, command: Command<u32>, told: Told) -> Row {
-    Row {
-        asked,
-        wanted: Wanted::Answer(answered),
-        line: Some(Line {
-            number: entry,
-            port: None,
-            command,
-            told,
-        }),
+    /// What the call is to answer; a look and a copy are compared part by part.
+    pub fn answer(&self) -> Answered {
+        match *self {
+            Row::Opens(number) => Answered::Port(Ok(number)),
+            Row::Posts(_, _, number, wake) => Answered::Posted(Ok(Posted { number, wake })),
+            Row::Turns(_, _, _, next, _, _) => Answered::Turned(Ok(next)),
+            Row::Ticks(_, _, expired, wake) => Answered::Ticked(Ok(Ticked { expired, wake })),
+            Row::Replies(_, _, _, taken) => Answered::Replied(Ok(taken)),
+            Row::Collects(_, _, content) => Answered::Collected(Ok(Collected::Reply(content))),
+            Row::CollectsReason(_, _, reason) => {
+                Answered::Collected(Ok(Collected::Stopped(reason)))
+            }
+            Row::Stops(_, _, word) => Answered::Stopped(Ok(word)),
+            Row::Waits(_) => Answered::Collected(Ok(Collected::Waiting)),
+            Row::Misses(_) => Answered::Collected(Ok(Collected::Gone)),
+            Row::Rests(_, _) => Answered::Turned(Ok(Next::Rest)),
+            Row::Looks(_, _) | Row::Copies(_, _) => Answered::InParts,
+            Row::Cuts => Answered::Cut(Ok(())),
+            Row::HasPorts(ports) => Answered::Ports(ports),
+            Row::HasToken(token) => Answered::Token(token),
+            Row::Removable(can) => Answered::Removable(can),
+            Row::Refuses(asked, refusal) => refused(asked, refusal),
+        }
     }
-}
 
-/// The machine is served by a token, at a moment.
-pub fn turns(entry: u64, token: Token, now: u64, next: Next, did: Did) -> Row {
-    tells(
-        Asked::Turn(token, now),
-        Answered::Turned(Ok(next)),
-        entry,
-        Command::Turn(now),
-        Told::Turned(did),
-    )
-}
+    /// The entry that the call is to have, if it is to have one.
+    pub fn line(&self) -> Option<Line> {
+        match *self {
+            Row::Posts(number, (port, how, content), event, _) => Some(Line {
+                number,
+                port: Some(port),
+                command: Command::Post(how, content),
+                told: Told::Answer(Answer::Post(Ok(event))),
+            }),
+            Row::Turns(number, _, now, _, handled, did) => Some(Line {
+                number,
+                port: None,
+                command: Command::Turn(now),
+                told: Told::Turned(handled, did),
+            }),
+            Row::Ticks(number, now, expired, _) => Some(Line {
+                number,
+                port: None,
+                command: Command::Tick(now),
+                told: Told::Answer(Answer::Tick(Ok(expired))),
+            }),
+            Row::Replies(number, tag, content, taken) => Some(Line {
+                number,
+                port: None,
+                command: Command::Reply(tag, content),
+                told: Told::Answer(Answer::Reply(taken)),
+            }),
+            Row::Collects(number, tag, content) => Some(Line {
+                number,
+                port: None,
+                command: Command::Collect(tag),
+                told: Told::Answer(Answer::Collect(Collected::Reply(content))),
+            }),
+            Row::CollectsReason(number, tag, reason) => Some(Line {
+                number,
+                port: None,
+                command: Command::Collect(tag),
+                told: Told::Answer(Answer::Collect(Collected::Stopped(reason))),
+            }),
+            Row::Stops(number, reason, word) => Some(Line {
+                number,
+                port: None,
+                command: Command::Stop(reason),
+                told: Told::Answer(Answer::Stop(Ok(word))),
+            }),
+            _ => None,
+        }
+    }
 
-/// The machine is told the moment: so many time-outs expire; and the token is issued, if one is.
-pub fn ticks(entry: u64, now: u64, expired: u64, wake: Option<Token>) -> Row {
-    tells(
-        Asked::Tick(now),
-        Answered::Ticked(Ok(Ticked { expired, wake })),
-        entry,
-        Command::Tick(now),
-        Told::Answer(Answer::Tick(Ok(expired))),
-    )
-}
-
-/// A request is answered, which is taken or not.
-pub fn replies(entry: u64, tag: Tag, content: u32, taken: bool) -> Row {
-    tells(
-        Asked::Reply(tag, content),
-        Answered::Replied(Ok(taken)),
-        entry,
-        Command::Reply(tag, content),
-        Told::Answer(Answer::Reply(taken)),
-    )
-}
-
-/// The reply to a request is handed out.
-pub fn collects(entry: u64, tag: Tag, content: u32) -> Row {
-    tells(
-        Asked::Collect(tag),
-        Answered::Collected(Ok(Collected::Reply(content))),
-        entry,
-        Command::Collect(tag),
-        Told::Answer(Answer::Collect(Collected::Reply(content))),
-    )
-}
-
-/// The reason is handed out for which the machine has ended before it replied.
-pub fn collects_reason(entry: u64, tag: Tag, reason: Reason) -> Row {
-    tells(
-        Asked::Collect(tag),
-        Answered::Collected(Ok(Collected::Stopped(reason))),
-        entry,
-        Command::Collect(tag),
-        Told::Answer(Answer::Collect(Collected::Stopped(reason))),
-    )
-}
-
-/// Nothing is handed out.
-pub fn collects_nothing(tag: Tag, collected: Collected<u32>) -> Row {
-    answers(Asked::Collect(tag), Answered::Collected(Ok(collected)))
-}
-
-/// The machine is stopped for a reason, with this last word.
-pub fn stops(entry: u64, reason: Reason, word: u32) -> Row {
-    tells(
-        Asked::Stop(reason),
-        Answered::Stopped(Ok(word)),
-        entry,
-        Command::Stop(reason),
-        Told::Answer(Answer::Stop(Ok(word))),
-    )
-}
-
-/// The token of a machine that has no work, or has ended, is retired, with no turn.
-pub fn rests(token: Token, now: u64) -> Row {
-    answers(Asked::Turn(token, now), Answered::Turned(Ok(Next::Rest)))
+    /// Says whether the call may find no memory: where it has an entry, but for a stop, whose place is reserved; a turn
+    /// that finds too few numbers left; and what makes a list or a copy.
+    pub fn takes_memory(&self) -> bool {
+        match *self {
+            Row::Opens(_) => true,
+            Row::Posts(_, _, _, _) => true,
+            Row::Turns(_, _, _, _, _, _) => true,
+            Row::Ticks(_, _, _, _) => true,
+            Row::Replies(_, _, _, _) => true,
+            Row::Collects(_, _, _) => true,
+            Row::CollectsReason(_, _, _) => true,
+            Row::Looks(_, _) => true,
+            Row::Copies(_, _) => true,
+            Row::Cuts => true,
+            Row::Refuses(Asked::Turn(_, _), Refusal::Exhausted) => true,
+            _ => false,
+        }
+    }
 }

@@ -7,7 +7,7 @@ use super::begun::{ID, is_made_again, machine};
 use super::host::{Host, got, holds};
 use super::plain::Plain;
 use super::played::{are_lines, is_given_back, is_labelled, is_sight};
-use super::row::{Row, Wanted, answers};
+use super::row::Row;
 use super::shows::shows;
 use st_lock::{Core, Entry, Journal, Look, Machine, MachineId, MachineRoom, Port, Refusal, Token};
 use std::alloc::Global;
@@ -235,74 +235,69 @@ fn journal(rt: &Host<impl Abort>, threads: &impl Wait, shared: &Shared) -> Journ
 fn is_kept(rt: &Host<impl Abort>, threads: &impl Wait, shared: &Shared, rows: &[Row], done: usize) {
     let journal = journal(rt, threads, shared);
     are_lines(rt, journal.entries.as_slice(), rows, done);
+    drop(journal);
 }
 
-/// Looks that a refusal changed nothing that can be read, behind the rows that were done, and says whether there was no
-/// memory for the call, which is made again then. What it was given came back.
-fn found_no_memory(
-    rt: &Host<impl Abort>,
-    threads: &impl Wait,
-    shared: &mut Shared,
-    row: &Row,
-    rows: &[Row],
-    done: usize,
-    given: &Given,
-    before: &Reading,
-) -> bool {
-    let Some(refusal) = given.refusal() else {
-        return false;
-    };
-    let is_as_before = read(rt, threads, shared) == *before;
-    shows(rt, done, "a refusal changes nothing", is_as_before);
-    is_kept(rt, threads, shared, rows, done);
-    if refusal != Refusal::NoMemory {
-        return false;
+impl Shared {
+    /// Looks that a refusal changed nothing that can be read, behind the rows that were done.
+    fn is_unchanged(
+        &mut self,
+        rt: &Host<impl Abort>,
+        threads: &impl Wait,
+        rows: &[Row],
+        done: usize,
+        before: &Reading,
+    ) {
+        let is_as_before = read(rt, threads, self) == *before;
+        shows(rt, done, "a refusal changes nothing", is_as_before);
+        is_kept(rt, threads, self, rows, done);
     }
-    is_given_back(rt, done, row, given);
-    rt.retry();
-    true
-}
 
-/// Makes one call, behind the rows that were done. Where it finds no memory, the same call is made again.
-fn tell(
-    rt: &Host<impl Abort>,
-    threads: &impl Wait,
-    shared: &mut Shared,
-    row: &Row,
-    rows: &[Row],
-    done: usize,
-) -> Given {
-    let before = read(rt, threads, shared);
-    let given = shared.ask(threads, row.asked);
-    if found_no_memory(rt, threads, shared, row, rows, done, &given, &before) {
-        return shared.ask(threads, row.asked);
+    /// Makes one call, behind the rows that were done. Where it is refused, nothing that can be read has changed; and
+    /// where it finds no memory, what it was given came back, and the same call is made again.
+    fn tell(
+        &mut self,
+        rt: &Host<impl Abort>,
+        threads: &impl Wait,
+        row: &Row,
+        rows: &[Row],
+        done: usize,
+    ) -> Given {
+        let before = read(rt, threads, self);
+        let given = self.ask(threads, row.asked());
+        if given.refusal().is_some() {
+            self.is_unchanged(rt, threads, rows, done, &before);
+        }
+        if given.refusal() != Some(Refusal::NoMemory) {
+            return given;
+        }
+        is_given_back(rt, done, row, &given);
+        rt.retry();
+        self.ask(threads, row.asked())
     }
-    given
+
+    /// Makes calls one after another of a machine whose journal is empty, and looks at their answers, and at the journal
+    /// behind the last one. Then the journal is cut.
+    pub fn plays(&mut self, rt: &Host<impl Abort>, threads: &impl Wait, rows: &[Row]) {
+        for (done, row) in rows.iter().enumerate() {
+            let given = self.tell(rt, threads, row, rows, done);
+            agrees(rt, &given, row, rows, done);
+        }
+        is_kept(rt, threads, self, rows, rows.len());
+        let given = self.tell(rt, threads, &Row::Cuts, rows, rows.len());
+        agrees(rt, &given, &Row::Cuts, rows, rows.len());
+        is_kept(rt, threads, self, rows, 0);
+    }
 }
 
 /// Looks that what a call came to is what is wanted of a row, behind so many others.
 fn agrees(rt: &impl Abort, given: &Given, row: &Row, rows: &[Row], done: usize) {
-    match (given, &row.wanted) {
-        (_, Wanted::Answer(other)) => shows(rt, done, "the answer", given.is(other)),
-        (Given::Look(look), Wanted::Look(sight)) => is_sight(rt, done, look, sight),
-        (Given::Journal(journal), Wanted::Journal(label, from)) => {
+    match (given, row) {
+        (Given::Look(look), Row::Looks(_, sight)) => is_sight(rt, done, look, sight),
+        (Given::Journal(journal), Row::Copies(label, from)) => {
             is_labelled(rt, done, journal, label, *from);
             are_lines(rt, journal.entries.as_slice(), rows, done);
         }
-        _ => shows(rt, done, "a look or a copy", false),
+        _ => shows(rt, done, "the answer", given.is(&row.answer())),
     }
-}
-
-/// Makes calls one after another of a machine whose journal is empty, and looks at their answers, and at the journal
-/// behind the last one. Then the journal is cut.
-pub fn plays_shared(rt: &Host<impl Abort>, threads: &impl Wait, shared: &mut Shared, rows: &[Row]) {
-    for (done, row) in rows.iter().enumerate() {
-        let given = tell(rt, threads, shared, row, rows, done);
-        agrees(rt, &given, row, rows, done);
-    }
-    is_kept(rt, threads, shared, rows, rows.len());
-    let cut = answers(Asked::Cut, Answered::Cut(Ok(())));
-    let given = tell(rt, threads, shared, &cut, rows, rows.len());
-    holds(rt, "the journal is cut", given.is(&Answered::Cut(Ok(()))));
-    is_kept(rt, threads, shared, rows, 0);
 }

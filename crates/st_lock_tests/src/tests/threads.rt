@@ -5,8 +5,12 @@ use super::plain::Plain;
 use st_lock::{Collected, Entry, Machine, Port, Posted};
 use std::alloc::Global;
 use std::process::Abort;
+use std::sync::atomic::{AtomicU64, Ordering};
 use std::sync::{Arc, Wait};
 use std::thread;
+
+/// How often one looks at the machine before one takes the others to be asleep.
+const LOOKS: u32 = 5_000;
 
 /// A machine that has just started, which threads may share.
 fn begun_shared(rt: &Host<impl Abort>, alloc: Global) -> Arc<Machine<Plain>> {
@@ -59,6 +63,7 @@ fn is_one_of_four(rt: &impl Abort, threads: &impl Wait, port: &mut Port<Plain>) 
     let numbers = look.numbers.as_slice();
     holds(rt, "100 numbers are mine", numbers.len() == 100);
     holds(rt, "the numbers rise", rise(numbers));
+    drop(look);
 }
 
 #[test]
@@ -80,15 +85,37 @@ fn four_threads_post_through_ports_of_their_own(rt: HostRuntime) {
     }
     for mut port in ports {
         is_one_of_four(&rt, &threads, &mut port);
+        drop(port);
     }
+    drop(machine);
     rt.end_with_memory();
 }
 
-/// Waits for what is kept for a request.
-fn waits(rt: &impl Wait, machine: &Machine<Plain>, request: u64) -> Collected<u32> {
+/// Says that it begins, and waits for what is kept for a request.
+fn waits(
+    rt: &impl Wait,
+    machine: &Machine<Plain>,
+    begun: &AtomicU64,
+    request: u64,
+) -> Collected<u32> {
+    begun.fetch_add(1, Ordering::SeqCst);
     match machine.wait_collect(rt, tag(request)) {
         Ok(collected) => collected,
         Err(_) => Collected::Waiting,
+    }
+}
+
+/// Goes on when so many have begun to wait and have had the time to fall asleep: whoever acts then has to wake them.
+fn lets_them_sleep(threads: &impl Wait, machine: &Machine<Plain>, begun: &AtomicU64, count: u64) {
+    for _ in 0..10_000_000 {
+        if begun.load(Ordering::SeqCst) >= count {
+            break;
+        }
+        thread::yield_now();
+    }
+    for _ in 0..LOOKS {
+        machine.removable(threads);
+        thread::yield_now();
     }
 }
 
@@ -100,26 +127,40 @@ fn calls_twice(rt: &impl Abort, threads: &impl Wait, port: &mut Port<Plain>) {
     }
 }
 
+/// What is shared with the threads that wait: the machine, and how many have begun to.
+type Shared = (Arc<Machine<Plain>>, Arc<AtomicU64>);
+
+/// The same for one thread more.
+fn shared(rt: &impl Abort, of: &Shared) -> Shared {
+    let machine = Arc::try_clone(&of.0).expect(rt, "an owner");
+    (machine, Arc::try_clone(&of.1).expect(rt, "an owner"))
+}
+
 #[test]
 fn one_waits_for_a_reply_and_another_for_the_end(rt: HostRuntime) {
     let threads = rt;
     let rt = Host::with_memory(rt);
-    let machine = begun_shared(&rt, rt.alloc());
-    let mut port = port(&rt, &threads, &machine);
+    let begun = Arc::new(rt.alloc(), AtomicU64::new(0)).expect(&rt, "a count");
+    let ours = (begun_shared(&rt, rt.alloc()), begun);
+    let mut port = port(&rt, &threads, &ours.0);
     calls_twice(&rt, &threads, &mut port);
-    let theirs = Arc::try_clone(&machine).expect(&rt, "an owner");
-    let first = thread::spawn(&threads, move || waits(&threads, &theirs, 1));
-    let theirs = Arc::try_clone(&machine).expect(&rt, "an owner");
-    let second = thread::spawn(&threads, move || waits(&threads, &theirs, 2));
-    let replied = machine.reply(&threads, tag(1), 60);
+    let theirs = shared(&rt, &ours);
+    let first = thread::spawn(&threads, move || waits(&threads, &theirs.0, &theirs.1, 1));
+    let theirs = shared(&rt, &ours);
+    let second = thread::spawn(&threads, move || waits(&threads, &theirs.0, &theirs.1, 2));
+    lets_them_sleep(&threads, &ours.0, &ours.1, 2);
+    let replied = ours.0.reply(&threads, tag(1), 60);
     holds(&rt, "the reply is taken", replied == Ok(true));
-    let stopped = machine.stop(&threads, 3);
-    holds(&rt, "the last word", stopped == Ok(7));
     let first = first.expect(&rt, "a thread").join(&threads);
     holds(&rt, "the first reply", first == Collected::Reply(60));
+    lets_them_sleep(&threads, &ours.0, &ours.1, 2);
+    let stopped = ours.0.stop(&threads, 3);
+    holds(&rt, "the last word", stopped == Ok(7));
     let second = second.expect(&rt, "a thread").join(&threads);
     holds(&rt, "the reason", second == Collected::Stopped(3));
-    holds(&rt, "it can be removed", machine.removable(&threads));
+    holds(&rt, "it can be removed", ours.0.removable(&threads));
+    drop(port);
+    drop(ours);
     rt.end_with_memory();
 }
 
@@ -140,6 +181,9 @@ fn are_the_last(
     holds(rt, "there are 202 entries", look.entries == 202);
     holds(rt, "the old port has posted 101", second.count() == 101);
     holds(rt, "the new port has posted 1", third.count() == 1);
+    drop(look);
+    drop(third);
+    drop(second);
 }
 
 #[test]
@@ -153,5 +197,6 @@ fn a_port_that_is_dropped_harms_nobody(rt: HostRuntime) {
     drop(cast_hundred(&threads, first, 11));
     let second = child.expect(&rt, "a thread").join(&threads);
     are_the_last(&rt, &threads, &machine, second);
+    drop(machine);
     rt.end_with_memory();
 }

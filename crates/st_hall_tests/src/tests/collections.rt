@@ -1,0 +1,126 @@
+//! Requests to a door are gathered.
+use super::again::is_made_again;
+use super::calls::replies;
+use super::doorway::{Doorway, only_door};
+use super::host::{Host, got, holds};
+use super::sends::asks;
+use super::served::serve;
+use st_client::{Checked, Collection, Refused, RequestId, Token, check_any};
+use st_door::{Door, DoorContent};
+use std::process::Abort;
+use std::sync::Wait;
+
+/// Adds a request again that was not added for want of memory, and came back.
+fn adds_again(
+    rt: &Host<impl Abort>,
+    gathered: &mut Collection<Door, char>,
+    refused: Refused<RequestId<Door>>,
+    label: char,
+) {
+    is_made_again(rt, refused.refusal);
+    let again = gathered.add(refused.value, label);
+    got(rt, "one allocation alone is refused", again);
+}
+
+/// Adds a request. Where there is no memory, it comes back, and is added again.
+fn adds(
+    rt: &Host<impl Abort>,
+    gathered: &mut Collection<Door, char>,
+    id: RequestId<Door>,
+    label: char,
+) {
+    let before = gathered.size();
+    match gathered.add(id, label) {
+        Ok(()) => {}
+        Err(refused) => {
+            holds(rt, "nothing was added", gathered.size() == before);
+            adds_again(rt, gathered, refused, label);
+        }
+    }
+    holds(rt, "it was added", gathered.size() > before);
+}
+
+/// Asks for the length of the code, and adds the request. The token, if it is left.
+fn gathers(
+    rt: &Host<impl Abort>,
+    threads: &impl Wait,
+    door: &mut Doorway,
+    label: char,
+) -> Option<Token> {
+    let sent = asks(rt, threads, door);
+    let id = door.asked.take().expect(rt, "it was sent");
+    adds(rt, &mut door.gathered, id, label);
+    sent.left
+}
+
+/// Checks what is gathered, and looks what comes of it. Where there is no memory, nothing is taken out, and it is checked
+/// again.
+fn shows(
+    rt: &Host<impl Abort>,
+    threads: &impl Wait,
+    door: &mut Doorway,
+    word: &str,
+    wanted: Checked<DoorContent, char>,
+) {
+    let before = door.gathered.size();
+    match check_any(threads, &mut door.gathered) {
+        Ok(checked) => holds(rt, word, checked == wanted),
+        Err(refusal) => {
+            is_made_again(rt, refusal);
+            holds(rt, "nothing is taken out", door.gathered.size() == before);
+            let again = check_any(threads, &mut door.gathered);
+            holds(rt, word, again == Ok(wanted));
+        }
+    }
+}
+
+#[test]
+fn requests_to_a_door_are_gathered(rt: HostRuntime) {
+    let threads = rt;
+    let rt = Host::new(rt);
+    let mut door = only_door(&rt, &threads, rt.alloc(), false);
+    let none = Checked::NoRequest;
+    shows(&rt, &threads, &mut door, "none at first", none);
+    let left = gathers(&rt, &threads, &mut door, 'a');
+    gathers(&rt, &threads, &mut door, 'b');
+    shows(&rt, &threads, &mut door, "both wait", Checked::NoReply);
+    let token = left.expect(&rt, "a token");
+    serve(&rt, &threads, door.port.machine(), token);
+    let length = DoorContent::Length(4);
+    let first = Checked::Response(length, 'a');
+    shows(&rt, &threads, &mut door, "the first reply", first);
+    gathers(&rt, &threads, &mut door, 'c');
+    let stopped = door.port.machine().stop(&threads, 3);
+    got(&rt, "it is stopped", stopped);
+    let second = Checked::Response(length, 'b');
+    shows(&rt, &threads, &mut door, "the second reply", second);
+    let third = Checked::Stopped(3, 'c');
+    shows(&rt, &threads, &mut door, "the third is told", third);
+    let none = Checked::NoRequest;
+    shows(&rt, &threads, &mut door, "none at last", none);
+    drop(door);
+    rt.end();
+}
+
+#[test]
+fn the_first_that_does_not_wait_is_taken_out(rt: HostRuntime) {
+    let threads = rt;
+    let rt = Host::new(rt);
+    let mut door = only_door(&rt, &threads, rt.alloc(), false);
+    gathers(&rt, &threads, &mut door, 'a');
+    gathers(&rt, &threads, &mut door, 'b');
+    replies(
+        &rt,
+        &threads,
+        &door,
+        "the second request is replied to",
+        true,
+    );
+    let reply = Checked::Response(DoorContent::Length(9), 'b');
+    shows(&rt, &threads, &mut door, "the second reply", reply);
+    holds(&rt, "one is left", door.gathered.size() == 1);
+    let waits = Checked::NoReply;
+    shows(&rt, &threads, &mut door, "the first waits", waits);
+    drop(door);
+    rt.end();
+}

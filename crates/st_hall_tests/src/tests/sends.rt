@@ -1,0 +1,128 @@
+//! Casts, infos and requests, where the token is scheduled and where it comes back.
+use super::again::{is_given_back, is_made_again};
+use super::begun::id;
+use super::doorway::{Doorway, only_door};
+use super::host::{Host, got, holds};
+use super::sending::Sending;
+use super::served::serve;
+use st_client::{Collected, Sent, Token, Wake};
+use st_door::DoorContent;
+use std::process::Abort;
+use std::sync::Wait;
+
+/// The token of the only door.
+pub fn token(wake: u64) -> Token {
+    Token {
+        machine: id(0, 1),
+        wake,
+    }
+}
+
+/// Posts an event, which is one. Where there is no memory, nothing was posted, the content comes back, and it is posted
+/// again.
+pub fn sends(
+    rt: &Host<impl Abort>,
+    threads: &impl Wait,
+    door: &mut Doorway,
+    sending: Sending,
+    content: DoorContent,
+) -> Sent {
+    let before = door.port.count();
+    let sent = match door.send(threads, sending, content) {
+        Ok(sent) => sent,
+        Err(refused) => {
+            is_given_back(rt, &refused, content);
+            holds(rt, "nothing was posted", door.port.count() == before);
+            let again = door.send(threads, sending, refused.value);
+            got(rt, "one allocation alone is refused", again)
+        }
+    };
+    let posted = door.port.count().checked_sub(before);
+    holds(rt, "one event was posted", posted == Some(1));
+    sent
+}
+
+/// Presses the button 1.
+fn presses(rt: &Host<impl Abort>, threads: &impl Wait, door: &mut Doorway) -> Sent {
+    sends(rt, threads, door, Sending::Cast, DoorContent::Button(1))
+}
+
+/// Asks for the length of the code.
+pub fn asks(rt: &Host<impl Abort>, threads: &impl Wait, door: &mut Doorway) -> Sent {
+    sends(rt, threads, door, Sending::Request, DoorContent::CodeLength)
+}
+
+/// Checks the request that was sent last, and looks what comes of it. Where there is no memory, what is kept stays, and it
+/// is checked again.
+pub fn checks(
+    rt: &Host<impl Abort>,
+    threads: &impl Wait,
+    door: &Doorway,
+    word: &str,
+    wanted: Collected<DoorContent>,
+) {
+    match door.check(threads) {
+        Ok(collected) => holds(rt, word, collected == wanted),
+        Err(refusal) => {
+            is_made_again(rt, refusal);
+            holds(rt, word, door.check(threads) == Ok(wanted));
+        }
+    }
+}
+
+/// The tray found no memory for a token, if one came back: it is put there again.
+fn is_scheduled(rt: &Host<impl Abort>, threads: &impl Wait, door: &Doorway, left: Option<Token>) {
+    if let Some(token) = left {
+        rt.retry();
+        holds(
+            rt,
+            "it is scheduled",
+            door.tray.wake(threads, token) == Ok(()),
+        );
+    }
+}
+
+#[test]
+fn a_token_is_scheduled_once(rt: HostRuntime) {
+    let threads = rt;
+    let rt = Host::new(rt);
+    let mut door = only_door(&rt, &threads, rt.alloc(), true);
+    let first = presses(&rt, &threads, &mut door);
+    holds(&rt, "the first event", first.number == 1);
+    is_scheduled(&rt, &threads, &door, first.left);
+    let second = presses(&rt, &threads, &mut door);
+    holds(&rt, "the second event", second.number == 2);
+    holds(&rt, "the token is outstanding", second.left == None);
+    holds(&rt, "one token waits", door.tray.len(&threads) == 1);
+    let taken = door.tray.take(&threads);
+    holds(&rt, "the door's token waits", taken == token(1));
+    serve(&rt, &threads, door.port.machine(), token(1));
+    drop(door);
+    rt.end();
+}
+
+#[test]
+fn a_token_that_is_not_scheduled_comes_back(rt: HostRuntime) {
+    let threads = rt;
+    let rt = Host::new(rt);
+    let mut door = only_door(&rt, &threads, rt.alloc(), false);
+    let sent = presses(&rt, &threads, &mut door);
+    holds(&rt, "the first event", sent.number == 1);
+    holds(&rt, "its token comes back", sent.left == Some(token(1)));
+    let asked = asks(&rt, &threads, &mut door);
+    holds(&rt, "the token is outstanding", asked.left == None);
+    checks(
+        &rt,
+        &threads,
+        &door,
+        "the request waits",
+        Collected::Waiting,
+    );
+    serve(&rt, &threads, door.port.machine(), token(1));
+    let reply = Collected::Reply(DoorContent::Length(4));
+    checks(&rt, &threads, &door, "the reply is collected", reply);
+    let gone = Collected::Gone;
+    checks(&rt, &threads, &door, "the reply is collected once", gone);
+    drop(door);
+    rt.end();
+}
