@@ -57,6 +57,8 @@ pub enum Line {
     Settings,
     /// Events that are inserted in one list.
     Inserts,
+    /// Events each of which inserts so many others in one list.
+    InsertLists,
     /// Machines that are started and stopped.
     StartAndStop,
     /// Tokens that a worker puts into its own run queue and takes from it, while so many others wait there: those that
@@ -97,7 +99,7 @@ pub enum Line {
 }
 
 /// Each line by its name.
-pub const LINES: [(&str, Line); 32] = [
+pub const LINES: [(&str, Line); 33] = [
     ("casts", Line::Casts),
     ("casts-beside", Line::CastsBeside),
     ("casts-with-ticks", Line::CastsWithTicks),
@@ -113,6 +115,7 @@ pub const LINES: [(&str, Line); 32] = [
     ("set-and-cancel", Line::SetAndCancel),
     ("settings", Line::Settings),
     ("inserts", Line::Inserts),
+    ("insert-lists", Line::InsertLists),
     ("start-and-stop", Line::StartAndStop),
     ("own-queue", Line::OwnQueue),
     ("steals", Line::Steals),
@@ -303,6 +306,7 @@ impl Line {
             Line::Postponed | Line::Retried | Line::DueInOrder => {
                 self.done_after(&mut load, count, more)
             }
+            Line::InsertLists => cycle(&mut load, &[Work::InsertMany(more)], count),
             _ => self.done_alone(&mut load, count),
         }
     }

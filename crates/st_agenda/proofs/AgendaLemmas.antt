@@ -3,7 +3,6 @@ use Rattle.std.proofs.Common.{◌≡◌, ℕ, ◌+◌, ◌<◌, ◌≤◌, Bool,
 use Rattle.std.specs.Prelude.{is_some}
 use Rattle.st_events.specs.declared.event.Event.{Event}
 use Rattle.st_events.specs.declared.timer.Timer.{Timer}
-use Rattle.st_events.specs.Timers.{same_timer}
 use Rattle.st_events.proofs.ComparedLemmas.{same_number}
 use Rattle.st_timeouts.specs.declared.running.Running.{Running}
 use Rattle.st_timeouts.specs.Running.{OneEach, running_of, runs_for}
@@ -534,19 +533,3 @@ module _ {C : Type 0} where
   alive_same listed other None e k = tt
   alive_same listed other (Some (slot.Event event)) e k = tt
   alive_same listed other (Some (slot.Expiry timer number)) e k = rw e k
-
-  -- a time-out more
-  found_by : (number : ℕ) (one : Running C) (same : Bool) (few more : Option (Running C)) → is_some (with_this_number number (if same then Some one else few)) ≡ true
-      → (is_some (with_this_number number few) ≡ true → is_some (with_this_number number more) ≡ true)
-      → is_some (with_this_number number (if same then Some one else more)) ≡ true
-  found_by number one true few more k f = k
-  found_by number one false few more k f = f k
-
-  found_begun : (timer : Timer) (number : ℕ) (listed : List (Listed C)) (one : Listed C) → is_some (live timer number listed) ≡ true → is_some (live timer number (listed ++ one ∷ [])) ≡ true
-  found_begun timer number [] one k = cc
-  found_begun timer number (other ∷ listed) one k = found_by number other.running (same_timer timer other.running.timer) _ _ k (found_begun timer number listed one)
-
-  pub alive_begun : (listed : List (Listed C)) (one : Listed C) (next : Option (Slot C)) → IsAlive listed next → IsAlive (listed ++ one ∷ []) next
-  alive_begun listed one None k = tt
-  alive_begun listed one (Some (slot.Event event)) k = tt
-  alive_begun listed one (Some (slot.Expiry timer number)) k = found_begun timer number listed one k

@@ -1,5 +1,5 @@
 -- The queue's slots, read one after another as what waits.
-use Rattle.std.proofs.Common.{◌≡◌, ℕ, zero, suc, ◌+◌, ◌-◌, ◌<◌, ◌≤◌, Bool, true, false, List, [], ◌∷◌, ◌++◌, Option, Some, None, map, take, drop, length, nat_lt, refl, sym, ap, ◌∙◌, arith, if◌then◌else◌, append-nil}
+use Rattle.std.proofs.Common.{◌≡◌, ℕ, zero, suc, ◌+◌, ◌-◌, ◌<◌, ◌≤◌, Bool, true, false, List, [], ◌∷◌, ◌++◌, Option, Some, None, take, drop, length, nat_lt, refl, sym, ap, ◌∙◌, arith, if◌then◌else◌, append-nil}
 use Rattle.std.specs.Prelude.{is_some}
 use Rattle.std.specs.List.{slice_get}
 use Rattle.std.specs.Option.{option_to_list}
@@ -7,12 +7,12 @@ use Rattle.std.proofs.lemmas.List.{append_assoc, drop_all}
 use Rattle.st_timeouts.specs.Timeouts.{Listed, live}
 use Rattle.st_timeouts.proofs.FallingLemmas.{drop_at}
 use Rattle.st_agenda.specs.declared.item.Item.{Item}
-use Rattle.st_agenda.specs.declared.item.Item.TheVariants.{Received, Posted, Expiry}
+use Rattle.st_agenda.specs.declared.item.Item.TheVariants.{Expiry}
 use Rattle.st_agenda.specs.declared.slot.Slot.{Slot}
 use Rattle.st_agenda.specs.declared.slot.Slot.TheVariants as slot
 use Rattle.st_agenda.specs.Agenda.{item_of, items_in, with_live}
 use Rattle.st_agenda.specs.Slots.{number_of}
-use Rattle.st_agenda.specs.Waiting.{Seen, Unseen, slot_numbers, places_of}
+use Rattle.st_agenda.specs.Waiting.{slot_numbers, places_of}
 
 -- what is there stands within the list
 pub at_within : {X : Type 0} (xs : List X) (i : ℕ) (x : X) → slice_get xs i ≡ Some x → i < length xs

@@ -10,21 +10,21 @@ use Rattle.st_events.proofs.ComparedLemmas.{same_number, timers_same}
 use Rattle.st_timeouts.specs.declared.due.Due.{Due}
 use Rattle.st_timeouts.specs.declared.due.Due.TheVariants.{Zero, At}
 use Rattle.st_timeouts.specs.declared.running.Running.{Running}
-use Rattle.st_timeouts.specs.Running.{running_of, is_zero, is_due_by, is_before, put_in_order, in_order}
-use Rattle.st_timeouts.specs.Timeouts.{Timeouts, Listed, all_of, live, name_of, without_listed, with_expired, expiring, first_of, with_first_expired, with_set, shown, next_due_of}
-use Rattle.st_timeouts.proofs.OrderLemmas.{expiring_after, all_of_more, all_of_with_expired, without_listed_none}
+use Rattle.st_timeouts.specs.Running.{running_of, without_running, is_zero, is_due_by, is_before, put_in_order, in_order}
+use Rattle.st_timeouts.specs.Timeouts.{Timeouts, Listed, all_of, live, name_of, without_listed, with_expired, expiring, first_of, with_first_expired, shown, next_due_of}
+use Rattle.st_timeouts.proofs.OrderLemmas.{expiring_after, all_of_more, all_of_with_expired, all_of_without_listed, gone}
 use Rattle.st_timeouts.specs.Waiting.{waiting_of}
 use Rattle.st_timeouts.proofs.HandedLemmas.{due_name, due_expired}
 use Rattle.st_agenda.specs.declared.slot.Slot.TheVariants as slot
 use Rattle.st_agenda.specs.Items.{has}
-use Rattle.st_agenda.specs.Timing.{expiring_by, next_due_among}
-use Rattle.st_agenda.specs.Waiting.{Place, Unseen, Waiting, place_numbers, next_of, AreBelow, IsOrdered}
+use Rattle.st_agenda.specs.Timing.{expiring_by, next_due_among, without_expiry}
+use Rattle.st_agenda.specs.Waiting.{Place, Unseen, Waiting, place_numbers, AreBelow, IsOrdered}
 use Rattle.st_agenda.specs.declared.schedule.Schedule.{Schedule}
-use Rattle.st_agenda.specs.Agenda.{IsMarked, AreMarked, Agrees, IsKept, timeout_numbers, items_in, schedule_of, with_all_expired, with_first_expiry, all_but_first}
+use Rattle.st_agenda.specs.Agenda.{IsMarked, AreMarked, Agrees, IsKept, timeout_numbers, items_in, schedule_of, cancelled_in, with_all_expired, with_first_expiry, all_but_first}
 use Rattle.st_agenda.proofs.PendingLemmas.{no_tail, differs, has_below, below_more}
-use Rattle.st_agenda.proofs.ItemsLemmas.{AllFound, all_found, items_begun, items_expiry_more, items_same, expiring_is, next_due_is, slots_counted}
+use Rattle.st_agenda.proofs.ItemsLemmas.{AllFound, all_found, items_begun, items_cancelled, items_expiry_more, items_same, expiring_is, next_due_is, slots_counted}
 use Rattle.st_agenda.proofs.AgreesLemmas.{has_behind, expiry_before, expiry_last}
-use Rattle.st_agenda.proofs.AgendaLemmas.{events_behind, counted_behind, numbers_marked, agrees_begun, alive_begun, alive_behind, alive_same}
+use Rattle.st_agenda.proofs.AgendaLemmas.{events_behind, counted_behind, numbers_marked, agrees_begun, agrees_cancelled, alive_behind, alive_same}
 use Rattle.st_agenda.proofs.ReceiveLemmas.{number_no_more}
 
 due_by : (now : ℕ) (due : Due) → is_due_by now due ≡ true → is_zero due ≡ false
@@ -32,23 +32,40 @@ due_by now Zero d = cc
 due_by now (At moment) d = refl
 
 module _ {C : Type 0} where
-  -- ---- a time-out begins
-  module _ (waiting after : Waiting C) (listed : List (Listed C)) (expiries : ℕ) (k : IsKept waiting listed expiries) (o : IsOrdered after) (one : Listed C)
-      (same : after ≡ record waiting { next_number = waiting.next_number + 1 }) (number_is : one.running.number ≡ waiting.next_number) (unmarked : one.expired ≡ false)
-      (none : running_of one.running.timer (all_of listed) ≡ None) where
+  -- ---- a time-out begins, and what ran of its timer runs no more
+  module _ (waiting after : Waiting C) (listed : List (Listed C)) (expiries : ℕ) (a : Agrees waiting listed expiries) (o : IsOrdered after) (one : Listed C)
+      (same : after ≡ record waiting { next_number = waiting.next_number + 1 }) (number_is : one.running.number ≡ waiting.next_number) (unmarked : one.expired ≡ false) where
     items_same_as : after.items ≡ waiting.items
     items_same_as = ap (λ (w : Waiting C). w.items) same
 
-    pub begun_kept : IsKept after (listed ++ one ∷ []) expiries
-    begun_kept = record {
-      agrees = agrees_begun waiting after listed expiries k.agrees o one items_same_as (ap (λ (w : Waiting C). w.next_number) same) number_is unmarked none;
-      alive = rw same (alive_begun listed one (next_of waiting.postponed waiting.items) k.alive);
-    }
+    stopped : running_of one.running.timer (all_of (without_listed one.running.timer listed)) ≡ None
+    stopped = rw (all_of_without_listed one.running.timer listed) (gone one.running.timer (all_of listed))
 
-    pub begun_is : schedule_of after (listed ++ one ∷ []) ≡ record (schedule_of waiting listed) { running = all_of listed ++ one.running ∷ []; next_number = waiting.next_number + 1 }
-    begun_is =
-        let fresh = has_below waiting.next_number one.running.number (place_numbers waiting.items) k.agrees.ordered.below (omega (arith, number_is)) in
-        rw (same, all_of_more listed one, items_begun listed one waiting.items fresh none) refl
+    agrees_stopped : Agrees waiting (without_listed one.running.timer listed) expiries
+    agrees_stopped = agrees_cancelled waiting listed expiries a one.running.timer
+
+    pub begun_agrees : Agrees after (without_listed one.running.timer listed ++ one ∷ []) expiries
+    begun_agrees =
+        agrees_begun waiting after (without_listed one.running.timer listed) expiries agrees_stopped o one items_same_as (ap (λ (w : Waiting C). w.next_number) same) number_is unmarked stopped
+
+    items_begun_are : items_in (without_listed one.running.timer listed ++ one ∷ []) after.items ≡ without_expiry one.running.timer (items_in listed waiting.items)
+    items_begun_are =
+        let fresh = has_below waiting.next_number one.running.number (place_numbers waiting.items) a.ordered.below (omega (arith, number_is)) in
+        rw items_same_as (items_begun (without_listed one.running.timer listed) one waiting.items fresh stopped ∙ items_cancelled listed one.running.timer waiting.items)
+
+    -- slots leave after it that do not count
+    pub begun_is : (swept : Waiting C)
+        → items_in (without_listed one.running.timer listed ++ one ∷ []) swept.items ≡ items_in (without_listed one.running.timer listed ++ one ∷ []) after.items
+        → swept ≡ record after { items = swept.items }
+        → schedule_of swept (without_listed one.running.timer listed ++ one ∷ [])
+        ≡ record (cancelled_in (schedule_of waiting listed) one.running.timer) {
+          running = without_running one.running.timer (all_of listed) ++ one.running ∷ [];
+          next_number = waiting.next_number + 1;
+        }
+    begun_is swept same_items rest =
+        let postponed : swept.postponed ≡ waiting.postponed = ap (λ (w : Waiting C). w.postponed) rest ∙ ap (λ (w : Waiting C). w.postponed) same in
+        let next : swept.next_number ≡ waiting.next_number + 1 = ap (λ (w : Waiting C). w.next_number) rest ∙ ap (λ (w : Waiting C). w.next_number) same in
+        rw (same_items, items_begun_are, postponed, next, all_of_more (without_listed one.running.timer listed) one, all_of_without_listed one.running.timer listed) refl
 
   -- ---- what holds of each time-out holds of each in order
   abbrev AllAre : (Running C → Type 0) → List (Running C) → Type 0
@@ -237,10 +254,6 @@ module _ {C : Type 0} where
   pub handed_out_is : (old new : Timeouts C) (due : List (Running C)) (first : Running C) (rest : List (Running C)) → due ≡ first ∷ rest
       → new ≡ with_first_expired due old → new.listed ≡ with_expired first.timer old.listed
   handed_out_is old new due first rest e h = let new_is : new ≡ with_first_expired (first ∷ rest) old = rw e at h in ap (λ (t : Timeouts C). t.listed) new_is
-
-  -- a timer that does not run is set
-  pub set_is : (old new : Timeouts C) (one : Listed C) → running_of one.running.timer (all_of old.listed) ≡ None → new ≡ with_set old one → new.listed ≡ old.listed ++ one ∷ []
-  set_is old new one n h = ap (λ (t : Timeouts C). t.listed) h ∙ ap (λ listed. listed ++ one ∷ []) (without_listed_none one.running.timer old.listed n)
 
   -- of those that wait, the first is the first of those that are due
   pub taken_name : (now : ℕ) (listed : List (Listed C)) (result : Option (Timer × ℕ)) → 0 < length (expiring now listed)

@@ -20,7 +20,8 @@ use Rattle.st_timeouts.proofs.OrderLemmas.{not_first, gone, one_each_more, put_n
 use Rattle.st_agenda.specs.declared.item.Item.{Item}
 use Rattle.st_agenda.specs.declared.item.Item.TheVariants.{Received, Posted, Expiry}
 use Rattle.st_agenda.specs.Items.{has, first_received, is_postponed, numbers_of, placed, numbered}
-use Rattle.st_agenda.specs.Timing.{is_expiry, without_expiry, expiry_waits, number_taken, numbers_taken, expiring_by}
+use Rattle.st_actions.specs.Counted.{number_taken, numbers_taken}
+use Rattle.st_agenda.specs.Timing.{is_expiry, without_expiry, expiry_waits, expiring_by}
 use Rattle.st_agenda.specs.declared.schedule.Schedule.{Schedule}
 use Rattle.st_agenda.specs.Agenda.{with_all_expired, cancelled_in, retried_in, inserted_in, begun_in, set_in, all_set_in}
 use Rattle.st_agenda.specs.Lawful.{times, waiting_numbers, running_numbers, live_numbers, NoneReceived, ReceivedFirst, PostponedFirst, IsDueBy, ExpiriesDue, IsLawfulSchedule}

@@ -10,7 +10,7 @@ use Rattle.st_events.specs.declared.setting.Setting.{Setting}
 use Rattle.st_events.specs.declared.timer.Timer.TheVariants as timer
 use Rattle.st_events.proofs.ComparedLemmas.{same_number}
 use Rattle.st_agenda.specs.Items.{has, first_received, numbers_of, numbered}
-use Rattle.st_agenda.specs.Timing.{numbers_taken}
+use Rattle.st_actions.specs.Counted.{numbers_taken}
 use Rattle.st_agenda.specs.declared.schedule.Schedule.{Schedule}
 use Rattle.st_agenda.specs.Agenda.{next_in, received_in, cancelled_in, disposed_in, retried_in, inserted_in, settled_in}
 use Rattle.st_agenda.specs.Lawful.{times, waiting_numbers, running_numbers, live_numbers, IsLawfulSchedule}

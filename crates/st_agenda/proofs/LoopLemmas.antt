@@ -1,15 +1,20 @@
 -- One expiry after another, and one setting after another.
 use Rattle.std.proofs.Common.{◌≡◌, ℕ, suc, ◌+◌, ◌<◌, ◌≤◌, ◌^◌, ◌⊎◌, inl, inr, Option, Some, None, List, [], ◌∷◌, ◌++◌, arith, ap, refl, sym, ◌∙◌, length, take, get_or}
 use Rattle.std.specs.Prelude.{slice_get}
+use Rattle.std.specs.Option.{option_to_list}
 use Rattle.std.proofs.Math.Seq.{take-suc}
+use Rattle.std.proofs.lemmas.List.{take_all}
 use Rattle.std.proofs.lemmas.Option.{slice_get_cases}
+use Rattle.st_events.specs.declared.action.Action.{Action}
 use Rattle.st_events.specs.declared.setting.Setting.{Setting}
 use Rattle.st_events.specs.declared.time.Time.{Time}
 use Rattle.st_events.specs.declared.time.Time.TheVariants.{After, Infinity}
 use Rattle.st_timeouts.specs.declared.running.Running.{Running}
-use Rattle.st_agenda.specs.Timing.{expiring_by, number_taken, numbers_taken}
+use Rattle.st_actions.specs.Counted.{number_taken, numbers_taken}
+use Rattle.st_actions.specs.Taking.{all_settings_of}
+use Rattle.st_agenda.specs.Timing.{expiring_by}
 use Rattle.st_agenda.specs.declared.schedule.Schedule.{Schedule}
-use Rattle.st_agenda.specs.Agenda.{Agenda, with_all_expired, all_set_in}
+use Rattle.st_agenda.specs.Agenda.{Agenda, with_all_expired, set_in, all_set_in}
 
 module _ {C : Type 0} where
   -- what expires of a schedule
@@ -37,6 +42,34 @@ module _ {C : Type 0} where
     pub reserved : length left ≤ agenda.reserved
     pub numbers : agenda.schedule.next_number + numbers_taken left ≤ 2 ^ 63
 
+  module _ (now : ℕ) (old : Schedule C) (settings : List (Setting C)) (agenda : Agenda C) (left rest : List (Setting C)) (found : Option (Setting C))
+      (taken : left ≡ option_to_list found ++ rest) (kept : SetSoFar now old settings agenda left) where
+    -- no setting was at this place
+    pub set_none_more : found ≡ None → SetSoFar now old settings agenda rest
+    set_none_more none =
+        let same : left ≡ rest = taken ∙ ap (λ (o : Option (Setting C)). option_to_list o ++ rest) none in rw (← same) kept
+
+    -- one was, and it is done
+    module _ (setting : Setting C) (one : found ≡ Some setting) where
+      split : left ≡ setting ∷ rest
+      split = taken ∙ ap (λ (o : Option (Setting C)). option_to_list o ++ rest) one
+
+      pub set_one_more : (after : Agenda C) → after.schedule ≡ set_in now agenda.schedule setting
+          → after.schedule.next_number ≡ agenda.schedule.next_number + number_taken setting.time → agenda.reserved ≤ after.reserved + 1
+          → SetSoFar now old settings after rest
+      set_one_more after set next reserved =
+          let numbers = ap numbers_taken split in
+          let all : all_set_in now agenda.schedule left ≡ all_set_in now (set_in now agenda.schedule setting) rest = ap (λ (some : List (Setting C)). all_set_in now agenda.schedule some) split in
+          record {
+            all = ap (λ (schedule : Schedule C). all_set_in now schedule rest) set ∙ (sym all ∙ kept.all);
+            reserved = omega (arith, ap length split, kept.reserved, reserved);
+            numbers = omega (arith, next, numbers, kept.numbers);
+          }
+
+  -- where none is before the end, none is left
+  pub none_left : (actions : List (Action C)) (end : ℕ) → length actions ≡ end → all_settings_of (take end actions) ≡ [] → all_settings_of actions ≡ []
+  none_left actions end many none = let whole : take end actions ≡ actions = take_all end actions (omega (arith, many)) in rw whole at none
+
 -- a setting takes one number at most
 pub one_at_most : (time : Time) → number_taken time ≤ 1
 one_at_most Infinity = omega arith
@@ -53,14 +86,6 @@ none_not_some found a none some = cc
 
 pub some_injective : {A : Type 0} {a b : A} → Some a ≡ Some b → a ≡ b
 some_injective h = cc
-
-module _ {C : Type 0} where
-  pub numbers_taken-append : (settings : List (Setting C)) (setting : Setting C)
-      → numbers_taken (settings ++ setting ∷ []) ≡ numbers_taken settings + number_taken setting.time
-  numbers_taken-append [] setting = omega arith
-  numbers_taken-append (first ∷ settings) setting =
-      let more = numbers_taken-append settings setting in
-      rw more (omega arith)
 
 module _ {C : Type 0} (settings : List (Setting C)) (index : ℕ) where
   -- one more setting

@@ -17,11 +17,16 @@ use Rattle.st_agenda.specs.Timing.{without_expiry}
 use Rattle.st_agenda.specs.Slots.{inserted_slots}
 use Rattle.st_agenda.specs.Waiting.{Seen, Unseen, put_in, slot_numbers, Waiting, IsOrdered, place_numbers, first_seen, first_unseen, with_unseen_seen, with_next_seen, next_of, next_number_of, without_slot}
 use Rattle.st_agenda.specs.declared.schedule.Schedule.{Schedule}
-use Rattle.st_agenda.specs.Agenda.{Agenda, Agrees, items_in, schedule_of, dead_at, cancelled_in, disposed_in, retried_in, inserted_in, IsKept, timeout_numbers}
+use Rattle.st_agenda.specs.Agenda.{Agenda, Agrees, IsAlive, items_in, schedule_of, dead_at, cancelled_in, disposed_in, retried_in, inserted_in, IsKept, timeout_numbers}
 use Rattle.st_agenda.proofs.PendingLemmas.{has_below}
 use Rattle.st_agenda.proofs.ItemsLemmas.{first_cancelled, received_is, items_without_dead, items_cancelled, items_finished, items_put_in, items_posted}
 use Rattle.st_agenda.proofs.AgreesLemmas.{below_member}
 use Rattle.st_agenda.proofs.AgendaLemmas.{unseen_expiry, counted_dropped, agrees_dropped, agrees_kept, agrees_finished, agrees_put, agrees_pushed, alive_retried, alive_put_in, alive_behind}
+
+-- it is alive where it is not dead
+alive_by : (alive : Bool) (number : ℕ) → ◌≡◌ {A = Option ℕ} (if alive then None else Some number) None → alive ≡ true
+alive_by true number d = refl
+alive_by false number d = cc
 
 module _ {C : Type 0} where
   -- ---- the next slot is dead, or alive
@@ -73,6 +78,21 @@ module _ {C : Type 0} where
           same_items = rw items_are (items_without_dead listed dead.0 number now.items s.agrees.ordered.distinct dead.2 dead.3 ∙ s.same_items);
           rest = rw e (ap (λ (w : Waiting C). record w { items = without_slot number (with_next_seen now.postponed now.items) }) s.rest);
         }
+
+  -- ---- where no expiry stands in the queue, the next slot is alive
+  alive_at : (listed : List (Listed C)) (next : Option (Slot C)) → dead_at listed next ≡ None → IsAlive listed next
+  alive_at listed None d = tt
+  alive_at listed (Some (slot.Event event)) d = tt
+  alive_at listed (Some (slot.Expiry timer number)) d = alive_by (is_some (live timer number listed)) number d
+
+  none_dead_by : (listed : List (Listed C)) (now : Waiting C) → Agrees now listed 0 → (dead : Option ℕ) → dead_at listed (next_of now.postponed now.items) ≡ dead
+      → IsAlive listed (next_of now.postponed now.items)
+  none_dead_by listed now a None d = alive_at listed (next_of now.postponed now.items) d
+  none_dead_by listed now a (Some number) d =
+      absurd (omega (arith, swept_left listed now now 0 number (record { agrees = a; same_items = refl; rest = refl }) d))
+
+  pub none_dead : (listed : List (Listed C)) (now : Waiting C) → Agrees now listed 0 → IsAlive listed (next_of now.postponed now.items)
+  none_dead listed now a = none_dead_by listed now a (dead_at listed (next_of now.postponed now.items)) refl
 
   -- ---- an agenda, read part by part
   abbrev pub agenda_of : Waiting C → Timeouts C → Agenda C

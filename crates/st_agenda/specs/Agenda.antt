@@ -2,7 +2,6 @@
 use Rattle.std.specs.Prelude.{◌≡◌, ℕ, ◌⊎◌, ◌+◌, Bool, true, false, if◌then◌else◌, Option, Some, None, is_some, List, [], ◌∷◌, ◌++◌, map, length}
 use Rattle.std.specs.Option.{option_map}
 use Rattle.st_events.specs.declared.event.Event.{Event}
-use Rattle.st_events.specs.declared.kind.Kind.{Kind}
 use Rattle.st_events.specs.declared.insert.Insert.{Insert}
 use Rattle.st_events.specs.declared.setting.Setting.{Setting}
 use Rattle.st_events.specs.declared.time.Time.{Time}
@@ -133,10 +132,6 @@ module _ {C : Type 0} where
   -- the event that a turn handles next
   abbrev pub next_in : Schedule C → Option (Event C)
   next_in schedule = option_map event_of (choice_in schedule)
-
-  -- an event's number and kind
-  abbrev pub name_of_event : Event C → ℕ × Kind
-  name_of_event event = (event.number, event.kind)
 
   -- the time-out that comes next because it is due at once
   abbrev pub zero_in : Schedule C → Option (Running C)

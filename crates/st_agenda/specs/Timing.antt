@@ -1,22 +1,16 @@
--- Timers that are to be set, the numbers that a transition takes, and time-outs that expire.
+-- The numbers that a transition takes, and time-outs that expire.
 use Rattle.std.specs.Prelude.{ℕ, ◌+◌, ◌^◌, Bool, false, not, ◌||◌, ◌&&◌, Option, List, [], ◌∷◌, filter, length, nat_le}
 use Rattle.std.specs.Option.{option_map}
 use Rattle.st_events.specs.declared.insert.Insert.{Insert}
 use Rattle.st_events.specs.declared.setting.Setting.{Setting}
-use Rattle.st_events.specs.declared.time.Time.{Time}
-use Rattle.st_events.specs.declared.time.Time.TheVariants.{After, Infinity}
 use Rattle.st_events.specs.declared.timer.Timer.{Timer}
 use Rattle.st_events.specs.Timers.{same_timer}
+use Rattle.st_actions.specs.Counted.{numbers_taken}
 use Rattle.st_timeouts.specs.declared.running.Running.{Running}
 use Rattle.st_timeouts.specs.Running.{is_zero, is_due_by, moment_of, in_order}
 use Rattle.st_timeouts.specs.Timeouts.{first_of}
 use Rattle.st_agenda.specs.declared.item.Item.{Item}
 use Rattle.st_agenda.specs.declared.item.Item.TheVariants.{Received, Posted, Expiry}
-
--- how many numbers a setting takes: one where a time-out begins
-abbrev pub number_taken : Time → ℕ
-number_taken Infinity = 0
-number_taken (After time) = 1
 
 module _ {C : Type 0} where
   -- whether it is the expiry of a timer
@@ -33,11 +27,6 @@ module _ {C : Type 0} where
   abbrev pub expiry_waits : Timer → List (Item C) → Bool
   expiry_waits timer [] = false
   expiry_waits timer (item ∷ items) = is_expiry timer item || expiry_waits timer items
-
-  -- how many numbers settings take
-  abbrev pub numbers_taken : List (Setting C) → ℕ
-  numbers_taken [] = 0
-  numbers_taken (setting ∷ settings) = number_taken setting.time + numbers_taken settings
 
   -- whether there are numbers enough, from the next one on, for events that are inserted and for the
   -- time-outs that begin

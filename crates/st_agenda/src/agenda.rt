@@ -1,25 +1,25 @@
 //! What waits and the time-outs that run, as one: which event comes next, and what a transition makes
 //! of them.
-ghost use Rattle.std.specs.Prelude.{◌≡◌, ◌+◌, ◌-◌, ◌<◌, ◌≤◌, ◌^◌, [], ◌∷◌, ◌++◌, Some, None, IfOk, IfErr, OnOk, OnErr, IsOk, ℕ, length, max, option_copied};
+ghost use Rattle.std.specs.Prelude.{◌≡◌, ◌+◌, ◌-◌, ◌<◌, ◌≤◌, ◌^◌, [], ◌∷◌, ◌++◌, Some, IfOk, IfErr, OnOk, OnErr, IsOk, ℕ, length, max, is_some};
 ghost use Rattle.std.specs.Option.{option_map};
-ghost use Rattle.st_events.specs.Rows.{InsertsFit, SettingsFit};
-ghost use Rattle.st_timeouts.specs.Running.{running_of};
-ghost use Rattle.st_timeouts.specs.Timeouts.{name_of};
+ghost use Rattle.st_actions.specs.Counted.{number_taken, numbers_taken};
+ghost use Rattle.st_actions.specs.Plan.{inserts_of};
+ghost use Rattle.st_actions.specs.Taking.{all_settings_of};
+ghost use Rattle.st_timeouts.specs.Timeouts.{name_of, live};
+ghost use Rattle.st_agenda.specs.Choice as choice;
 ghost use Rattle.st_agenda.specs.Items.{events_in, first_received};
 ghost use Rattle.st_agenda.specs.declared.item.Item.TheVariants.{Posted};
 ghost use Rattle.st_events.specs.declared.kind.Kind.TheVariants.{Timeout};
 ghost use Rattle.st_events.specs.declared.time.Time.TheVariants.{After};
-ghost use Rattle.st_agenda.specs.Timing.{expiring_by, has_numbers, next_due_among, number_taken, numbers_taken};
+ghost use Rattle.st_agenda.specs.Timing.{expiring_by, next_due_among};
 ghost use Rattle.st_agenda.specs.Waiting.{next_of};
-ghost use Rattle.st_agenda.specs.Agenda.{Agrees, IsAlive, items_in, next_in, zero_in, received_in, cancelled_in, disposed_in, retried_in, received_and_retried_in, inserted_in, begun_in, set_in, all_set_in, settled_in, name_of_event, shown_timers, dead_at, with_first_expiry, all_but_first, with_all_expired};
+ghost use Rattle.st_agenda.specs.Agenda.{Agrees, IsAlive, items_in, next_in, zero_in, received_in, cancelled_in, disposed_in, retried_in, received_and_retried_in, inserted_in, begun_in, set_in, all_set_in, shown_timers, dead_at, with_first_expiry, all_but_first, with_all_expired};
 
 use crate::Schedule;
-use crate::numbers::numbers_taken;
 use crate::pending::Pending;
 use crate::slot::Slot;
-use st_events::{
-    CopyContent, Event, Inserts, Kind, NUMBER_LIMIT, PlainList, Setting, Settings, Time, Timer,
-};
+use st_actions::take_setting;
+use st_events::{Actions, CopyContent, Event, Kind, PlainList, Setting, Time, Timer};
 use st_steps::Steps;
 use st_timeouts::{Due, Timeouts};
 use std::alloc::{AllocError, AllocFailed, Global};
@@ -71,35 +71,35 @@ impl<C> Agenda<C> {
         }
     }
 
-    /// The number and the kind of the event that a turn handles next.
+    /// The number, the kind and the content of the event that a turn handles next.
     ///
     /// Manual: `transition_option()`, the steps on enqueued events, on zero time-outs and on receiving.
-    pub fn next_event(&self) -> Option<(u64, Kind)>
-        ensures { result ≡ option_map name_of_event (next_in self.now.schedule) }
+    pub fn next(&self) -> Option<(u64, Kind, &C)>
+        ensures { option_map (λ seen. record { number = seen.0; kind = seen.1; content = seen.2.now }) result ≡ next_in self.now.schedule }
     {
         if let Some((timer, number)) = self.next_zero() {
-            return Some((number, Kind::Timeout(timer)));
+            return seen_timeout(&self.timeouts, timer, number);
         }
         match self.pending.peek() {
             None => None,
-            Some(Slot::Event(event)) => Some((event.number, event.kind)),
-            Some(Slot::Expiry(timer, number)) => Some((*number, Kind::Timeout(*timer))),
+            Some(Slot::Event(event)) => Some((event.number, event.kind, &event.content)),
+            Some(Slot::Expiry(timer, number)) => seen_timeout(&self.timeouts, *timer, *number),
         }
     }
 
-    /// Its content.
+    /// Says whether there is such an event.
     ///
-    /// Manual: `event_content()`.
-    pub fn next_content(&self) -> Option<&C>
-        ensures { option_copied result ≡ option_map (λ event. event.content) (next_in self.now.schedule) }
+    /// Ours: docs/TRANSITIONS.md, Next event.
+    pub fn has_next(&self) -> bool
+        ensures { result ≡ is_some (next_in self.now.schedule) }
     {
-        if let Some((timer, number)) = self.next_zero() {
-            return self.timeouts.content(timer, number);
+        if let Some(_) = self.next_zero() {
+            return true;
         }
         match self.pending.peek() {
-            None => None,
-            Some(Slot::Event(event)) => Some(&event.content),
-            Some(Slot::Expiry(timer, number)) => self.timeouts.content(*timer, *number),
+            None => false,
+            Some(Slot::Event(_)) => true,
+            Some(Slot::Expiry(_, _)) => true,
         }
     }
 
@@ -132,18 +132,6 @@ impl<C> Agenda<C> {
         ensures bounded { result ≤ 2 ^ 63 }
     {
         self.pending.next_number()
-    }
-
-    /// Says whether there are numbers enough for events that are inserted and for the time-outs that begin.
-    /// It takes no memory.
-    ///
-    /// Ours: docs/DECISIONS.md, Numbers of events.
-    pub fn has_numbers(&self, inserts: &Inserts<C>, settings: &Settings<C>) -> bool
-        ensures { result ≡ has_numbers self.now.schedule.next_number inserts.now settings.now }
-    {
-        let left = NUMBER_LIMIT - self.next_number();
-        let inserts = inserts.len() as u64;
-        inserts <= left && numbers_taken(settings) as u64 <= left - inserts
     }
 
     /// The running time-outs in the order in which they were set: timer, number of the event, when it is due.
@@ -269,41 +257,12 @@ impl<C: Drop> Agenda<C> {
         Ok(count)
     }
 
-    /// What a transition at a moment, in milliseconds, does with what waits and what runs, where the next
-    /// event has this number: it is received, and the event time-out cancelled; it is postponed or
-    /// finished; at a state change none is postponed any more, and the state time-out is cancelled; then
-    /// others come in, and timers are set. It takes no memory.
-    ///
-    /// Manual: `transition_option()`, the steps of a state transition.
-    pub fn settle(
-        &mut self,
-        now: u64,
-        number: u64,
-        postpone: bool,
-        changed: bool,
-        inserts: Inserts<C>,
-        settings: Settings<C>,
-    )
-        requires inserts_fit { InsertsFit C.row }
-        requires settings_fit { SettingsFit C.row }
-        requires moment { now < 2 ^ 63 }
-        requires number_is { option_map (λ event. event.number) (next_in self.old.schedule) ≡ Some number }
-        requires staged { length inserts + 1 ≤ self.old.staged }
-        requires reserved { length settings ≤ self.old.reserved }
-        requires numbers { self.old.schedule.next_number + (length inserts + numbers_taken settings) ≤ 2 ^ 63 }
-        ensures { self.new.schedule ≡ settled_in now self.old.schedule number postpone changed inserts settings }
-    {
-        self.settle_alone(number, postpone, changed);
-        self.insert(inserts);
-        self.set_all(now, settings);
-    }
-
     /// What a transition does with what waits and what runs before others come in and timers are set, where the next
     /// event has this number: it is received, and the event time-out cancelled; it is postponed or finished; at a state
     /// change none is postponed any more, and the state time-out is cancelled. It takes no memory.
     ///
     /// Manual: `transition_option()`, the steps of a state transition.
-    pub fn settle_alone(&mut self, number: u64, postpone: bool, changed: bool)
+    pub fn settle(&mut self, number: u64, postpone: bool, changed: bool)
         requires number_is { option_map (λ event. event.number) (next_in self.old.schedule) ≡ Some number }
         requires staged { 0 < self.old.staged }
         ensures schedule { self.new.schedule ≡ received_and_retried_in self.old.schedule number postpone changed }
@@ -417,35 +376,38 @@ impl<C: Drop> Agenda<C> {
         self.pending.in_order();
     }
 
-    /// Puts events in before the first one that is not postponed, in order, with the next numbers.
-    /// They are received. It takes no memory.
+    /// Takes the events to be inserted, of which there are so many, out of a list of actions, and puts them in before the
+    /// first one that is not postponed, in order, with the next numbers. They are received. It takes no memory.
     ///
     /// Manual: `action()`, the bullet on `next_event`.
-    pub fn insert(&mut self, inserts: Inserts<C>)
-        requires reserved { length inserts ≤ self.old.staged }
-        requires numbers { self.old.schedule.next_number + length inserts ≤ 2 ^ 63 }
-        ensures { self.new ≡ record self.old {
-          schedule = inserted_in self.old.schedule inserts;
-          staged = self.old.staged - length inserts;
+    pub fn insert(&mut self, count: usize, actions: &mut Actions<C>)
+        requires count { count ≡ length (inserts_of actions.old) }
+        requires reserved { count ≤ self.old.staged }
+        requires numbers { self.old.schedule.next_number + count ≤ 2 ^ 63 }
+        ensures inserted { self.new ≡ record self.old {
+          schedule = inserted_in self.old.schedule (inserts_of actions.old);
+          staged = self.old.staged - count;
         } }
+        ensures same_settings { all_settings_of actions.new ≡ all_settings_of actions.old }
     {
-        self.pending.insert(inserts);
+        self.pending.insert(count, actions);
         self.pending.in_order();
     }
 
-    /// Sets or stops timers at a moment, in milliseconds, in their order. It takes no memory.
+    /// Takes the settings out of a list of actions, and sets or stops their timers at a moment, in milliseconds, in
+    /// their order. It takes no memory.
     ///
     /// Manual: `timeout_action()`.
-    pub fn set_all(&mut self, now: u64, settings: Settings<C>)
-        requires settings_fit { SettingsFit C.row }
+    pub fn set_all(&mut self, now: u64, actions: &mut Actions<C>)
         requires moment { now < 2 ^ 63 }
-        requires reserved { length settings ≤ self.old.reserved }
-        requires numbers { self.old.schedule.next_number + numbers_taken settings ≤ 2 ^ 63 }
-        ensures { self.new.schedule ≡ all_set_in now self.old.schedule settings }
+        requires reserved { length (all_settings_of actions.old) ≤ self.old.reserved }
+        requires numbers { self.old.schedule.next_number + numbers_taken (all_settings_of actions.old) ≤ 2 ^ 63 }
+        ensures { self.new.schedule ≡ all_set_in now self.old.schedule (all_settings_of actions.old) }
     {
-        let mut left = settings.into_places();
-        for setting in left.take_each() {
-            self.set(now, setting);
+        for index in 0..actions.len() {
+            if let Some(setting) = take_setting(actions, index) {
+                self.set(now, setting);
+            }
         }
     }
 
@@ -464,25 +426,25 @@ impl<C: Drop> Agenda<C> {
             time,
             content,
         } = setting;
-        self.cancel(timer);
         match time {
-            Time::Infinity => {}
+            Time::Infinity => self.cancel(timer),
             Time::After(time) => self.begin(now, timer, time, content),
         }
     }
 
-    /// A time-out of a timer that does not run begins at a moment, in milliseconds.
+    /// A time-out of a timer begins at a moment, in milliseconds: what ran of it runs no more.
     fn begin(&mut self, now: u64, timer: Timer, time: u32, content: C)
         requires moment { now < 2 ^ 63 }
-        requires stopped { running_of timer self.old.schedule.running ≡ None }
         requires reserved { 0 < self.old.reserved }
         requires numbers { self.old.schedule.next_number < 2 ^ 63 }
-        ensures schedule { self.new.schedule ≡ begun_in now self.old.schedule timer (After time) content }
+        ensures schedule { self.new.schedule ≡ begun_in now (cancelled_in self.old.schedule timer) timer (After time) content }
         ensures reserved { self.old.reserved ≤ self.new.reserved + 1 }
     {
         let number = self.pending.take_number();
         self.pending.in_order();
-        let _none = self.timeouts.set(timer, time, content, number, now);
+        let _old = self.timeouts.set(timer, time, content, number, now);
+        // What ran may have expired: its expiry may stand in front.
+        self.expiries = pass_dead(&mut self.pending, &self.timeouts, self.expiries);
     }
 }
 
@@ -503,8 +465,26 @@ fn dead_number<C>(pending: &Pending<C>, timeouts: &Timeouts<C>) -> Option<u64>
 }
 
 /// Takes expiries out of the front whose time-outs run no more, and answers how many expiries stay.
-/// Nothing that waits is changed by it.
+/// Nothing that waits is changed by it. Where there is no expiry, it looks at nothing.
 fn pass_dead<C: Drop>(pending: &mut Pending<C>, timeouts: &Timeouts<C>, expiries: usize) -> usize
+    requires { Agrees pending.old timeouts.now.listed expiries }
+    ensures agrees { Agrees pending.new timeouts.now.listed result }
+    ensures alive { IsAlive timeouts.now.listed (next_of pending.new.postponed pending.new.items) }
+    ensures same_items { items_in timeouts.now.listed pending.new.items ≡ items_in timeouts.now.listed pending.old.items }
+    ensures rest { pending.new ≡ record pending.old { items = pending.new.items } }
+{
+    if expiries == 0 {
+        return 0;
+    }
+    pass_each_dead(pending, timeouts, expiries)
+}
+
+/// The same, where there may be an expiry.
+fn pass_each_dead<C: Drop>(
+    pending: &mut Pending<C>,
+    timeouts: &Timeouts<C>,
+    expiries: usize,
+) -> usize
     requires { Agrees pending.old timeouts.now.listed expiries }
     ensures agrees { Agrees pending.new timeouts.now.listed result }
     ensures alive { IsAlive timeouts.now.listed (next_of pending.new.postponed pending.new.items) }
@@ -518,6 +498,14 @@ fn pass_dead<C: Drop>(pending: &mut Pending<C>, timeouts: &Timeouts<C>, expiries
         left -= 1;
     }
     left
+}
+
+/// The event of the time-out of a timer whose event has this number, if it runs.
+fn seen_timeout<C>(timeouts: &Timeouts<C>, timer: Timer, number: u64) -> Option<(u64, Kind, &C)>
+    ensures { option_map (λ seen. record { number = seen.0; kind = seen.1; content = seen.2.now }) result ≡ option_map choice.timeout_event (live timer number timeouts.now.listed) }
+{
+    let content = timeouts.content(timer, number)?;
+    Some((number, Kind::Timeout(timer), content))
 }
 
 /// The event of a time-out.

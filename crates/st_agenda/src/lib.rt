@@ -5,7 +5,6 @@
 mod agenda;
 mod copying;
 mod item;
-mod numbers;
 mod pending;
 mod schedule;
 mod slot;
@@ -14,5 +13,5 @@ mod uncounted_queue;
 pub use agenda::Agenda;
 pub use item::Item;
 pub use schedule::Schedule;
-pub use st_events::{Inserts, Kind, PlainList, Settings, Timer};
+pub use st_events::{Actions, Kind, PlainList, Timer};
 pub use st_timeouts::{Due, Running};

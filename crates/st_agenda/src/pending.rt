@@ -1,5 +1,7 @@
 //! The events that wait: which comes next, what becomes of it, and where others come in.
 ghost use Rattle.std.specs.Prelude.{◌≡◌, ◌+◌, ◌-◌, ◌<◌, ◌≤◌, ◌^◌, true, false, [], ◌∷◌, ◌++◌, Some, IfOk, IfErr, OnOk, OnErr, is_some, length, map, max, option_copied};
+ghost use Rattle.st_actions.specs.Plan.{inserts_of};
+ghost use Rattle.st_actions.specs.Taking.{all_settings_of};
 ghost use Rattle.st_agenda.specs.declared.slot.Slot.TheVariants as slot;
 ghost use Rattle.st_agenda.specs.Agenda.{items_in};
 ghost use Rattle.st_agenda.specs.Items.{has};
@@ -10,7 +12,8 @@ use crate::Item;
 use crate::copying::copy_queue;
 use crate::slot::Slot;
 use crate::uncounted_queue::UncountedQueue;
-use st_events::{CopyContent, Event, Insert, Inserts, Kind, PlainList, Timer};
+use st_actions::take_insert;
+use st_events::{Actions, CopyContent, Event, Insert, Kind, PlainList, Timer};
 use st_timeouts::Timeouts;
 use std::alloc::{AllocError, AllocFailed, Global};
 use std::marker::Model;
@@ -175,20 +178,21 @@ impl<C: Drop> Pending<C> {
         self.queue.stage(count)
     }
 
-    /// Puts events in before the first one that is not postponed, in order, with the next numbers.
-    /// They are received. It takes no memory.
-    pub(crate) fn insert(&mut self, inserts: Inserts<C>)
-        requires reserved { length inserts ≤ self.old.staged }
-        requires numbers { self.old.next_number + length inserts ≤ 2 ^ 63 }
-        ensures { self.new ≡ record self.old {
-          items = put_in self.old.postponed (map Seen (inserted_slots self.old.next_number inserts)) self.old.items;
-          next_number = self.old.next_number + length inserts;
-          staged = self.old.staged - length inserts;
+    /// Takes the events to be inserted, of which there are so many, out of a list of actions, and puts them in before the
+    /// first one that is not postponed, in order, with the next numbers. They are received. It takes no memory.
+    pub(crate) fn insert(&mut self, count: usize, actions: &mut Actions<C>)
+        requires count { count ≡ length (inserts_of actions.old) }
+        requires reserved { count ≤ self.old.staged }
+        requires numbers { self.old.next_number + count ≤ 2 ^ 63 }
+        ensures inserted { self.new ≡ record self.old {
+          items = put_in self.old.postponed (map Seen (inserted_slots self.old.next_number (inserts_of actions.old))) self.old.items;
+          next_number = self.old.next_number + length (inserts_of actions.old);
+          staged = self.old.staged - length (inserts_of actions.old);
         } }
+        ensures same_settings { all_settings_of actions.new ≡ all_settings_of actions.old }
     {
-        let count = inserts.len();
         prove!(self.queue.before() <= self.queue.len());
-        insert_at_cursor(&mut self.queue, inserts, self.next_number);
+        insert_at_cursor(&mut self.queue, count, actions, self.next_number);
         prove!(count <= self.queue.len() - self.received);
         self.received += count;
         self.next_number += count as u64;
@@ -247,25 +251,37 @@ impl<C: Drop> Pending<C> {
     }
 }
 
-/// Puts events in at the cursor, in order, with numbers from this one on.
-fn insert_at_cursor<C: Drop>(queue: &mut UncountedQueue<Slot<C>>, inserts: Inserts<C>, first: u64)
+/// Takes the events to be inserted, of which there are so many, out of a list of actions, from its end on, and puts them
+/// in at the cursor, in order, with numbers from this one on. No action before the first of them is looked at.
+fn insert_at_cursor<C: Drop>(
+    queue: &mut UncountedQueue<Slot<C>>,
+    count: usize,
+    actions: &mut Actions<C>,
+    first: u64,
+)
     requires within { queue.old.cursor ≤ length queue.old.items }
-    requires reserved { length inserts ≤ queue.old.staged }
-    requires numbers { first + length inserts ≤ 2 ^ 63 }
-    ensures { queue.new ≡ record queue.old {
-      items = inserted_at queue.old.items queue.old.cursor (inserted_slots first inserts);
-      staged = queue.old.staged - length inserts;
+    requires count { count ≡ length (inserts_of actions.old) }
+    requires reserved { count ≤ queue.old.staged }
+    requires numbers { first + count ≤ 2 ^ 63 }
+    ensures inserted { queue.new ≡ record queue.old {
+      items = inserted_at queue.old.items queue.old.cursor (inserted_slots first (inserts_of actions.old));
+      staged = queue.old.staged - length (inserts_of actions.old);
     } }
+    ensures same_settings { all_settings_of actions.new ≡ all_settings_of actions.old }
 {
-    let mut left = inserts;
-    while let Some(insert) = left.pop() {
-        let Insert { kind, content } = insert;
-        let number = first + left.len() as u64;
-        queue.insert_staged(Slot::Event(Event {
-            number,
-            kind,
-            content,
-        }));
+    let mut left = count;
+    let mut index = actions.len();
+    while left > 0 {
+        index -= 1;
+        if let Some(insert) = take_insert(actions, index) {
+            left -= 1;
+            let Insert { kind, content } = insert;
+            queue.insert_staged(Slot::Event(Event {
+                number: first + left as u64,
+                kind,
+                content,
+            }));
+        }
     }
 }
 

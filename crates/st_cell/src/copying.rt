@@ -18,7 +18,7 @@ fn copied_list<T: Copy>(list: &PlainList<T>, alloc: Global) -> Result<PlainList<
 fn copied_report<S: Copy>(report: &Report<S>, alloc: Global) -> Result<Report<S>, AllocError>
     ensures { IfOk result (λ copy. copy ≡ report.now) }
 {
-    let calls = copied_list(&report.calls, alloc)?;
+    let calls = report.calls.copy(alloc)?;
     let replied = copied_list(&report.replied, alloc)?;
     let inserted = copied_list(&report.inserted, alloc)?;
     let set = copied_list(&report.set, alloc)?;

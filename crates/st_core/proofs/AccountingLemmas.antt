@@ -11,7 +11,7 @@ use Rattle.st_timeouts.specs.declared.running.Running.{Running}
 use Rattle.st_actions.specs.Plan.{inserts_of, postpone_of, settings_of}
 use Rattle.st_agenda.specs.declared.item.Item.TheVariants.{Posted}
 use Rattle.st_agenda.specs.Items.{has, numbered, numbers_of}
-use Rattle.st_agenda.specs.Timing.{numbers_taken}
+use Rattle.st_actions.specs.Counted.{numbers_taken}
 use Rattle.st_agenda.specs.declared.schedule.Schedule.{Schedule}
 use Rattle.st_agenda.specs.Agenda.{next_in, with_all_expired, settled_in}
 use Rattle.st_agenda.specs.Lawful.{times, waiting_numbers, running_numbers, live_numbers, IsLawfulSchedule}

@@ -17,7 +17,7 @@ use Rattle.st_requests.specs.declared.request.Request.{Request}
 use Rattle.st_requests.specs.Requests.{OneEach, AreOf, with_answer, with_answers, without_kept}
 use Rattle.st_requests.proofs.RequestLemmas.{one_each_opened, one_each_answer, one_each_kept, one_each_closed}
 use Rattle.st_requests.proofs.LawfulRequests.{are_of_later, are_of_opened, are_of_answer, are_of_answers, are_of_closed, are_of_kept, fresh, one_each_answers, none_open_closed, none_open_answer, none_open_answers, none_open_kept}
-use Rattle.st_agenda.specs.Timing.{numbers_taken}
+use Rattle.st_actions.specs.Counted.{numbers_taken}
 use Rattle.st_agenda.specs.declared.schedule.Schedule.{Schedule}
 use Rattle.st_agenda.specs.Agenda.{inserted_in}
 use Rattle.st_agenda.proofs.LawfulSetting as schedule

@@ -2,7 +2,9 @@
 pub mod RunLemmas
 pub mod StartLemmas
 pub mod TransitionLemmas
-pub mod PlanningLemmas
+pub mod AddedLemmas
+pub mod AnsweringLemmas
+pub mod TimesLemmas
 pub mod LawfulLemmas
 pub mod StateLemmas
 pub mod AccountingLemmas

@@ -13,7 +13,7 @@ use Rattle.st_timeouts.specs.declared.running.Running.{Running}
 use Rattle.st_agenda.specs.declared.item.Item.{Item}
 use Rattle.st_agenda.specs.declared.schedule.Schedule.{Schedule}
 use Rattle.st_agenda.specs.Agenda.{next_in, settled_in, inserted_in, all_set_in}
-use Rattle.st_agenda.specs.Timing.{numbers_taken}
+use Rattle.st_actions.specs.Counted.{numbers_taken}
 use Rattle.st_agenda.proofs.LoopLemmas.{none_not_some}
 use Rattle.st_agenda.proofs.LawfulSetting.{lawful_empty, lawful_later, lawful_inserted, lawful_set_all}
 use Rattle.st_agenda.proofs.LawfulTurn.{settled_lawful, settled_next}

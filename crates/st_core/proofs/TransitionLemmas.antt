@@ -1,11 +1,11 @@
 -- What turns and starts answer, and when they take memory.
-use Rattle.std.proofs.Common.{◌≡◌, ℕ, zero, suc, ◌+◌, ◌<◌, ◌≤◌, ◌^◌, Bool, true, false, Option, Some, None, List, [], ◌∷◌, ◌++◌, length, refl, ap, sym, ◌∙◌, arith, ◌⊎◌, inl, inr, if◌then◌else◌}
-use Rattle.std.specs.Prelude.{Result, Ok, Err, nat_le}
-use Rattle.std.specs.Option.{option_map, option_or}
+use Rattle.std.proofs.Common.{◌≡◌, ℕ, zero, suc, ◌+◌, ◌<◌, ◌≤◌, ◌^◌, Bool, true, false, ◌&&◌, ◌||◌, Option, Some, None, List, [], ◌∷◌, ◌++◌, length, refl, ap, sym, ◌∙◌, arith, ◌⊎◌, inl, inr, if◌then◌else◌}
+use Rattle.std.specs.Prelude.{Result, Ok, Err, OnOk, nat_le}
+use Rattle.std.specs.Result.{is_err}
+use Rattle.std.specs.Option.{option_or}
 use Rattle.std.specs.List.{range_with_len}
 use Rattle.std.proofs.lemmas.Bool.{lt-ltb}
 use Rattle.st_events.specs.declared.event.Event.{Event}
-use Rattle.st_events.specs.declared.kind.Kind.{Kind}
 use Rattle.st_events.specs.declared.machine_id.MachineId.{MachineId}
 use Rattle.st_events.specs.declared.insert.Insert.{Insert}
 use Rattle.st_events.specs.declared.refusal.Refusal.{Refusal}
@@ -13,18 +13,23 @@ use Rattle.st_events.specs.declared.refusal.Refusal.TheVariants.{Exhausted, NoMe
 use Rattle.st_events.specs.declared.setting.Setting.{Setting}
 use Rattle.st_requests.specs.declared.request.Request.{Request}
 use Rattle.st_agenda.specs.declared.schedule.Schedule.{Schedule}
-use Rattle.st_agenda.specs.Agenda.{name_of_event, settled_in}
+use Rattle.st_agenda.specs.Agenda.{settled_in}
 use Rattle.st_agenda.specs.Items.{numbered, numbers_of}
-use Rattle.st_agenda.proofs.LoopLemmas.{none_not_some, some_injective}
+use Rattle.st_events.specs.declared.outcome.Outcome.{Outcome}
+use Rattle.st_core.specs.declared.call.Call.{Call}
+use Rattle.st_core.specs.declared.course.Course.{Course}
 use Rattle.st_core.specs.declared.report.Report.{Report}
 use Rattle.st_core.specs.declared.turned.Turned.{Turned}
 use Rattle.st_core.specs.declared.turned.Turned.TheVariants.{Reported}
 use Rattle.st_core.specs.declared.machine_state.MachineState.{MachineState}
 use Rattle.st_core.specs.MachineState.{Machine}
-use Rattle.st_core.specs.Callbacks.{Callbacks, Called, or_old, called_of, outcome_of, handled_with, entered_by, is_entered}
+use Rattle.st_core.specs.Callbacks.{Callbacks, Called, or_old, differs, said_by, called_of, called_with, outcome_of, handled_with, entered_by, is_entered}
+use Rattle.st_core.specs.Gathering.{ComesTo, TurnsTo, turned_with}
+use Rattle.st_core.specs.declared.done.Done.{Done}
+use Rattle.st_core.specs.declared.gathered.Gathered.{Gathered}
 use Rattle.st_core.specs.Choice.{next_event_of}
 use Rattle.st_core.specs.Stop.{unless_ended}
-use Rattle.st_core.specs.Transition.{with_moment, with_called, with_settled, has_numbers, times_of, report_of, unless_refused, went_on, stopped, concluded, transition_of, turn_running, turn_of}
+use Rattle.st_core.specs.Transition.{with_moment, with_called, with_settled, has_numbers, report_of, unless_refused, went_on, stopped, concluded, transition_of, turn_running, turn_of}
 use Rattle.st_core.specs.declared.entry.Entry.{Entry}
 use Rattle.st_core.specs.Post.{post_of, post_running, post_refused}
 use Rattle.st_core.specs.declared.answer.Answer.TheVariants as answer
@@ -114,6 +119,12 @@ pub meets_same : {A T : Type 0} (takes : A → Bool) (without answer : A) (old n
     → Meets takes without answer old new definition → Meets takes without answer old new other
 meets_same takes without answer old new same meets = rw same meets
 
+-- what a turn on an event came to, where that is known
+pub told_as : {S D C : Type 0} (number : ℕ) (old new : MachineState S D C) (gathered : Gathered S) (result known : Result Done Refusal) (definition : Result (Turned S) Refusal × MachineState S D C)
+    → result ≡ known → TurnsTo number old new gathered result definition
+    → Meets turn_takes_memory turn_without_memory (turned_with number old.state new.state gathered known) old new definition
+told_as number old new gathered result known definition same turns = rw (← same) turns
+
 -- a turn that meets its definition, of a machine whose module stays, is what the command does
 pub turn_does : {M S D C : Type 0} (callbacks : M → Callbacks S D C) (old new : Machine M S D C) (now : ℕ) (result : Result (Turned S) Refusal)
     → new.module_ ≡ old.module_ → Meets turn_takes_memory turn_without_memory result old.machine new.machine (turn_of (callbacks old.module_) old.machine now)
@@ -177,6 +188,44 @@ module _ {S D C : Type 0} (machine : MachineState S D C) (entry : Entry) (conten
       let posted : post_takes_memory (post_running machine entry content).0 ≡ true = rw (lt-ltb machine.schedule.next_number (2 ^ 63) free) refl in
       ap (λ (end : Option (ℕ × ℕ)). post_takes_memory (unless_ended end (post_refused content) machine (post_running machine entry content)).0) running ∙ posted
 
+-- ---- the course of a transition
+module _ {S D C : Type 0} (callbacks : Callbacks S D C) (machine : MachineState S D C) (calls : List (Call S)) (outcome : Outcome S D C) (course : Course S) (handled called : Called S D C) where
+  -- what `handle` answers leads there
+  pub comes_of : handled ≡ called_with callbacks.same_state calls machine.state machine.data outcome → or_old machine.state (said_by outcome).state ≡ course.after
+      → differs callbacks.same_state machine.state (said_by outcome).state ≡ course.changed
+      → ComesTo course machine.data calls (said_by outcome).data (said_by outcome).actions handled
+  comes_of handled_is same_state same_change = record {
+    calls = rw handled_is refl;
+    state = rw handled_is same_state;
+    «data» = rw handled_is refl;
+    changed = rw handled_is same_change;
+    actions = rw handled_is refl;
+  }
+
+  -- and there is an enter call where the course says so
+  pub enters_by : differs callbacks.same_state machine.state (said_by outcome).state ≡ course.changed → (said_by outcome).repeats ≡ course.repeats
+      → called ≡ (if is_entered callbacks machine.state outcome then entered_by callbacks machine.state handled else handled)
+      → called ≡ (if callbacks.enters_is && (course.changed || course.repeats) then entered_by callbacks machine.state handled else handled)
+  enters_by same_change same_repeat called_is =
+      called_is
+      ∙ ap (λ (changed : Bool). if callbacks.enters_is && (changed || (said_by outcome).repeats) then entered_by callbacks machine.state handled else handled) same_change
+      ∙ ap (λ (repeats : Bool). if callbacks.enters_is && (course.changed || repeats) then entered_by callbacks machine.state handled else handled) same_repeat
+
+module _ {S D C : Type 0} (callbacks : Callbacks S D C) (machine : MachineState S D C) (outcome : Outcome S D C) (handled called : Called S D C) where
+  never : (enters : Bool) → (enters && (false || false)) ≡ false
+  never true = refl
+  never false = refl
+
+  -- one that stops the machine is entered by none
+  pub enters_not : differs callbacks.same_state machine.state (said_by outcome).state ≡ false → (said_by outcome).repeats ≡ false
+      → called ≡ (if is_entered callbacks machine.state outcome then entered_by callbacks machine.state handled else handled)
+      → called ≡ handled
+  enters_not same_change same_repeat called_is =
+      called_is
+      ∙ ap (λ (changed : Bool). if callbacks.enters_is && (changed || (said_by outcome).repeats) then entered_by callbacks machine.state handled else handled) same_change
+      ∙ ap (λ (repeats : Bool). if callbacks.enters_is && (false || repeats) then entered_by callbacks machine.state handled else handled) same_repeat
+      ∙ ap (λ (enters : Bool). if enters then entered_by callbacks machine.state handled else handled) (never callbacks.enters_is)
+
 -- ---- what is left, by its parts
 module _ {S D C : Type 0} where
   abbrev pub machine_of : MachineId → S → D → Schedule C → List (Request C) → ℕ → Option (ℕ × ℕ) → MachineState S D C
@@ -201,24 +250,6 @@ module _ {C : Type 0} (number : ℕ) where
       ∙ ap (λ (i : List (Insert C)). settled_in latest2 schedule2 number postpone2 changed2 i settings) same_inserts
       ∙ ap (λ (r : List (Setting C)). settled_in latest2 schedule2 number postpone2 changed2 inserts2 r) same_settings
 
--- ---- the next event, by its parts
-module _ {C : Type 0} where
-  -- it has the number and the kind that are shown of it, and the content
-  pub event_is : (next : Option (Event C)) (name : ℕ × Kind) (content : C) → option_map name_of_event next ≡ Some name
-      → option_map (λ (event : Event C). event.content) next ≡ Some content
-      → next ≡ Some (record { number = name.0; kind = name.1; content = content })
-  event_is None name content same_name same_content = absurd (none_not_some None name refl same_name)
-  event_is (Some event) name content same_name same_content =
-      let named : name_of_event event ≡ name = some_injective same_name in
-      let held : event.content ≡ content = some_injective same_content in
-      rw (← named, ← held) refl
-
-  -- its number is that of its name
-  pub number_named : (next : Option (Event C)) (name : ℕ × Kind) → option_map name_of_event next ≡ Some name
-      → option_map (λ (event : Event C). event.number) next ≡ Some name.0
-  number_named None name h = absurd (none_not_some None name refl h)
-  number_named (Some event) name h = ap (λ (n : ℕ × Kind). Some n.0) (some_injective h)
-
 -- ---- numbers
 -- there are enough for the events alone
 pub enough_for_inserts : (next inserts timers : ℕ) → nat_le (next + (inserts + timers)) (2 ^ 63) ≡ true → next + inserts ≤ 2 ^ 63
@@ -230,9 +261,8 @@ enough_for_all next inserts timers h = grind (arith, h)
 pub fewer_inserts : (next inserts timers : ℕ) → nat_le (next + (inserts + timers)) (2 ^ 63) ≡ true → inserts ≤ 2 ^ 63
 fewer_inserts next inserts timers h = grind (arith, h)
 
--- ---- timers that are set
--- the times of one more request
-pub times_of-append : {C : Type 0} (settings : List (Setting C)) (setting : Setting C)
-    → times_of (settings ++ setting ∷ []) ≡ times_of settings ++ (setting.timer, setting.time) ∷ []
-times_of-append [] setting = refl
-times_of-append (first ∷ settings) setting = ap (λ times. (first.timer, first.time) ∷ times) (times_of-append settings setting)
+-- ---- answers that are no errors
+-- what holds of an answer that is no error
+pub there : {T E P : Type 0} (result : Result T E) → is_err result ≡ false → OnOk result P → P
+there (Ok value) fine holds = holds
+there (Err error) fine holds = cc

@@ -9,6 +9,7 @@ pub mod Tick
 pub mod Replies
 pub mod Start
 pub mod Run
+pub mod Gathering
 pub mod UntilIdle
 pub mod Lawful
 pub mod Accounting

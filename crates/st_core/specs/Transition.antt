@@ -42,9 +42,13 @@ left_by (Err refusal) old new = old
 abbrev pub unless_refused : {A T : Type 0} → T → Result A Refusal × T → Result A Refusal × T
 unless_refused old done = (done.0, left_by done.0 old done.1)
 
+-- the timer that was set or stopped, with its time
+abbrev pub time_of : {C : Type 0} → Setting C → Timer × Time
+time_of setting = (setting.timer, setting.time)
+
 -- the timers that were set or stopped, with their times
 abbrev pub times_of : {C : Type 0} → List (Setting C) → List (Timer × Time)
-times_of {C} settings = map (λ (setting : Setting C). (setting.timer, setting.time)) settings
+times_of {C} settings = map (λ (setting : Setting C). time_of setting) settings
 
 module _ {S D C : Type 0} where
   -- a moment before the latest one counts as the latest

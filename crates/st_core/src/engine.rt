@@ -60,7 +60,7 @@ impl<M: Module> Core<M> {
     pub fn is_ready(&self) -> bool
         ensures { result ≡ is_ready_of self.now.machine }
     {
-        self.ended.is_none() && self.agenda.next_event().is_some()
+        self.ended.is_none() && self.agenda.has_next()
     }
 
     /// The machine's id.

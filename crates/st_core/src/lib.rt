@@ -2,33 +2,33 @@
 //! It knows nothing of locks, threads, names, other machines.
 #![tactic(auto)]
 
-mod acted;
+mod added;
 mod answer;
+mod answering;
 mod call;
 mod calls;
 mod command;
+mod course;
 mod done;
 mod engine;
-mod entered;
 mod entry;
+mod gathered;
 mod laws;
 mod machine_state;
-mod made;
 mod new_data;
 mod numbers;
+mod one_inline;
 mod opening;
-mod outcomes;
-mod planning;
 mod post;
 mod prepared;
 mod replies;
 mod report;
 mod run;
-mod settings;
 mod snapshot;
 mod start;
 mod stop;
 mod tick;
+mod times;
 mod turn;
 mod turned;
 mod turns;
@@ -37,6 +37,7 @@ mod until_idle;
 
 pub use answer::Answer;
 pub use call::Call;
+pub use calls::Calls;
 pub use command::Command;
 pub use done::Done;
 pub use engine::Core;
@@ -47,6 +48,7 @@ pub use laws::{
     waiting_counts_what_is_accounted,
 };
 pub use machine_state::MachineState;
+pub use one_inline::OneInline;
 pub use report::Report;
 pub use snapshot::Snapshot;
 pub use st_agenda::{Item, Schedule};

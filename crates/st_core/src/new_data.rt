@@ -1,6 +1,5 @@
 //! New data, where there are some, and the old.
 ghost use Rattle.std.specs.Prelude.{◌≡◌};
-ghost use Rattle.std.specs.Option.{option_or};
 ghost use Rattle.st_core.specs.Callbacks.{or_old};
 
 /// The new data, or else the old.
@@ -19,14 +18,5 @@ pub(crate) fn replace<D: Drop>(held: &mut D, new: Option<D>)
 {
     if let Some(new) = new {
         *held = new;
-    }
-}
-
-/// Puts new data in the place of those that were given, where there are some.
-pub(crate) fn replace_given<D: Drop>(given: &mut Option<D>, new: Option<D>)
-    ensures { given.new ≡ option_or new given.old }
-{
-    if new.is_some() {
-        *given = new;
     }
 }

@@ -1,16 +1,29 @@
 //! The numbers of events that are inserted.
-ghost use Rattle.std.specs.Prelude.{◌≡◌, ◌+◌, ◌≤◌, ◌^◌, IfOk};
+ghost use Rattle.std.specs.Prelude.{◌≡◌, ◌+◌, ◌≤◌, ◌^◌, [], IfOk, OnOk};
 ghost use Rattle.std.specs.List.{range_with_len};
 
 use st_events::PlainList;
 use std::alloc::{AllocError, Global};
 
-/// So many numbers, from the first one on.
-pub(crate) fn numbers_from(
+/// Notes so many numbers in a list, from the first one on. Where there are none, it takes no memory.
+pub(crate) fn note_numbers(
     alloc: Global,
     first: u64,
     count: usize,
-) -> Result<PlainList<u64>, AllocError>
+    noted: &mut PlainList<u64>,
+) -> Result<(), AllocError>
+    requires within { first + count ≤ 2 ^ 63 }
+    requires empty { noted.old ≡ [] }
+    ensures { OnOk result (noted.new ≡ range_with_len first count) }
+{
+    if count > 0 {
+        *noted = numbers_from(alloc, first, count)?;
+    }
+    Ok(())
+}
+
+/// So many numbers, from the first one on.
+fn numbers_from(alloc: Global, first: u64, count: usize) -> Result<PlainList<u64>, AllocError>
     requires { first + count ≤ 2 ^ 63 }
     ensures { IfOk result (λ numbers. numbers ≡ range_with_len first count) }
 {

@@ -1,122 +1,58 @@
 //! What a transition needs before it changes anything: numbers and memory.
-ghost use Rattle.std.specs.Prelude.{◌≡◌, ◌⊎◌, ◌+◌, ◌≤◌, [], ◌∷◌, true, false, length, vec_capacity, IfOk, IfErr, OnOk};
-ghost use Rattle.std.specs.Option.{option_to_list};
+ghost use Rattle.std.specs.Prelude.{◌≡◌, ◌⊎◌, ◌+◌, ◌≤◌, [], false, true, length, vec_capacity, IfOk, IfErr, OnOk};
+ghost use Rattle.std.specs.Option.{unwrap_or};
 ghost use Rattle.st_events.specs.declared.refusal.Refusal.TheVariants.{NoMemory, Exhausted};
-ghost use Rattle.st_actions.specs.Plan.{replies_of, inserts_of, settings_of};
+ghost use Rattle.st_actions.specs.Counted.{IsCountOf};
+ghost use Rattle.st_actions.specs.Plan.{replies_of, inserts_of, postpone_of, settings_of};
+ghost use Rattle.st_actions.specs.Taking.{all_settings_of};
 ghost use Rattle.st_agenda.specs.Items.{numbered, numbers_of};
-ghost use Rattle.st_agenda.specs.Timing.{has_numbers, numbers_taken};
+ghost use Rattle.st_agenda.specs.Timing.{has_numbers};
+ghost use Rattle.st_core.specs.Gathering.{IsEmpty};
 ghost use Rattle.st_core.specs.Transition.{times_of};
 
-use crate::numbers::numbers_from;
-use crate::settings::times_of;
-use st_actions::Planned;
+use crate::gathered::Gathered;
+use crate::numbers::note_numbers;
+use crate::times::note_times;
+use st_actions::{Counts, count_last};
 use st_agenda::Agenda;
-use st_events::{Action, NUMBER_LIMIT, PlainList, Refusal, Tag, Time, Timer};
-use std::alloc::{AllocError, Global};
+use st_events::{Actions, NUMBER_LIMIT, Refusal};
+use std::alloc::Global;
 
-/// What a report says of the events that are inserted and of the timers that are set, and places for the tags
-/// of the replies that are taken.
-#[derive(Drop)]
-pub(crate) struct Prepared {
-    pub(crate) replied: Vec<Tag>,
-    pub(crate) inserted: PlainList<u64>,
-    pub(crate) set: PlainList<(Timer, Time)>,
-}
-
-/// Sees that there are numbers enough for a plan, and gets all memory for it: for what the report says, and
-/// for the events and timers. Nothing that waits or runs changes, and after that the plan cannot fail.
-pub(crate) fn prepare<C: Drop>(
+/// Sees that there are numbers enough for what actions ask for, and gets all memory for it: for what the report tells, and
+/// for the events and timers. Of each timer its last setting alone is left among the actions. Nothing that waits or runs
+/// changes, and after that what they ask for cannot fail.
+pub(crate) fn prepare<S: Drop, C: Drop>(
     alloc: Global,
     agenda: &mut Agenda<C>,
-    planned: &Planned<C>,
-) -> Result<Prepared, Refusal>
-    ensures numbers { IfOk result (λ prepared. has_numbers agenda.old.schedule.next_number planned.now.inserts planned.now.requests ≡ true) }
-    ensures replied { IfOk result (λ prepared. prepared.replied.items ≡ []) }
-    ensures replies { IfOk result (λ prepared. length planned.now.replies ≤ vec_capacity prepared.replied) }
-    ensures inserted { IfOk result (λ prepared. prepared.inserted ≡ numbers_of (numbered agenda.old.schedule.next_number planned.now.inserts)) }
-    ensures set { IfOk result (λ prepared. prepared.set ≡ times_of planned.now.requests) }
-    ensures staged { OnOk result (length planned.now.inserts + 1 ≤ agenda.new.staged) }
-    ensures reserved { OnOk result (length planned.now.requests ≤ agenda.new.reserved) }
+    actions: &mut Actions<C>,
+    gathered: &mut Gathered<S>,
+) -> Result<Counts, Refusal>
+    requires empty { IsEmpty gathered.old }
+    ensures counted { IfOk result (λ counts. IsCountOf counts actions.new) }
+    ensures postpone { IfOk result (λ counts. unwrap_or counts.postpone false ≡ postpone_of actions.old) }
+    ensures last { OnOk result (all_settings_of actions.new ≡ settings_of actions.old) }
+    ensures same_replies { replies_of actions.new ≡ replies_of actions.old }
+    ensures same_inserts { inserts_of actions.new ≡ inserts_of actions.old }
+    ensures numbers { OnOk result (has_numbers agenda.old.schedule.next_number (inserts_of actions.old) (settings_of actions.old) ≡ true) }
+    ensures replied { OnOk result (gathered.new.replied.items ≡ []) }
+    ensures replies { OnOk result (length (replies_of actions.old) ≤ vec_capacity gathered.new.replied) }
+    ensures inserted { OnOk result (gathered.new.inserted ≡ numbers_of (numbered agenda.old.schedule.next_number (inserts_of actions.old))) }
+    ensures set { OnOk result (gathered.new.set ≡ times_of (settings_of actions.old)) }
+    ensures same_calls { gathered.new.calls ≡ gathered.old.calls }
+    ensures staged { OnOk result (length (inserts_of actions.old) + 1 ≤ agenda.new.staged) }
+    ensures reserved { OnOk result (length (settings_of actions.old) ≤ agenda.new.reserved) }
     ensures same_schedule { agenda.new.schedule ≡ agenda.old.schedule }
 
-    ensures refusals { IfErr result (λ refusal. (refusal ≡ NoMemory) ⊎ ((refusal ≡ Exhausted) × (has_numbers agenda.old.schedule.next_number planned.now.inserts planned.now.requests ≡ false))) }
+    ensures refusals { IfErr result (λ refusal. (refusal ≡ NoMemory) ⊎ ((refusal ≡ Exhausted) × (has_numbers agenda.old.schedule.next_number (inserts_of actions.old) (settings_of actions.old) ≡ false))) }
 {
-    let inserts = planned.inserts.len();
-    let timers = planned.requests.len();
-    if !agenda.has_numbers(&planned.inserts, &planned.requests) {
-        return Err(Refusal::Exhausted);
-    }
-    let replied = Vec::with_capacity(alloc, planned.replies.len())?;
-    let inserted = numbers_from(alloc, agenda.next_number(), inserts)?;
-    let set = times_of(alloc, &planned.requests)?;
-    agenda.reserve_for(inserts, timers)?;
-    Ok(Prepared {
-        replied,
-        inserted,
-        set,
-    })
-}
-
-/// The same for one action at most.
-pub(crate) fn prepare_one<C: Drop>(
-    alloc: Global,
-    agenda: &mut Agenda<C>,
-    asked: &Option<Action<C>>,
-) -> Result<Prepared, Refusal>
-    ensures numbers { IfOk result (λ prepared. has_numbers agenda.old.schedule.next_number (inserts_of (option_to_list asked.now)) (settings_of (option_to_list asked.now)) ≡ true) }
-    ensures replied { IfOk result (λ prepared. prepared.replied.items ≡ []) }
-    ensures replies { IfOk result (λ prepared. length (replies_of (option_to_list asked.now)) ≤ vec_capacity prepared.replied) }
-    ensures inserted { IfOk result (λ prepared. prepared.inserted ≡ numbers_of (numbered agenda.old.schedule.next_number (inserts_of (option_to_list asked.now)))) }
-    ensures set { IfOk result (λ prepared. prepared.set ≡ times_of (settings_of (option_to_list asked.now))) }
-    ensures staged { OnOk result (length (inserts_of (option_to_list asked.now)) + 1 ≤ agenda.new.staged) }
-    ensures reserved { OnOk result (length (settings_of (option_to_list asked.now)) ≤ agenda.new.reserved) }
-    ensures same_schedule { agenda.new.schedule ≡ agenda.old.schedule }
-
-    ensures refusals { IfErr result (λ refusal. (refusal ≡ NoMemory) ⊎ ((refusal ≡ Exhausted) × (has_numbers agenda.old.schedule.next_number (inserts_of (option_to_list asked.now)) (settings_of (option_to_list asked.now)) ≡ false))) }
-{
+    let counts = count_last(alloc, actions)?;
     let next = agenda.next_number();
-    if next + numbers_wanted(asked) > NUMBER_LIMIT {
+    if counts.numbers > NUMBER_LIMIT - next {
         return Err(Refusal::Exhausted);
     }
-    let mut replied = Vec::new(alloc);
-    let mut inserted = PlainList::new(alloc);
-    let mut set = PlainList::new(alloc);
-    match asked {
-        Some(Action::Reply(..)) => replied = Vec::with_capacity(alloc, 1)?,
-        Some(Action::NextEvent(..)) => {
-            inserted = list_of_one(alloc, next)?;
-            agenda.stage(2)?;
-        }
-        Some(Action::Set(timer, time, _)) => {
-            set = list_of_one(alloc, (*timer, *time))?;
-            agenda.reserve(1)?;
-        }
-        None | Some(Action::Postpone(_)) | Some(Action::Hibernate) => {}
-    }
-    agenda.stage(1)?;
-    Ok(Prepared {
-        replied,
-        inserted,
-        set,
-    })
-}
-
-/// How many numbers an action takes, if there is one.
-fn numbers_wanted<C>(asked: &Option<Action<C>>) -> u64
-    ensures wanted { result ≡ length (inserts_of (option_to_list asked.now)) + numbers_taken (settings_of (option_to_list asked.now)) }
-    ensures few { result ≤ 1 }
-{
-    match asked {
-        Some(Action::NextEvent(..)) | Some(Action::Set(_, Time::After(_), _)) => 1,
-        _ => 0,
-    }
-}
-
-/// A list of one element.
-fn list_of_one<T: Drop>(alloc: Global, element: T) -> Result<PlainList<T>, AllocError>
-    ensures { IfOk result (λ list. list ≡ element ∷ []) }
-{
-    let mut elements = Vec::with_capacity(alloc, 1)?;
-    elements.push_reserved(element);
-    Ok(PlainList::from(elements))
+    gathered.replied.reserve_exact(counts.replies)?;
+    note_numbers(alloc, next, counts.inserts, &mut gathered.inserted)?;
+    note_times(alloc, counts.settings, actions, &mut gathered.set)?;
+    agenda.reserve_for(counts.inserts, counts.settings)?;
+    Ok(counts)
 }

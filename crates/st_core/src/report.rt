@@ -1,6 +1,6 @@
 //! What a start or a turn did.
 
-use crate::{Call, Done};
+use crate::{Calls, Done};
 use st_events::{PlainList, Tag, Time, Timer};
 
 /// What a start or a turn did.
@@ -13,7 +13,7 @@ pub struct Report<S> {
     /// How it ended.
     pub done: Done,
     /// The callbacks that were made, in order; the `init` of a start is not among them.
-    pub calls: PlainList<Call<S>>,
+    pub calls: Calls<S>,
     /// The state before it; of a start the one that `init` answered.
     pub before: S,
     /// The state after it.

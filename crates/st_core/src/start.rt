@@ -1,21 +1,17 @@
 //! A machine starts.
-ghost use Rattle.std.specs.Prelude.{◌≡◌, ◌≤◌, ◌<◌, ◌^◌};
-ghost use Rattle.st_actions.specs.Plan.{plan_of};
-ghost use Rattle.st_core.specs.Callbacks.{Called, callbacks_of, begun_with, entered_by};
+ghost use Rattle.std.specs.Prelude.{◌≡◌, ◌≤◌, ◌<◌, ◌^◌, []};
+ghost use Rattle.st_core.specs.Callbacks.{Called, callbacks_of, begun_with, begun_by, entered_by};
+ghost use Rattle.st_core.specs.Gathering.{IsEmpty};
 ghost use Rattle.st_core.specs.Start.{start_of, begun_as, started_with, ended_with, Starts, first_state};
 
-use crate::calls::{one_call, with_call};
-use crate::entered::{entered_reason, plan_entered};
+use crate::added::add_entered;
+use crate::gathered::Gathered;
 use crate::new_data::replace;
 use crate::opening::Opening;
-use crate::planning::plan_actions;
 use crate::prepared::prepare;
-use crate::{Call, Core, Done, Report};
-use st_actions::Planned;
+use crate::{Call, Core, Done, OneInline, Report};
 use st_agenda::Agenda;
-use st_events::{
-    Actions, Init, MOMENT_LIMIT, MachineId, Module, PlainList, Reason, Refusal, Refused,
-};
+use st_events::{Actions, Init, MOMENT_LIMIT, MachineId, Module, Reason, Refusal, Refused};
 use st_requests::Requests;
 use std::alloc::Global;
 
@@ -90,31 +86,30 @@ impl<M: Module> Core<M> {
                     now,
                     first,
                 };
-                if opening.module.enters() {
-                    Core::begin_entered(opening, state, data, actions)
-                } else {
-                    Core::begin(opening, state, data, actions)
-                }
+                Core::begin(opening, state, data, actions)
             }
         }
     }
 
-    /// Begins in a state with data, and does what `init` asked for, with no enter call.
+    /// Begins in a state with data, which is entered where there is an enter call, and does what `init` and the enter
+    /// call asked for.
     fn begin(
         opening: Opening<M>,
         state: M::State,
         data: M::Data,
-        actions: Actions<M::Content>,
+        mut actions: Actions<M::Content>,
     ) -> Result<Start<M>, Refused<M>>
         requires moment { opening.now < 2 ^ 63 }
         requires greatest { opening.first < 2 ^ 63 }
-        ensures start { Starts opening.module result (started_with opening.module (first_state opening.id state «data» opening.now opening.first) (begun_with state «data» actions)) }
+        ensures start { Starts opening.module result (begun_as (callbacks_of M.Module M.State.eq opening.module) opening.module opening.id
+            (begun_by (callbacks_of M.Module M.State.eq opening.module) state «data» actions) opening.now opening.first) }
     {
-        let Ok(planned) = plan_actions(opening.alloc, actions) else {
-            return Err(Refused::new(Refusal::NoMemory, opening.module));
-        };
-        let calls = PlainList::new(opening.alloc);
-        Core::run_from(opening, calls, state, data, planned)
+        let gathered = Gathered::new(opening.alloc, OneInline::new(opening.alloc));
+        if opening.module.enters() {
+            Core::begin_entered(opening, state, data, &mut actions, gathered)
+        } else {
+            Core::run_from(opening, state, data, &mut actions, gathered)
+        }
     }
 
     /// Begins in a state with data, which is entered, and does what `init` and the enter call asked for.
@@ -122,57 +117,55 @@ impl<M: Module> Core<M> {
         opening: Opening<M>,
         state: M::State,
         mut data: M::Data,
-        actions: Actions<M::Content>,
+        actions: &mut Actions<M::Content>,
+        mut gathered: Gathered<M::State>,
     ) -> Result<Start<M>, Refused<M>>
         requires moment { opening.now < 2 ^ 63 }
         requires greatest { opening.first < 2 ^ 63 }
+        requires no_calls { gathered.calls ≡ [] }
+        requires empty { IsEmpty gathered }
         ensures start { (called : Called M.State M.Data M.Content)
-            → called ≡ entered_by (callbacks_of M.Module M.State.eq opening.module) state (begun_with state «data» actions)
+            → called ≡ entered_by (callbacks_of M.Module M.State.eq opening.module) state (begun_with state «data» actions.old)
             → Starts opening.module result (begun_as (callbacks_of M.Module M.State.eq opening.module) opening.module opening.id called opening.now opening.first) }
     {
-        let Ok(planned) = plan_actions(opening.alloc, actions) else {
-            return Err(Refused::new(Refusal::NoMemory, opening.module));
-        };
         let Ok(entered) = opening.module.enter(opening.alloc, state, state, &data) else {
             return Err(Refused::new(Refusal::NoMemory, opening.module));
         };
-        let reason = entered_reason(&entered);
-        let mut new = None;
-        let Ok(planned) = plan_entered(opening.alloc, planned, entered, &mut new) else {
+        let Ok((new, reason)) = add_entered(actions, entered, None) else {
             return Err(Refused::new(Refusal::NoMemory, opening.module));
         };
-        let Ok(calls) = one_call(opening.alloc, Call::Enter { old: state, state }) else {
+        let Ok(()) = gathered.calls.push(Call::Enter { old: state, state }) else {
             return Err(Refused::new(Refusal::NoMemory, opening.module));
         };
         replace(&mut data, new);
         match reason {
-            None => Core::run_from(opening, calls, state, data, planned),
-            Some(reason) => Core::end_at(opening, calls, state, data, reason),
+            None => Core::run_from(opening, state, data, actions, gathered),
+            Some(reason) => Core::end_at(opening, state, data, reason, gathered),
         }
     }
 
-    /// A machine runs in a state with data, after these callbacks, and does what the actions ask for. A
-    /// Postpone is ignored.
+    /// A machine runs in a state with data, and does what the actions ask for. A Postpone is ignored.
     fn run_from(
         opening: Opening<M>,
-        calls: PlainList<Call<M::State>>,
         state: M::State,
         data: M::Data,
-        planned: Planned<M::Content>,
+        actions: &mut Actions<M::Content>,
+        mut gathered: Gathered<M::State>,
     ) -> Result<Start<M>, Refused<M>>
         requires moment { opening.now < 2 ^ 63 }
         requires greatest { opening.first < 2 ^ 63 }
-        ensures start { (called : Called M.State M.Data M.Content) → called.calls ≡ calls → plan_of called.actions ≡ planned
+        requires empty { IsEmpty gathered }
+        ensures start { (called : Called M.State M.Data M.Content) → called.calls ≡ gathered.calls → called.actions ≡ actions.old
             → Starts opening.module result (started_with opening.module (first_state opening.id state «data» opening.now opening.first) called) }
     {
         let mut agenda = Agenda::new(opening.alloc, opening.first);
-        let prepared = match prepare(opening.alloc, &mut agenda, &planned) {
-            Ok(prepared) => prepared,
+        let counts = match prepare(opening.alloc, &mut agenda, actions, &mut gathered) {
+            Ok(counts) => counts,
             Err(refusal) => return Err(Refused::new(refusal, opening.module)),
         };
         // Nothing fails from here on.
-        agenda.insert(planned.inserts);
-        agenda.set_all(opening.now, planned.requests);
+        agenda.insert(counts.inserts, actions);
+        agenda.set_all(opening.now, actions);
         let core = Core {
             alloc: opening.alloc,
             module: opening.module,
@@ -184,40 +177,31 @@ impl<M: Module> Core<M> {
             latest: opening.now,
             ended: None,
         };
-        let report = Report {
-            event: None,
-            done: Done::Started,
-            calls,
-            before: state,
-            after: state,
-            replied: PlainList::new(opening.alloc),
-            inserted: prepared.inserted,
-            set: prepared.set,
-        };
+        let report = gathered.into_report(None, Done::Started, state, state);
         Ok(Start::Running(core, report))
     }
 
-    /// The first enter call stops for a reason, after these callbacks, in a state with data: there is a
-    /// machine, which has ended.
+    /// The first enter call stops for a reason, in a state with data: there is a machine, which has ended.
     fn end_at(
         opening: Opening<M>,
-        calls: PlainList<Call<M::State>>,
         state: M::State,
         data: M::Data,
         reason: Reason,
+        mut gathered: Gathered<M::State>,
     ) -> Result<Start<M>, Refused<M>>
         requires moment { opening.now < 2 ^ 63 }
         requires greatest { opening.first < 2 ^ 63 }
-        ensures start { (called : Called M.State M.Data M.Content) → called.calls ≡ calls
+        requires empty { IsEmpty gathered }
+        ensures start { (called : Called M.State M.Data M.Content) → called.calls ≡ gathered.calls
             → Starts opening.module result (ended_with (callbacks_of M.Module M.State.eq opening.module) opening.module (first_state opening.id state «data» opening.now opening.first) called reason) }
     {
         let word = opening.module.terminate(reason, state, &data);
-        let terminate = Call::Terminate {
+        let Ok(()) = gathered.calls.push(Call::Terminate {
             reason,
             state,
             word,
-        };
-        let Ok(calls) = with_call(calls, terminate) else {
+        })
+        else {
             return Err(Refused::new(Refusal::NoMemory, opening.module));
         };
         let core = Core {
@@ -231,16 +215,7 @@ impl<M: Module> Core<M> {
             latest: opening.now,
             ended: Some((reason, word)),
         };
-        let report = Report {
-            event: None,
-            done: Done::Ended(reason, word),
-            calls,
-            before: state,
-            after: state,
-            replied: PlainList::new(opening.alloc),
-            inserted: PlainList::new(opening.alloc),
-            set: PlainList::new(opening.alloc),
-        };
+        let report = gathered.into_report(None, Done::Ended(reason, word), state, state);
         Ok(Start::Running(core, report))
     }
 }

@@ -24,6 +24,10 @@ first_tag = record { machine = record { slot = 0; serial = 1 }; request = 1 }
 abbrev pub second_tag : Tag
 second_tag = record { machine = record { slot = 0; serial = 1 }; request = 2 }
 
+-- a third request to the same machine
+abbrev pub third_tag : Tag
+third_tag = record { machine = record { slot = 0; serial = 1 }; request = 3 }
+
 -- a request to another machine
 abbrev pub foreign_tag : Tag
 foreign_tag = record { machine = record { slot = 0; serial = 2 }; request = 1 }
@@ -36,6 +40,23 @@ five_actions = Hibernate ∷ Hibernate ∷ Hibernate ∷ Hibernate ∷ Hibernate
 abbrev pub two_inserts : List (Action ℕ)
 two_inserts = NextEvent Internal 20 ∷ NextEvent Cast 21 ∷ []
 
+-- nine actions, of each kind one or more
+abbrev pub actions_of_each_kind : List (Action ℕ)
+actions_of_each_kind =
+    Set (timer.Named 1) (After 5) 0 ∷ Reply second_tag 54 ∷ NextEvent Internal 20 ∷ Postpone true ∷ Hibernate
+    ∷ Set timer.State (After 10) 0 ∷ NextEvent Cast 21 ∷ Set (timer.Named 1) (After 7) 0 ∷ Reply first_tag 55 ∷ []
+
+-- five replies, one more than a list holds without memory
+abbrev pub five_replies : List (Tag × ℕ)
+five_replies = (third_tag, 57) ∷ (first_tag, 40) ∷ (foreign_tag, 58) ∷ (second_tag, 51) ∷ (third_tag, 59) ∷ []
+
+-- what `handle` answers to the contents that ask for more than a list holds without memory
+abbrev pub handled_at_length : ℕ → ℕ → Outcome ℕ ℕ ℕ
+handled_at_length content held =
+    if content == 41 then NextState 1 held actions_of_each_kind
+    else (if content == 42 then StopAndReply 9 five_replies None
+    else KeepStateAndData [])
+
 -- what `handle` answers to the contents that reply
 abbrev pub handled_by_replying : ℕ → ℕ → Outcome ℕ ℕ ℕ
 handled_by_replying content held =
@@ -43,7 +64,7 @@ handled_by_replying content held =
     else (if content == 38 then NextState 1 held (Reply second_tag 52 ∷ [])
     else (if content == 39 then KeepStateAndData (Reply first_tag 50 ∷ Reply first_tag 51 ∷ [])
     else (if content == 40 then KeepStateAndData (Reply foreign_tag 53 ∷ [])
-    else KeepStateAndData [])))
+    else handled_at_length content held)))
 
 -- what `handle` answers to the contents that have a state entered
 abbrev pub handled_by_entering : ℕ → ℕ → Outcome ℕ ℕ ℕ
@@ -112,14 +133,22 @@ entering_actions = enter_action.Reply first_tag 60 ∷ enter_action.Set timer.St
 abbrev pub five_enter_actions : List (EnterAction ℕ)
 five_enter_actions = enter_action.Hibernate ∷ enter_action.Hibernate ∷ enter_action.Hibernate ∷ enter_action.Hibernate ∷ enter_action.Hibernate ∷ []
 
+-- six actions of the module 66's enter call, of each kind one or more
+abbrev pub enter_actions_of_each_kind : List (EnterAction ℕ)
+enter_actions_of_each_kind =
+    enter_action.Set (timer.Named 2) (After 3) 0 ∷ enter_action.Reply third_tag 63 ∷ enter_action.Hibernate
+    ∷ enter_action.Set timer.State (After 20) 0 ∷ enter_action.Set (timer.Named 2) (After 9) 0 ∷ enter_action.Reply first_tag 64 ∷ []
+
 -- what `enter` answers where a state is come to from another
 abbrev pub changed_by_table : ℕ → ℕ → ℕ → EnterOutcome ℕ ℕ
 changed_by_table number old held =
     if number == 61 then enter.KeepState (if old == 0 then 31 else 32) []
     else (if number == 71 then enter.StopAndReply 4 ((first_tag, 61) ∷ []) (Some 8)
     else (if number == 72 then enter.Stop 4 None
+    else (if number == 73 then enter.StopAndReply 4 five_replies (Some 8)
+    else (if number == 66 then enter.KeepStateAndData enter_actions_of_each_kind
     else (if number == 65 then enter.KeepStateAndData (enter_action.Reply first_tag 62 ∷ [])
-    else enter.KeepStateAndData [])))
+    else enter.KeepStateAndData [])))))
 
 -- what `enter` of the module with this number answers, for the old state and the new, with data
 abbrev pub entered_by_table : ℕ → ℕ → ℕ → ℕ → EnterOutcome ℕ ℕ
@@ -147,4 +176,5 @@ begun_by_table arg =
     else (if arg == 6 then init.Ok 0 7 (Set (timer.Named 1) (After 4294967295) 0 ∷ [])
     else (if arg == 7 then init.Ok 0 7 three_settings
     else (if arg == 8 then init.Ok 0 7 (Set (timer.Named 1) (After 0) 0 ∷ two_inserts)
-    else init.Stop arg)))))))
+    else (if arg == 9 then init.Ok 0 7 actions_of_each_kind
+    else init.Stop arg))))))))

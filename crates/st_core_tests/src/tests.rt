@@ -3,11 +3,13 @@
 mod accounting;
 mod answers;
 mod begin;
+mod calls;
 mod compared;
 mod enters;
 mod few;
 mod host;
 mod journal;
+mod long_lists;
 mod machine;
 mod postponing;
 mod requests;

@@ -1,9 +1,10 @@
 -- Places at which elements come and go.
-use Rattle.std.proofs.Common.{◌≡◌, ◌<◌, ◌++◌, List, [], ◌∷◌, Option, Some, None, refl, sym, ap, ◌∙◌, map, reverse, take, length, append-nil, arith}
+use Rattle.std.proofs.Common.{◌≡◌, ℕ, zero, suc, set, ◌<◌, ◌++◌, List, [], ◌∷◌, Option, Some, None, refl, sym, ap, ◌∙◌, map, reverse, take, length, append-nil, arith}
 use Rattle.std.specs.Option.{option_to_list, option_flatten, IsSome, IsNone, IfNone}
 use Rattle.std.specs.List.{refill}
+use Rattle.std.specs.Prelude.{slice_get}
 use Rattle.std.specs.Iterator.{YieldsFirst}
-use Rattle.std.proofs.lemmas.List.{map-append, take-map, take_all, drop_all, length-map}
+use Rattle.std.proofs.lemmas.List.{map-append, map-set, take-map, take_all, drop_all, length-map}
 use Rattle.std.proofs.lemmas.List.Elements.{filter_map-append}
 use Rattle.std.proofs.lemmas.Grind.{reverse_onto}
 use Rattle.st_events.specs.Places.{present, IsFull}
@@ -102,3 +103,21 @@ full-reverse places full = full_from _ _ (taken-reverse places full)
 
 pub present-reverse : {T : Type 0} (places : List (Option T)) → IsFull places → present (reverse places) ≡ reverse (present places)
 present-reverse places full = ap present (taken-reverse places full) ∙ present-taken _
+
+-- another element at a place
+taken-set : {T : Type 0} (places : List (Option T)) (index : ℕ) (x : T) → IsFull places → set places index (Some x) ≡ map Some (set (present places) index x)
+taken-set places index x full = ap (λ t. set t index (Some x)) full ∙ sym (map-set Some (present places) index x)
+
+pub full-set : {T : Type 0} (places : List (Option T)) (index : ℕ) (x : T) → IsFull places → IsFull (set places index (Some x))
+full-set places index x full = full_from _ _ (taken-set places index x full)
+
+pub present-set : {T : Type 0} (places : List (Option T)) (index : ℕ) (x : T) → IsFull places → present (set places index (Some x)) ≡ set (present places) index x
+present-set places index x full = ap present (taken-set places index x full) ∙ present-taken _
+
+slice_get-map : {T : Type 0} (xs : List T) (index : ℕ) → option_flatten (slice_get (map Some xs) index) ≡ slice_get xs index
+slice_get-map [] index = refl
+slice_get-map (x ∷ xs) zero = refl
+slice_get-map (x ∷ xs) (suc index) = slice_get-map xs index
+
+pub present-get : {T : Type 0} (places : List (Option T)) (index : ℕ) → IsFull places → option_flatten (slice_get places index) ≡ slice_get (present places) index
+present-get places index full = ap (λ t. option_flatten (slice_get t index)) full ∙ slice_get-map (present places) index

@@ -1,6 +1,6 @@
 //! Short lists that contracts see as lists.
-ghost use Rattle.std.specs.Prelude.{◌≡◌, ◌↔◌, ◌<◌, [], ◌∷◌, ◌++◌, length, reverse, slice_get, option_copied, IsTrue, IsNone, IsOk, IfNone, OnOk, OnErr, IfErr};
-ghost use Rattle.std.specs.Option.{option_to_list};
+ghost use Rattle.std.specs.Prelude.{◌≡◌, ◌↔◌, ◌<◌, [], ◌∷◌, ◌++◌, Some, length, reverse, slice_get, slice_set, option_copied, IsTrue, IsNone, IsOk, IfNone, OnOk, OnErr, IfErr};
+ghost use Rattle.std.specs.Option.{option_to_list, option_flatten};
 ghost use Rattle.st_events.specs.Places.{present, IsFull};
 
 use crate::Places;
@@ -95,6 +95,17 @@ impl<T> SmallList<T> {
         }
     }
 
+    /// Puts an element in the place of another, which is handed out. Where there are not so many, the list stays, the
+    /// element is let go, and the answer is `None`. It takes no memory.
+    pub fn replace(&mut self, index: usize, element: T) -> Option<T>
+    where
+        T: Drop,
+        ensures replaced { result ≡ slice_get self.old index }
+        ensures put_in { self.new ≡ slice_set self.old index element }
+    {
+        replace_in(&mut self.elements, index, element)
+    }
+
     /// Turns the order of the elements round. It takes no memory.
     pub fn reverse(&mut self)
         ensures reversed { self.new ≡ reverse self.old }
@@ -110,6 +121,18 @@ impl<T> SmallList<T> {
         Places {
             places: self.elements,
         }
+    }
+}
+
+/// Puts an element in a place, and hands out what was there. Where there are not so many, nothing changes.
+fn replace_in<T: Drop>(places: &mut SmallVec<Option<T>, 4>, index: usize, element: T) -> Option<T>
+    ensures replaced { result ≡ option_flatten (slice_get places.old.items index) }
+    ensures put_in { places.new.items ≡ slice_set places.old.items index (Some element) }
+    ensures capacity { places.new.capacity ≡ places.old.capacity }
+{
+    match places.get_mut(index) {
+        Some(place) => place.replace(element),
+        None => None,
     }
 }
 

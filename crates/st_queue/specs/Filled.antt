@@ -1,5 +1,5 @@
--- How three chains of nodes, each of which may have an event, are read as one queue.
-use Rattle.std.specs.Prelude.{Option, None, Some, List, [], ◌∷◌, ◌++◌, length}
+-- How chains of nodes, each of which may have an event, are read as one queue.
+use Rattle.std.specs.Prelude.{Option, None, Some, List, [], ◌∷◌, ◌++◌, ◌≤◌, length}
 use Rattle.st_queue.specs.Queue.{Queue}
 
 -- the events of nodes, in their order
@@ -13,6 +13,16 @@ abbrev pub AreFilled : {E : Type 0} → List (Option E) → Type 0
 AreFilled [] = Unit {0}
 AreFilled (Some event ∷ nodes) = AreFilled nodes
 AreFilled (None ∷ nodes) = ⊥
+
+-- no node has an event
+abbrev pub AreEmpty : {E : Type 0} → List (Option E) → Type 0
+AreEmpty [] = Unit {0}
+AreEmpty (Some event ∷ nodes) = ⊥
+AreEmpty (None ∷ nodes) = AreEmpty nodes
+
+-- the nodes that are kept: two at most, and none has an event
+abbrev pub AreKept : {E : Type 0} → List (Option E) → Type 0
+AreKept nodes = AreEmpty nodes × (length nodes ≤ 2)
 
 -- the nodes before the cursor, those from it on, and those that are ready
 abbrev pub queue_of : {E : Type 0} → List (Option E) → List (Option E) → List (Option E) → Queue E

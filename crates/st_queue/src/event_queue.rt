@@ -1,5 +1,6 @@
 //! The list, its cursor from 0 to the list's length, and the calls that read and change them.
 ghost use Rattle.std.specs.Prelude.{◌≡◌, ◌↔◌, ◌+◌, ◌^◌, ◌<◌, ◌≤◌, [], length, max, option_copied, IsTrue, IsSome, IsNone, IsOk, IfNone, IfOk, IfErr, OnOk, OnErr, OnSome};
+ghost use Rattle.st_queue.specs.Filled.{AreKept};
 ghost use Rattle.st_queue.specs.Queue.{current, with_pushed, without_current, with_skipped, rewound, with_staged, with_inserted, with_pushed_staged};
 
 use crate::chain::{Chain, Node};
@@ -13,13 +14,16 @@ use std_alloc::room::Vacant;
 /// One more than the most nodes that a queue has. No machine has memory for so many.
 const NODE_LIMIT: usize = 0x8000_0000_0000_0000;
 
+/// As many freed nodes are kept: an event comes in for each that leaves, and then none takes memory.
+const KEPT_LIMIT: usize = 2;
+
 /// A list of events, and a cursor that stands before one of them or at the end.
 ///
 /// The events before the cursor were passed over by `skip`. They stay in the list, and `rewind` turns back to them.
 ///
 /// Each event stands on a node of its own. `stage` makes nodes ready for events that come later. The calls
 /// `insert_staged` and `push_staged` use them and cannot fail; no other call does. Only `push_back` and `stage` take
-/// memory.
+/// memory. Up to two freed nodes, of events that were removed, are kept: these two calls use them first.
 ///
 /// Whatever the list's length, each call visits two of its nodes at most: `steps`, their last parameter, counts them.
 /// `peek` shows the one at the cursor; it and the other calls that change nothing count none. Only the drop of a queue
@@ -34,19 +38,21 @@ pub struct EventQueue<E> {
     rest: Chain<Option<E>, Global>,
     // The nodes that are ready.
     spare: Chain<Option<E>, Global>,
+    // The freed nodes that are kept.
+    kept: Chain<Option<E>, Global>,
     alloc: Global,
 }
 
 impl<E> Model for EventQueue<E> {
     ghost use Rattle.std.specs.Prelude.{◌+◌, ◌<◌, ◌^◌, length};
     ghost use Rattle.st_queue.specs.Queue.{Queue};
-    ghost use Rattle.st_queue.specs.Filled.{queue_of, AreFilled};
+    ghost use Rattle.st_queue.specs.Filled.{queue_of, AreFilled, AreKept};
 
     ghost Value = { Queue E };
 
     ghost view = { λ queue. queue_of queue.passed.items queue.rest.items queue.spare.items };
 
-    ghost invariant = { λ queue. AreFilled queue.passed.items × AreFilled queue.rest.items × (length queue.passed.items + length queue.rest.items + length queue.spare.items < 2 ^ 63) };
+    ghost invariant = { λ queue. AreFilled queue.passed.items × AreFilled queue.rest.items × (length queue.passed.items + length queue.rest.items + length queue.spare.items + length queue.kept.items < 2 ^ 63) × AreKept queue.kept.items };
 }
 
 impl<E> EventQueue<E> {
@@ -60,6 +66,7 @@ impl<E> EventQueue<E> {
             passed: Chain::new(),
             rest: Chain::new(),
             spare: Chain::new(),
+            kept: Chain::new(),
             alloc,
         }
     }
@@ -79,6 +86,11 @@ impl<E> EventQueue<E> {
 
         ensures visits { steps.new ≤ steps.old + 2 }
     {
+        if self.kept.len() > 0 {
+            let node = take_kept(&mut self.kept, steps);
+            self.rest.attach_behind(node, Some(event), steps);
+            return Ok(());
+        }
         match self.node_beside(0) {
             Some(node) => {
                 self.rest.attach_behind(node, Some(event), steps);
@@ -116,7 +128,7 @@ impl<E> EventQueue<E> {
             return None;
         }
         let (event, node) = self.rest.detach_first(steps);
-        drop(node.free());
+        keep(&mut self.kept, node, steps);
         event
     }
 
@@ -178,7 +190,8 @@ impl<E> EventQueue<E> {
         self.spare.len()
     }
 
-    /// Memory for one node more than the queue's and so many others, which are not in the queue yet.
+    /// Memory for one node more than the queue's and so many others, which are not in the queue yet. None is kept where
+    /// this is called.
     fn node_beside(&self, others: usize) -> Option<Vacant<Node<Option<E>, Global>, Global>>
         requires { others < 2 ^ 63 }
         ensures { IsSome result → length self.now.items + self.now.staged + others + 1 < 2 ^ 63 }
@@ -209,31 +222,41 @@ impl<E: Drop> EventQueue<E> {
         if count <= ready {
             return Ok(());
         }
-        let mut made = self.made(count - ready, steps)?;
+        // One is lacking, and two are kept.
+        if count - ready < self.kept.len() {
+            let node = take_kept(&mut self.kept, steps);
+            self.spare.attach_front(node, None, steps);
+            return Ok(());
+        }
+        // Where memory is wanted and there is none, those that were kept are dropped with the others.
+        let mut made = Chain::new();
+        swap(&mut made, &mut self.kept);
+        self.fill(&mut made, count - ready, steps)?;
         self.spare.join(&mut made, steps);
         Ok(())
     }
 
-    /// So many nodes, each without an event.
-    fn made<L: Ledger>(
+    /// Puts nodes without events to those in `made`, up to so many, by memory for each.
+    fn fill<L: Ledger>(
         &self,
+        made: &mut Chain<Option<E>, Global>,
         count: usize,
         steps: &mut Steps<L>,
-    ) -> Result<Chain<Option<E>, Global>, AllocError>
-        requires { 0 < count }
-        ensures count { IfOk result (λ made. length made.items ≡ count) }
+    ) -> Result<(), AllocError>
+        requires within { length made.old.items ≤ count }
+        requires small { length self.now.items + self.now.staged + length made.old.items < 2 ^ 63 }
+        ensures count { OnOk result (length made.new.items ≡ count) }
         ensures small { OnOk result (length self.now.items + self.now.staged + count < 2 ^ 63) }
 
         ensures visits { steps.new ≡ steps.old }
     {
-        let mut made = Chain::new();
         while made.len() < count {
             match self.node_beside(made.len()) {
                 Some(node) => made.attach_front(node, None, steps),
                 None => return Err(AllocError),
             }
         }
-        Ok(made)
+        Ok(())
     }
 
     /// Puts an event at the cursor, on a node that is ready. The event that stood there comes after it.
@@ -260,5 +283,41 @@ impl<E: Drop> EventQueue<E> {
         let (nothing, node) = self.spare.detach_first(steps);
         drop(nothing);
         self.rest.attach_behind(node, Some(event), steps);
+    }
+}
+
+/// Takes a node out of those that are kept.
+fn take_kept<E, L: Ledger>(
+    kept: &mut Chain<Option<E>, Global>,
+    steps: &mut Steps<L>,
+) -> Vacant<Node<Option<E>, Global>, Global>
+    requires kept { AreKept kept.old.items }
+    requires some { 0 < length kept.old.items }
+    ensures kept { AreKept kept.new.items }
+    ensures taken { length kept.old.items ≡ length kept.new.items + 1 }
+
+    ensures visits { steps.new ≤ steps.old + 1 }
+{
+    let (nothing, node) = kept.detach_first(steps);
+    let None = nothing else { unreachable!() };
+    node
+}
+
+/// Puts a node to those that are kept, or frees it where two are.
+fn keep<E, L: Ledger>(
+    kept: &mut Chain<Option<E>, Global>,
+    node: Vacant<Node<Option<E>, Global>, Global>,
+    steps: &mut Steps<L>,
+)
+    requires kept { AreKept kept.old.items }
+    ensures kept { AreKept kept.new.items }
+    ensures put { length kept.new.items ≤ length kept.old.items + 1 }
+
+    ensures visits { steps.new ≡ steps.old }
+{
+    if kept.len() < KEPT_LIMIT {
+        kept.attach_front(node, None, steps);
+    } else {
+        drop(node.free());
     }
 }

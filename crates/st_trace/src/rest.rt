@@ -5,7 +5,7 @@ ghost use Rattle.st_trace.specs.Entries.{report_as};
 
 use crate::StateNames;
 use st_cell::{Answer, Collected, Command, Entry, JournalEntry, Report, Turned};
-use st_core::{Call, Done};
+use st_core::{Call, Calls, Done};
 use st_events::{Kind, Timer};
 use std::alloc::{AllocError, Global};
 
@@ -48,11 +48,11 @@ fn kind(alloc: Global, kind: Kind) -> Result<String, AllocError>
 }
 
 /// The kind of the event that a turn handled, by its callbacks.
-fn handled<S>(alloc: Global, calls: &[Call<S>]) -> Result<String, AllocError>
+fn handled<S>(alloc: Global, calls: &Calls<S>) -> Result<String, AllocError>
     ensures { IfOk result (λ text. string_bytes text ≡ handled_text calls.now) }
 {
-    match calls {
-        [Call::Handle { kind: handled, .. }, ..] => kind(alloc, *handled),
+    match calls.get(0) {
+        Some(Call::Handle { kind: handled, .. }) => kind(alloc, *handled),
         _ => String::from_str(alloc, HYPHEN),
     }
 }
@@ -87,7 +87,7 @@ fn reported<S: Copy, N: StateNames<S>>(
 ) -> Result<String, AllocError>
     ensures { IfOk result (λ text. string_bytes text ≡ report_text (N.name_is names.now) report.now) }
 {
-    let kind = handled(alloc, report.calls.as_slice())?;
+    let kind = handled(alloc, &report.calls)?;
     let before = names.name(report.before);
     let after = names.name(report.after);
     let done = done(alloc, report.done)?;

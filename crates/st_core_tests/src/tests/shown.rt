@@ -1,7 +1,9 @@
 //! Answers and reports as values that can be copied and compared.
 use super::few::Few;
 use super::host::{Host, same};
-use st_core::{Answer, Call, Collected, Done, Reason, Refusal, Report, Tag, Time, Timer, Turned};
+use st_core::{
+    Answer, Call, Calls, Collected, Done, Reason, Refusal, Report, Tag, Time, Timer, Turned,
+};
 use std::alloc::AllocError;
 use std::process::Abort;
 
@@ -60,12 +62,22 @@ impl Clone for Did {
     }
 }
 
+/// Calls, as a value that can be compared.
+fn calls_of(calls: &Calls<u32>) -> Few<Call<u32>> {
+    Few {
+        count: calls.len(),
+        first: calls.get(0).copied(),
+        second: calls.get(1).copied(),
+        third: calls.get(2).copied(),
+    }
+}
+
 /// A report, as a value that can be compared.
 pub fn read_report(report: &Report<u32>) -> Did {
     Did {
         event: report.event,
         done: report.done,
-        calls: Few::of(report.calls.as_slice()),
+        calls: calls_of(&report.calls),
         before: report.before,
         after: report.after,
         replied: Few::of(report.replied.as_slice()),

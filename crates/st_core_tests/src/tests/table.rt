@@ -5,11 +5,11 @@ ghost use Rattle.st_events.specs.declared.action.Action.TheVariants as action;
 ghost use Rattle.st_events.specs.declared.enter_action.EnterAction.TheVariants as enter_action;
 ghost use Rattle.st_events.specs.declared.time.Time.TheVariants as time;
 ghost use Rattle.st_events.specs.declared.timer.Timer.TheVariants as timer;
-ghost use Rattle.st_core_tests.specs.WorkedTable.{first_tag, second_tag, five_actions, two_inserts, three_settings, handled_by_replying, handled_by_entering, handled_by_setting, handled_anywhere, handled_at_first, handled_by_table, enters_by_table, entering_actions, five_enter_actions, changed_by_table, entered_by_table, begun_by_table};
+ghost use Rattle.st_core_tests.specs.WorkedTable.{first_tag, second_tag, five_actions, actions_of_each_kind, five_replies, two_inserts, three_settings, handled_at_length, handled_by_replying, handled_by_entering, handled_by_setting, handled_anywhere, handled_at_first, handled_by_table, enters_by_table, entering_actions, five_enter_actions, enter_actions_of_each_kind, changed_by_table, entered_by_table, begun_by_table};
 
 use st_core::{
     Action, Actions, EnterAction, EnterActions, EnterOutcome, Init, Kind, MachineId, Module,
-    Outcome, Reason, SmallList, Tag, Time, Timer,
+    Outcome, Reason, Replies, SmallList, Tag, Time, Timer,
 };
 use std::alloc::{AllocError, Global};
 
@@ -23,6 +23,12 @@ const TAG: Tag = Tag {
 const SECOND: Tag = Tag {
     machine: MachineId { slot: 0, serial: 1 },
     request: 2,
+};
+
+/// A third request to the same machine.
+const THIRD: Tag = Tag {
+    machine: MachineId { slot: 0, serial: 1 },
+    request: 3,
 };
 
 /// A request to another machine.
@@ -73,9 +79,18 @@ const FOREIGN: Tag = Tag {
 /// | 38 | leads to the state 1, with a reply of 52 to the second request |
 /// | 39 | keeps both, with replies of 50 and then of 51 to the first request |
 /// | 40 | keeps both, with a reply of 53 to another machine's request |
+/// | 41 | leads to the state 1, with the nine actions below |
+/// | 42 | stops for the reason 9, with the five replies below |
 /// | other | keeps both |
 ///
 /// The contents of time-outs are 0, where no other is told.
+///
+/// The nine actions: the named timer 1 is set for 5, a reply of 54 to the second request, 20 is inserted as internal,
+/// `Postpone(true)`, a hibernation, the state time-out is set for 10, 21 is inserted as a cast, the named timer 1 is set
+/// for 7, and a reply of 55 to the first request.
+///
+/// The five replies: 57 to the third request, 40 to the first, 58 to another machine's, 51 to the second, and 59 to the
+/// third.
 ///
 /// | Argument | Start |
 /// |---|---|
@@ -87,6 +102,7 @@ const FOREIGN: Tag = Tag {
 /// | 6 | a machine, and sets the named timer 1 for 4294967295 |
 /// | 7 | a machine, and sets the named timers 1, 2 and 3 for 20, 10 and 20 |
 /// | 8 | a machine, sets the named timer 1 for 0, and inserts 20 as internal and 21 as a cast |
+/// | 9 | a machine, with the nine actions above |
 /// | other | stops, and is the reason |
 ///
 /// The number tells one module from another. From 60 on a module has enter calls.
@@ -98,9 +114,11 @@ const FOREIGN: Tag = Tag {
 /// | 63 | keeps the data, with five hibernations |
 /// | 64 | gives the data 40 where it is handed 9, and else 41 |
 /// | 65 | keeps the data, with a reply of 62, where the old state is not the new one |
+/// | 66 | keeps the data, and, where the old state is not the new one, sets the named timer 2 for 3, replies 63 to the third request, hibernates, sets the state time-out for 20 and the named timer 2 for 9, and replies 64 to the first request |
 /// | 70 | stops for the reason 4 |
 /// | 71 | stops for the reason 4, with a reply of 61 and the data 8, where the old state is not the new one |
 /// | 72 | stops for the reason 4 where the old state is not the new one |
+/// | 73 | stops for the reason 4, with the five replies above and the data 8, where the old state is not the new one |
 /// | other | keeps the data |
 #[derive(Clone, Copy, Debug, PartialEq, Eq)]
 pub struct Table {
@@ -140,6 +158,30 @@ fn five(alloc: Global) -> Result<Actions<u32>, AllocError>
     with(actions, Action::Hibernate)
 }
 
+/// Nine actions, of each kind one or more.
+fn of_each_kind(alloc: Global) -> Result<Actions<u32>, AllocError>
+    ensures { IfOk result (λ actions. actions ≡ actions_of_each_kind) }
+{
+    let actions = two(alloc, set(Timer::Named(1), 5), Action::Reply(SECOND, 54))?;
+    let actions = with(actions, Action::NextEvent(Kind::Internal, 20))?;
+    let actions = with(actions, Action::Postpone(true))?;
+    let actions = with(actions, Action::Hibernate)?;
+    let actions = with(actions, set(Timer::State, 10))?;
+    let actions = with(actions, Action::NextEvent(Kind::Cast, 21))?;
+    let actions = with(actions, set(Timer::Named(1), 7))?;
+    with(actions, Action::Reply(TAG, 55))
+}
+
+/// Five replies, one more than a list holds without memory.
+fn replies(alloc: Global) -> Result<Replies<u32>, AllocError>
+    ensures { IfOk result (λ replies. replies ≡ five_replies) }
+{
+    let replies = two(alloc, (THIRD, 57), (TAG, 40))?;
+    let replies = with(replies, (FOREIGN, 58))?;
+    let replies = with(replies, (SECOND, 51))?;
+    with(replies, (THIRD, 59))
+}
+
 /// Two events are inserted.
 fn inserts(alloc: Global) -> Result<Actions<u32>, AllocError>
     ensures { IfOk result (λ actions. actions ≡ two_inserts) }
@@ -175,6 +217,21 @@ fn postpone_and_settings(alloc: Global) -> Result<Actions<u32>, AllocError>
     with(actions, set(Timer::Named(2), 5))
 }
 
+/// What `handle` answers to the contents that ask for more than a list holds without memory.
+fn handle_at_length(
+    alloc: Global,
+    content: u32,
+    held: u32,
+) -> Result<Outcome<u32, u32, u32>, AllocError>
+    ensures { IfOk result (λ outcome. outcome ≡ handled_at_length content held) }
+{
+    match content {
+        41 => Ok(Outcome::NextState(1, held, of_each_kind(alloc)?)),
+        42 => Ok(Outcome::StopAndReply(9, replies(alloc)?, None)),
+        _ => Ok(Outcome::KeepStateAndData(Actions::new(alloc))),
+    }
+}
+
 /// What `handle` answers to the contents that reply.
 fn handle_replying(
     alloc: Global,
@@ -192,7 +249,7 @@ fn handle_replying(
             Action::Reply(TAG, 51),
         )?)),
         40 => Ok(Outcome::KeepStateAndData(one(alloc, Action::Reply(FOREIGN, 53))?)),
-        _ => Ok(Outcome::KeepStateAndData(Actions::new(alloc))),
+        _ => handle_at_length(alloc, content, held),
     }
 }
 
@@ -331,6 +388,24 @@ fn five_entering(alloc: Global) -> Result<EnterActions<u32>, AllocError>
     with(actions, EnterAction::Hibernate)
 }
 
+/// Six actions of the module 66's enter call, of each kind one or more.
+fn entering_of_each_kind(alloc: Global) -> Result<EnterActions<u32>, AllocError>
+    ensures { IfOk result (λ actions. actions ≡ enter_actions_of_each_kind) }
+{
+    let actions = two(
+        alloc,
+        EnterAction::Set(Timer::Named(2), Time::After(3), 0),
+        EnterAction::Reply(THIRD, 63),
+    )?;
+    let actions = with(actions, EnterAction::Hibernate)?;
+    let actions = with(actions, EnterAction::Set(Timer::State, Time::After(20), 0))?;
+    let actions = with(
+        actions,
+        EnterAction::Set(Timer::Named(2), Time::After(9), 0),
+    )?;
+    with(actions, EnterAction::Reply(TAG, 64))
+}
+
 /// What `enter` answers where a state is come to from another.
 fn enter_changed(
     alloc: Global,
@@ -347,6 +422,8 @@ fn enter_changed(
         }
         71 => Ok(EnterOutcome::StopAndReply(4, one(alloc, (TAG, 61))?, Some(8))),
         72 => Ok(EnterOutcome::Stop(4, None)),
+        73 => Ok(EnterOutcome::StopAndReply(4, replies(alloc)?, Some(8))),
+        66 => Ok(EnterOutcome::KeepStateAndData(entering_of_each_kind(alloc)?)),
         65 => {
             let actions = one(alloc, EnterAction::Reply(TAG, 62))?;
             Ok(EnterOutcome::KeepStateAndData(actions))
@@ -390,6 +467,7 @@ impl Module for Table {
                 let first = set(Timer::Named(1), 0);
                 Ok(Init::Ok(0, 7, with_inserts(alloc, first)?))
             },
+            9 => Ok(Init::Ok(0, 7, of_each_kind(alloc)?)),
             reason => Ok(Init::Stop(reason)),
         }
     }

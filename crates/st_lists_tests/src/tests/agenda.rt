@@ -1,11 +1,10 @@
 //! Tests of st_agenda: each call once with memory at hand, and all of them where one allocation is refused.
-ghost use Rattle.std.specs.Prelude.{◌≡◌, ◌+◌, ◌≤◌, ◌<◌, length};
+ghost use Rattle.std.specs.Prelude.{◌≡◌, ◌+◌, ◌<◌, ◌≤◌};
 
 use super::host::{Host, got, holds, same};
+use st_actions::count;
 use st_agenda::{Agenda, Item, Schedule};
-use st_events::{
-    CopyContent, Event, Insert, Inserts, Kind, PlainList, Setting, Settings, Time, Timer,
-};
+use st_events::{Action, Actions, CopyContent, Event, Kind, PlainList, Time, Timer};
 use st_steps::Steps;
 use st_timeouts::{Due, Running};
 use std::alloc::{AllocError, Global};
@@ -54,12 +53,20 @@ const FINISHED: Turn = Turn {
     settings: &[],
 };
 
+/// The event that comes next: its number, its kind and its content.
+type Seen = Option<(u64, Kind, u64)>;
+
+/// The event that comes next.
+fn seen(agenda: &Agenda<u64>) -> Seen {
+    let (number, kind, content) = agenda.next()?;
+    Some((number, kind, *content))
+}
+
 /// All that can be read of an agenda without memory: the next event with its kind and its content, how
 /// many events wait, the next number, and when the next time-out expires.
-fn readable(agenda: &Agenda<u64>) -> (Option<(u64, Kind)>, Option<u64>, usize, u64, Option<u64>) {
+fn readable(agenda: &Agenda<u64>) -> (Seen, usize, u64, Option<u64>) {
     (
-        agenda.next_event(),
-        agenda.next_content().copied(),
+        seen(agenda),
         agenda.waiting(),
         agenda.next_number(),
         agenda.next_due(),
@@ -81,17 +88,9 @@ fn run(rt: &Host<impl Abort>, agenda: &Agenda<u64>, wanted: &[(Timer, u64, Due)]
     same(rt, "what runs", &found.as_slice(), &wanted);
 }
 
-/// Looks which event comes next, with its number and its kind, and which content; and that so many wait.
-fn comes(
-    rt: &impl Abort,
-    agenda: &Agenda<u64>,
-    event: Option<(u64, Kind)>,
-    content: Option<u64>,
-    waiting: usize,
-) {
-    same(rt, "the next event", &agenda.next_event(), &event);
-    let found = agenda.next_content().copied();
-    same(rt, "the next content", &found, &content);
+/// Looks which event comes next, with its number, its kind and its content; and that so many wait.
+fn comes(rt: &impl Abort, agenda: &Agenda<u64>, event: Seen, waiting: usize) {
+    same(rt, "the next event", &seen(agenda), &event);
     same(rt, "how many wait", &agenda.waiting(), &waiting);
 }
 
@@ -105,7 +104,7 @@ fn next(rt: &impl Abort, agenda: &Agenda<u64>, number: u64, due: Option<u64>) {
 fn unchanged(
     rt: &Host<impl Abort>,
     agenda: &Agenda<u64>,
-    before: (Option<(u64, Kind)>, Option<u64>, usize, u64, Option<u64>),
+    before: (Seen, usize, u64, Option<u64>),
     running: &PlainList<(Timer, u64, Due)>,
 ) {
     holds(
@@ -150,68 +149,49 @@ fn reserve_for(rt: &Host<impl Abort>, agenda: &mut Agenda<u64>, inserts: usize, 
     got(rt, "one allocation alone is refused", reserved);
 }
 
-/// Events of these contents, which are inserted.
-fn inserts_of(rt: &impl Abort, alloc: Global, contents: &[u64]) -> Inserts<u64> {
-    let mut inserts = Inserts::new(alloc);
+/// A list of actions: events of these contents are inserted, and timers set for a time, with the contents of their
+/// events.
+fn actions_of(
+    rt: &impl Abort,
+    alloc: Global,
+    contents: &[u64],
+    rows: &[(Timer, Time, u64)],
+) -> Actions<u64> {
+    let mut actions = Actions::new(alloc);
     for content in contents {
-        let insert = Insert {
-            kind: Kind::Internal,
-            content: *content,
-        };
-        got(rt, "a few take no memory", inserts.push(insert));
+        let insert = Action::NextEvent(Kind::Internal, *content);
+        got(rt, "a few take no memory", actions.push(insert));
     }
-    inserts
-}
-
-/// Timers that are set for a time, with the contents of their events.
-fn settings_of(rt: &impl Abort, alloc: Global, rows: &[(Timer, Time, u64)]) -> Settings<u64> {
-    let mut settings = Settings::new(alloc);
     for (timer, time, content) in rows {
-        let setting = Setting {
-            timer: *timer,
-            time: *time,
-            content: *content,
-        };
-        got(rt, "a few take no memory", settings.push(setting));
+        let set = Action::Set(*timer, *time, *content);
+        got(rt, "a few take no memory", actions.push(set));
     }
-    settings
+    actions
 }
 
 /// The next event is handled.
 fn settle(rt: &Host<impl Abort>, agenda: &mut Agenda<u64>, alloc: Global, turn: Turn) {
-    let inserts = inserts_of(rt, alloc, turn.inserts);
-    let settings = settings_of(rt, alloc, turn.settings);
-    let are_left = agenda.has_numbers(&inserts, &settings);
-    holds(rt, "numbers are left", are_left);
-    settle_by(rt, agenda, turn, inserts, settings);
-}
-
-/// The same, with the events that are inserted and the timers that are set.
-fn settle_by(
-    rt: &Host<impl Abort>,
-    agenda: &mut Agenda<u64>,
-    turn: Turn,
-    inserts: Inserts<u64>,
-    settings: Settings<u64>,
-) {
-    let Some((next, _)) = agenda.next_event() else {
+    let mut actions = actions_of(rt, alloc, turn.inserts, turn.settings);
+    let Some((next, _, _)) = agenda.next() else {
         panic!(rt; "an event comes next")
     };
     holds(rt, "it has this number", next == turn.number);
-    let (events, timers) = (inserts.len(), settings.len());
+    let counts = count(&actions);
+    let (inserts, settings) = (counts.inserts, counts.settings);
     let first = agenda.next_number();
-    if events > 100 {
+    if inserts > 100 {
         panic!(rt; "there are few events");
     }
-    if timers > 100 {
-        panic!(rt; "there are few timers");
+    if counts.numbers > 1_000 {
+        panic!(rt; "they take few numbers");
     }
     if first > 1_000 {
         panic!(rt; "the numbers are low");
     }
-    reserve_for(rt, agenda, events, timers);
-    let now = turn.now as u64;
-    agenda.settle(now, next, turn.postpone, turn.changed, inserts, settings);
+    reserve_for(rt, agenda, inserts, settings);
+    agenda.settle(next, turn.postpone, turn.changed);
+    agenda.insert(inserts, &mut actions);
+    agenda.set_all(turn.now as u64, &mut actions);
 }
 
 /// Time passes to a moment, and so many time-outs expire.
@@ -254,9 +234,9 @@ fn make(rt: &Host<impl Abort>, agenda: &mut Agenda<u64>, alloc: Global, call: Ca
         Call::Settle(turn) => settle(rt, agenda, alloc, turn),
         Call::Tick(now, expired) => tick(rt, agenda, now, expired),
         Call::Comes(number, kind, content, waiting) => {
-            comes(rt, agenda, Some((number, kind)), Some(content), waiting);
+            comes(rt, agenda, Some((number, kind, content)), waiting);
         }
-        Call::NothingComes => comes(rt, agenda, None, None, 0),
+        Call::NothingComes => comes(rt, agenda, None, 0),
         Call::Run(wanted) => run(rt, agenda, wanted),
         Call::Next(number, due) => next(rt, agenda, number, due),
     }
@@ -382,7 +362,7 @@ fn an_expiry_of_a_stopped_timer_is_passed_over(rt: HostRuntime) {
 /// Stages for one event. Where memory was refused, nothing comes still, and it is staged again.
 fn stage_one(rt: &Host<impl Abort>, agenda: &mut Agenda<u64>) {
     if agenda.stage(1).is_err() {
-        comes(rt, agenda, None, None, 0);
+        comes(rt, agenda, None, 0);
         rt.retry();
         got(rt, "one allocation alone is refused", agenda.stage(1));
     }
@@ -391,7 +371,7 @@ fn stage_one(rt: &Host<impl Abort>, agenda: &mut Agenda<u64>) {
 /// Reserves for one timer. Where memory was refused, nothing comes still, and it is reserved again.
 fn reserve_one(rt: &Host<impl Abort>, agenda: &mut Agenda<u64>) {
     if agenda.reserve(1).is_err() {
-        comes(rt, agenda, None, None, 0);
+        comes(rt, agenda, None, 0);
         rt.retry();
         got(rt, "one allocation alone is refused", agenda.reserve(1));
     }
@@ -399,22 +379,23 @@ fn reserve_one(rt: &Host<impl Abort>, agenda: &mut Agenda<u64>) {
 
 /// Inserts one event, and sets the state timer at the moment 3 for 10 milliseconds.
 fn begin(rt: &Host<impl Abort>, agenda: &mut Agenda<u64>, alloc: Global) {
-    let inserts = inserts_of(rt, alloc, &[30]);
-    let settings = settings_of(rt, alloc, &[(Timer::State, Time::After(10), 40)]);
-    let (events, timers) = (inserts.len(), settings.len());
+    let settings = [(Timer::State, Time::After(10), 40)];
+    let mut actions = actions_of(rt, alloc, &[30], &settings);
+    let counts = count(&actions);
+    let (inserts, settings) = (counts.inserts, counts.settings);
     let first = agenda.next_number();
-    if events > 100 {
+    if inserts > 100 {
         panic!(rt; "there are few events");
     }
-    if timers > 100 {
-        panic!(rt; "there are few timers");
+    if counts.numbers > 1_000 {
+        panic!(rt; "they take few numbers");
     }
     if first > 1_000 {
         panic!(rt; "the numbers are low");
     }
-    reserve_for(rt, agenda, events, timers);
-    agenda.insert(inserts);
-    agenda.set_all(3, settings);
+    reserve_for(rt, agenda, inserts, settings);
+    agenda.insert(inserts, &mut actions);
+    agenda.set_all(3, &mut actions);
 }
 
 /// At a start events are inserted and timers set, though no event is handled.
@@ -425,7 +406,7 @@ fn a_start_inserts_and_sets(rt: HostRuntime) {
     stage_one(&rt, &mut agenda);
     reserve_one(&rt, &mut agenda);
     begin(&rt, &mut agenda, rt.alloc());
-    comes(&rt, &agenda, Some((7, Kind::Internal)), Some(30), 1);
+    comes(&rt, &agenda, Some((7, Kind::Internal, 30)), 1);
     run(&rt, &agenda, &[(Timer::State, 8, Due::At(13))]);
     rt.end();
 }
@@ -514,6 +495,6 @@ fn all_is_copied_and_stays(rt: HostRuntime) {
     has_parts(&rt, &copy);
     let another = copied(&rt, &mut agenda, rt.alloc());
     holds(&rt, "another copy", copy == another);
-    comes(&rt, &agenda, Some((2, Kind::Cast)), Some(20), 2);
+    comes(&rt, &agenda, Some((2, Kind::Cast, 20)), 2);
     rt.end();
 }

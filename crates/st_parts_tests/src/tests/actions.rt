@@ -1,7 +1,10 @@
 //! Tests of st_actions: what lists ask for, with memory and while an allocation is refused.
 
 use super::host::{Host, got, holds, same};
-use st_actions::{Planned, join, plan, plan_enter};
+use st_actions::{
+    Counts, Planned, count, count_last, join, plan, plan_enter, take_insert, take_reply,
+    take_setting,
+};
 use st_events::{Action, Actions, EnterAction, EnterActions, Kind, MachineId, Tag, Time, Timer};
 use std::alloc::Global;
 use std::process::Abort;
@@ -608,5 +611,148 @@ fn the_last_setting_decides_also_in_long_plans(rt: HostRuntime) {
         ('N', 11),
     ];
     places(&rt, &both, &lasts);
+    rt.end();
+}
+
+/// Counts what a list asks for. A call that finds no memory leaves the list as it is, and is made again.
+fn counted(
+    rt: &Host<impl Abort>,
+    alloc: Global,
+    actions: &mut Actions<u64>,
+    letters: &[char],
+) -> Counts {
+    match count_last(alloc, actions) {
+        Ok(counts) => counts,
+        Err(_) => {
+            holds(rt, "four take no memory", letters.len() > 4);
+            has(rt, actions, letters);
+            rt.retry();
+            let again = count_last(alloc, actions);
+            got(rt, "one allocation alone is refused", again)
+        }
+    }
+}
+
+/// Looks that so much was counted.
+fn counts_are(rt: &impl Abort, counts: Counts, wanted: Counts) {
+    same(rt, "how many replies", &counts.replies, &wanted.replies);
+    same(rt, "how many inserts", &counts.inserts, &wanted.inserts);
+    same(rt, "how many settings", &counts.settings, &wanted.settings);
+    same(rt, "how many numbers", &counts.numbers, &wanted.numbers);
+    same(rt, "the last postpone", &counts.postpone, &wanted.postpone);
+}
+
+/// Looks what a list asks for, and what is left of it.
+fn is_counted(
+    rt: &Host<impl Abort>,
+    alloc: Global,
+    letters: &[char],
+    left: &[char],
+    wanted: Counts,
+) {
+    let mut actions = list(rt, alloc, letters);
+    let counts = counted(rt, alloc, &mut actions, letters);
+    counts_are(rt, counts, wanted);
+    has(rt, &actions, left);
+    counts_are(rt, count(&actions), wanted);
+    drop(actions);
+}
+
+/// Nothing is counted.
+const NONE: Counts = Counts {
+    replies: 0,
+    inserts: 0,
+    settings: 0,
+    numbers: 0,
+    postpone: None,
+};
+
+#[test]
+fn what_is_asked_for_is_counted(rt: HostRuntime) {
+    let rt = Host::new(rt);
+    is_counted(&rt, rt.alloc(), &[], &[], NONE);
+    let one = Counts {
+        settings: 1,
+        postpone: Some(false),
+        ..NONE
+    };
+    is_counted(&rt, rt.alloc(), &['p', '0', 'k'], &['p', '0', 'k'], one);
+
+    // Of each timer the last setting is left.
+    let letters = ['1', 'r', 'k', 'i', '2', 's', 'p', 't', '9', 'i'];
+    let left = ['h', 'r', 'k', 'i', '2', 's', 'p', 't', '9', 'i'];
+    let wanted = Counts {
+        replies: 2,
+        inserts: 3,
+        settings: 2,
+        numbers: 5,
+        postpone: Some(true),
+    };
+    is_counted(&rt, rt.alloc(), &letters, &left, wanted);
+    rt.end();
+}
+
+/// Looks that these replies are taken out of a list, in their order, and no others.
+fn replies_leave(rt: &impl Abort, actions: &mut Actions<u64>, wanted: &[(Tag, u64)]) {
+    let mut count = 0usize;
+    for index in 0..actions.len() {
+        if let Some((tag, content)) = take_reply(actions, index) {
+            let (other, reply) = wanted.get(count).expect(rt, "no others are taken");
+            holds(rt, "the request", tag == *other);
+            holds(rt, "its reply", content == *reply);
+            count = count.saturating_add(1);
+        }
+    }
+    same(rt, "how many replies", &count, &wanted.len());
+}
+
+/// Looks that these events to be inserted are taken out of a list, the last one first, and no others.
+fn inserts_leave(rt: &impl Abort, actions: &mut Actions<u64>, wanted: &[(Kind, u64)]) {
+    let mut count = 0usize;
+    let mut index = actions.len();
+    while index > 0 {
+        index -= 1;
+        if let Some(insert) = take_insert(actions, index) {
+            let (kind, content) = wanted.get(count).expect(rt, "no others are taken");
+            holds(rt, "the kind", insert.kind == *kind);
+            holds(rt, "its content", insert.content == *content);
+            count = count.saturating_add(1);
+        }
+    }
+    same(rt, "how many inserts", &count, &wanted.len());
+}
+
+/// Looks that these settings are taken out of a list, in their order, and no others.
+fn settings_leave(rt: &impl Abort, actions: &mut Actions<u64>, wanted: &[(Timer, Time, u64)]) {
+    let mut count = 0usize;
+    for index in 0..actions.len() {
+        if let Some(setting) = take_setting(actions, index) {
+            let (timer, time, content) = wanted.get(count).expect(rt, "no others are taken");
+            holds(rt, "the timer", setting.timer == *timer);
+            holds(rt, "its time", setting.time == *time);
+            holds(rt, "its content", setting.content == *content);
+            count = count.saturating_add(1);
+        }
+    }
+    same(rt, "how many settings", &count, &wanted.len());
+}
+
+#[test]
+fn each_kind_leaves_its_places(rt: HostRuntime) {
+    let rt = Host::new(rt);
+    let mut actions = list(&rt, rt.alloc(), &['r', 'i', '1', 's', 't', 'p', '0']);
+    let wanted = [(tag(1), 10), (tag(2), 20)];
+    replies_leave(&rt, &mut actions, &wanted);
+    has(&rt, &actions, &['h', 'i', '1', 'h', 't', 'p', '0']);
+    let wanted = [(Kind::Timeout(Timer::State), 40), (Kind::Internal, 30)];
+    inserts_leave(&rt, &mut actions, &wanted);
+    has(&rt, &actions, &['h', 'h', '1', 'h', 'h', 'p', '0']);
+    let wanted = [
+        (Timer::Named(1), Time::After(1), 50),
+        (Timer::Named(1), Time::Infinity, 80),
+    ];
+    settings_leave(&rt, &mut actions, &wanted);
+    has(&rt, &actions, &['h', 'h', 'h', 'h', 'h', 'p', 'h']);
+    drop(actions);
     rt.end();
 }

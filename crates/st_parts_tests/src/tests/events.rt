@@ -122,7 +122,9 @@ fn a_list_answers(rt: &Host<impl Abort>, alloc: Global) {
     has(rt, &short, &[2, 4]);
     is_shown(rt, alloc, &short, "[2, 4]");
     push_inline(rt, &mut short, 8);
-    gives(rt, short, &[2, 4, 8]);
+    same(rt, "the second", &short.replace(1, 5), &Some(4));
+    holds(rt, "none behind the last", short.replace(3, 7) == None);
+    gives(rt, short, &[2, 5, 8]);
 }
 
 /// A list is made of two numbers.

@@ -1,7 +1,6 @@
-use Rattle.std.proofs.Common.{◌≡◌, ◌+◌, ◌<◌, ◌++◌, ◌∷◌, [], Some, length, take, refl, sym, ap, ◌∙◌, arith, append_assoc, length-append, append-nil}
+use Rattle.std.proofs.Common.{◌≡◌, ◌++◌, ◌∷◌, [], Some, length, take, refl, sym, ap, ◌∙◌, arith, append_assoc, length-append}
 use Rattle.std.specs.Prelude.{option_copied}
 use Rattle.std.specs.List.{slice_get}
-use Rattle.st_agenda.specs.Slots.{number_of}
 use Rattle.st_agenda.specs.Waiting.{slot_numbers}
 use Rattle.st_agenda.proofs.PendingLemmas.{on_some_before}
 use Rattle.st_agenda.proofs.CopyingLemmas.{at_within, one_number_more}

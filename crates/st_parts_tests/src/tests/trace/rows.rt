@@ -4,7 +4,7 @@ use st_cell::{
     Answer, Collected, Command, Entry, Journal, JournalEntry, MachineId, PlainList, Reason, Report,
     Tag, Turned,
 };
-use st_core::{Call, Done};
+use st_core::{Call, Calls, Done};
 use st_events::{Kind, Time, Timer};
 use std::alloc::{AllocError, Global};
 
@@ -69,14 +69,13 @@ fn report(alloc: Global, turn: Turn) -> Result<Report<bool>, AllocError> {
         kind: turn.kind,
         state: turn.before,
     };
-    let calls = vec![in alloc; call]?;
     let replied = vec![in alloc; tag(0); turn.replied]?;
     let inserted = vec![in alloc; 0; turn.inserted]?;
     let set = vec![in alloc; (Timer::State, Time::Infinity); turn.set]?;
     Ok(Report {
         event: Some(turn.event),
         done: turn.done,
-        calls: PlainList::from(calls),
+        calls: OneInline::of(alloc, call),
         before: turn.before,
         after: turn.after,
         replied: PlainList::from(replied),

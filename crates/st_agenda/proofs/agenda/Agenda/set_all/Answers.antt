@@ -1,19 +1,26 @@
-use Rattle.std.proofs.Common.{ap, ◌∙◌, arith, length}
-use Rattle.st_agenda.specs.Timing.{numbers_taken}
-use Rattle.st_agenda.specs.Agenda.{all_set_in}
+use Rattle.std.proofs.Common.{ap, ◌∙◌}
+use Rattle.st_actions.specs.Taking.{all_settings_of}
 use Rattle.st_agenda.proofs.LawfulSetting.{set_next}
+use Rattle.st_agenda.proofs.LoopLemmas.{set_none_more, set_one_more}
+use Rattle.st_agenda.proofs.agenda.Agenda.set_all.Goals.{in-Some, in_default}
 use Rattle.st_agenda.proofs.agenda.Agenda.set_all.Goals as goal
 
-pub loop-setting-preserved : goal.loop-setting-preserved
-loop-setting-preserved g c =
-    let kept = c.loop-setting.invariant in
-    let rest = c.next.new.self in
-    let one_more = c.in-Some.ensures.steps in
-    let set = c.set.ensures.schedule in
-    let next = ap (λ schedule. schedule.next_number) set ∙ set_next c.args.now c.loop-setting.self.schedule c.in-Some.setting in
-    let numbers = ap numbers_taken one_more in
+pub loop-index-preserved : goal.loop-index-preserved
+loop-index-preserved g c =
+    let kept = c.loop-index.invariant in
+    let before = c.loop-index.self in
+    let left = all_settings_of c.loop-index.actions in
+    let rest = all_settings_of c.take_setting.new.actions in
     record {
-      all = ap (λ schedule. all_set_in c.args.now schedule rest) set ∙ rw one_more at kept.all;
-      reserved = omega (arith, ap length one_more, kept.reserved, c.set.ensures.reserved);
-      numbers = omega (arith, next, numbers, kept.numbers);
+      set = elim c.match-take_setting.branch [
+        | in-Some w ↦
+            let next = ap (λ schedule. schedule.next_number) w.set.ensures.schedule ∙ set_next c.args.now before.schedule w.in-Some.setting in
+            rw w.self-is
+            (set_one_more c.args.now c.args.self.now.schedule (all_settings_of c.args.actions.now) before left rest c.take_setting.result c.take_setting.ensures.taken kept.set
+            w.in-Some.setting w.in-Some.is w.set.new.self w.set.ensures.schedule next w.set.ensures.reserved)
+        | in_default w ↦ rw w.self-is
+            (set_none_more c.args.now c.args.self.now.schedule (all_settings_of c.args.actions.now) before left rest c.take_setting.result c.take_setting.ensures.taken kept.set w.in_default.is)
+      ];
+      none_before = c.take_setting.ensures.none_before;
+      as_many = c.take_setting.ensures.as_many ∙ kept.as_many;
     }

@@ -1,9 +1,12 @@
-use Rattle.std.proofs.Common.{length}
+use Rattle.std.proofs.Common.{◌≡◌, [], length, take}
+use Rattle.st_actions.specs.Taking.{all_settings_of}
 use Rattle.st_agenda.proofs.LoopLemmas.{SetSoFar}
 use Rattle.st_agenda.proofs.agenda.Agenda.set_all.Given as goal
 
-abbrev pub invariant-loop-setting : goal.invariant-loop-setting
-invariant-loop-setting g l = SetSoFar l.now l.fn.self.schedule l.fn.settings l.self l.setting-iterator
-
-abbrev pub decreases-loop-setting : goal.decreases-loop-setting
-decreases-loop-setting g l = length l.setting-iterator
+-- the settings so far are done, and those that are left are in the list
+abbrev pub invariant-loop-index : goal.invariant-loop-index
+invariant-loop-index g l = record {
+  set : SetSoFar l.now l.fn.self.schedule (all_settings_of l.fn.actions) l.self (all_settings_of l.actions);
+  none_before : all_settings_of (take l.index l.actions) ≡ [];
+  as_many : length l.actions ≡ length l.fn.actions;
+}

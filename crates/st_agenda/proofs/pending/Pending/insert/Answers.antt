@@ -1,4 +1,5 @@
 use Rattle.std.proofs.Common.{◌≡◌, ◌+◌, length, arith}
+use Rattle.st_actions.specs.Plan.{inserts_of}
 use Rattle.st_agenda.proofs.PendingLemmas.{length-with_inserts, sound_inserted, inserted_is}
 use Rattle.st_agenda.proofs.pending.Pending.insert.Goals as goal
 
@@ -6,17 +7,18 @@ use Rattle.st_agenda.proofs.pending.Pending.insert.Goals as goal
 pub prove-unreachable-requires-2 : goal.prove-unreachable-requires-2
 prove-unreachable-requires-2 g c =
     let inside = c.self.inside in
-    let longer : c.len-2.result ≡ length c.args.inserts + length inside.queue.items =
-    rw (c.len-2.ensures.length, c.insert_at_cursor.ensures) (length-with_inserts inside.queue inside.received inside.next_number c.args.inserts c.self.invariant) in
-    omega (arith, longer, c.len-count.ensures.length, c.self.invariant.fits, c.if-prove-2.true)
+    let inserts = inserts_of c.args.actions.now in
+    let longer : c.len-2.result ≡ length inserts + length inside.queue.items =
+    rw (c.len-2.ensures.length, c.insert_at_cursor.ensures.inserted) (length-with_inserts inside.queue inside.received inside.next_number inserts c.self.invariant) in
+    omega (arith, longer, c.requires.count, c.self.invariant.fits, c.if-prove-2.true)
 
 pub invariant_of-self : goal.invariant_of-self
 invariant_of-self g c =
     let inside = c.self.inside in
-    let numbers = rw (← c.self.view_is) at c.requires.numbers in
-    rw (c.insert_at_cursor.ensures, c.len-count.ensures.length) (sound_inserted inside.queue inside.received inside.next_number c.args.inserts c.self.invariant numbers)
+    let numbers = rw (← c.self.view_is, c.requires.count) at c.requires.numbers in
+    rw (c.insert_at_cursor.ensures.inserted, c.requires.count) (sound_inserted inside.queue inside.received inside.next_number (inserts_of c.args.actions.now) c.self.invariant numbers)
 
-pub returns : goal.returns
-returns g c =
+pub returns-clause-inserted : goal.returns-clause-inserted
+returns-clause-inserted g c =
     let inside = c.self.inside in
-    rw (← c.self.view_is, c.insert_at_cursor.ensures, c.len-count.ensures.length) (inserted_is inside.queue inside.received inside.next_number c.args.inserts c.self.invariant)
+    rw (← c.self.view_is, c.insert_at_cursor.ensures.inserted, c.requires.count) (inserted_is inside.queue inside.received inside.next_number (inserts_of c.args.actions.now) c.self.invariant)

@@ -1,64 +1,116 @@
-use Rattle.std.proofs.Common.{◌≡◌, refl, ap, sym, ◌∙◌, inr, arith}
+use Rattle.std.proofs.Common.{◌≡◌, true, false, refl, ap, ◌∙◌, inr, Some, if◌then◌else◌}
 use Rattle.std.proofs.lemmas.Result.{err_from_is_err_and}
-use Rattle.std.specs.Prelude.{None, Some}
-use Rattle.st_actions.specs.declared.planned.Planned.{Planned}
-use Rattle.st_actions.specs.Plan.{plan_of}
-use Rattle.st_core.specs.Callbacks.{callbacks_of, or_old}
+use Rattle.st_events.specs.declared.outcome.Outcome.TheVariants as outcome
+use Rattle.st_core.specs.declared.course.Course.{Course}
+use Rattle.st_core.specs.Callbacks.{callbacks_of, called_with, differs, entered_by, is_entered}
 use Rattle.st_core.specs.Run.{turn_takes_memory, turn_without_memory}
 use Rattle.st_core.specs.Transition.{with_moment}
-use Rattle.st_core.proofs.TransitionLemmas.{concluded_takes_memory, goes_on, stops, meets_same}
+use Rattle.st_core.proofs.TransitionLemmas.{comes_of, concluded_takes_memory, enters_by, enters_not, meets_same, stops}
 use Rattle.st_core.proofs.engine.Core.conclude.Goals as goal
 
--- each call that finds no memory comes before anything changes
-pub returns-in_err-planned-clause-step : goal.returns-in_err-planned-clause-step
-returns-in_err-planned-clause-step g c called called_is =
+-- the replies as actions find no memory before anything changes
+pub returns-in_err-actions-in-StopAndReply-clause-step : goal.returns-in_err-actions-in-StopAndReply-clause-step
+returns-in_err-actions-in-StopAndReply-clause-step g c handled called handled_is called_is =
     let callbacks = callbacks_of g.M.Module g.M.State.PartialEq.eq c.args.self.now.module_ in
     let machine = c.args.self.now.machine in
     let told = err_from_is_err_and c.from_residual.result c.from_residual.ensures.1 in
     inr (concluded_takes_memory callbacks (with_moment machine c.args.now) c.args.number called called.reason, rw (told.1, told.2) refl, refl)
 
-pub returns-in_err-calls-clause-step : goal.returns-in_err-calls-clause-step
-returns-in_err-calls-clause-step g c called called_is =
+pub returns-in-NextState-clause-step : goal.returns-in-NextState-clause-step
+returns-in-NextState-clause-step g c handled called handled_is called_is =
     let callbacks = callbacks_of g.M.Module g.M.State.PartialEq.eq c.args.self.now.module_ in
     let machine = c.args.self.now.machine in
-    let told = err_from_is_err_and c.from_residual-in_err-calls.result c.from_residual-in_err-calls.ensures.1 in
-    inr (concluded_takes_memory callbacks (with_moment machine c.args.now) c.args.number called called.reason, rw (told.1, told.2) refl, refl)
+    let calls = c.args.gathered.now.calls in
+    let answered = outcome.NextState c.in-NextState.after c.in-NextState.data c.in-NextState.actions in
+    let course : Course _ = record { now = c.args.now; number = c.args.number; after = c.in-NextState.after; changed = c.ne.result; repeats = false } in
+    let given = handled_is ∙ ap (λ said. called_with callbacks.same_state calls machine.state machine.data said) c.in-NextState.is in
+    let entered = called_is ∙ ap (λ said. if is_entered callbacks machine.state said then entered_by callbacks machine.state handled else handled) c.in-NextState.is in
+    let changed : differs callbacks.same_state machine.state (Some c.in-NextState.after) ≡ c.ne.result = rw (c.ne.ensures, ← c.self.view_is) refl in
+    c.proceed.ensures.step handled called (comes_of callbacks machine calls answered course handled called given refl changed) (rw given refl)
+    (enters_by callbacks machine calls answered course handled called changed refl entered)
 
--- the machine goes on
-pub returns-in-None-clause-step : goal.returns-in-None-clause-step
-returns-in-None-clause-step g c called called_is =
+pub returns-in-KeepState-clause-step : goal.returns-in-KeepState-clause-step
+returns-in-KeepState-clause-step g c handled called handled_is called_is =
     let callbacks = callbacks_of g.M.Module g.M.State.PartialEq.eq c.args.self.now.module_ in
     let machine = c.args.self.now.machine in
-    let none : called.reason ≡ None = rw called_is (sym c.reason_of-reason.ensures ∙ c.in-None.is) in
-    let state : called.state ≡ c.state_after-after.result = rw (called_is, c.state_after-after.ensures, ← c.self.view_is) refl in
-    let held : called.data ≡ or_old machine.data c.plan_outcome.new.data = rw called_is (sym (c.plan_outcome.ensures.new_data machine.data)) in
-    let changed : called.changed ≡ c.changes_state-changed.result = rw (called_is, c.changes_state-changed.ensures, ← c.self.view_is) refl in
-    let asked : plan_of called.actions ≡ c.in_ok-planned.planned = rw called_is (sym c.in_ok-planned.ensures.planned) in
-    meets_same turn_takes_memory turn_without_memory _ _ _ (goes_on callbacks machine (with_moment machine c.args.now) c.args.number called none)
-    (c.go_on.ensures.step called (rw (called_is, c.in_ok-calls.ensures, ← c.self.view_is) refl) state held changed asked)
+    let calls = c.args.gathered.now.calls in
+    let answered = outcome.KeepState c.in-KeepState.data c.in-KeepState.actions in
+    let course : Course _ = record { now = c.args.now; number = c.args.number; after = c.self.inside.state; changed = false; repeats = false } in
+    let given = handled_is ∙ ap (λ said. called_with callbacks.same_state calls machine.state machine.data said) c.in-KeepState.is in
+    let entered = called_is ∙ ap (λ said. if is_entered callbacks machine.state said then entered_by callbacks machine.state handled else handled) c.in-KeepState.is in
+    c.proceed-in-KeepState.ensures.step handled called (comes_of callbacks machine calls answered course handled called given (rw (← c.self.view_is) refl) refl) (rw given refl)
+    (enters_by callbacks machine calls answered course handled called refl refl entered)
 
--- the machine stops
-pub returns-in-Some-clause-step : goal.returns-in-Some-clause-step
-returns-in-Some-clause-step g c called called_is =
+pub returns-in-KeepStateAndData-clause-step : goal.returns-in-KeepStateAndData-clause-step
+returns-in-KeepStateAndData-clause-step g c handled called handled_is called_is =
     let callbacks = callbacks_of g.M.Module g.M.State.PartialEq.eq c.args.self.now.module_ in
     let machine = c.args.self.now.machine in
-    let some : called.reason ≡ Some c.in-Some.reason = rw called_is (sym c.reason_of-reason.ensures ∙ c.in-Some.is) in
-    let state : called.state ≡ c.state_after-after.result = rw (called_is, c.state_after-after.ensures, ← c.self.view_is) refl in
-    let held : called.data ≡ or_old machine.data c.plan_outcome.new.data = rw called_is (sym (c.plan_outcome.ensures.new_data machine.data)) in
-    let asked : plan_of called.actions ≡ c.in_ok-planned.planned = rw called_is (sym c.in_ok-planned.ensures.planned) in
-    meets_same turn_takes_memory turn_without_memory _ _ _ (stops callbacks machine (with_moment machine c.args.now) c.args.number called c.in-Some.reason some)
-    (c.stop_at.ensures.step called (rw (called_is, c.in_ok-calls.ensures, ← c.self.view_is) refl) state held
-    (ap (λ (planned : Planned _). planned.replies) asked))
+    let calls = c.args.gathered.now.calls in
+    let answered = outcome.KeepStateAndData c.in-KeepStateAndData.actions in
+    let course : Course _ = record { now = c.args.now; number = c.args.number; after = c.self.inside.state; changed = false; repeats = false } in
+    let given = handled_is ∙ ap (λ said. called_with callbacks.same_state calls machine.state machine.data said) c.in-KeepStateAndData.is in
+    let entered = called_is ∙ ap (λ said. if is_entered callbacks machine.state said then entered_by callbacks machine.state handled else handled) c.in-KeepStateAndData.is in
+    c.proceed-in-KeepStateAndData.ensures.step handled called (comes_of callbacks machine calls answered course handled called given (rw (← c.self.view_is) refl) refl) (rw given refl)
+    (enters_by callbacks machine calls answered course handled called refl refl entered)
 
--- the requests are dropped
-pub array_drop-planned-requires-in_err-calls-2 : goal.array_drop-planned-requires-in_err-calls-2
-array_drop-planned-requires-in_err-calls-2 g c = omega (arith, g.met.M.Module.lawful.settings_fit)
+pub returns-in-RepeatState-clause-step : goal.returns-in-RepeatState-clause-step
+returns-in-RepeatState-clause-step g c handled called handled_is called_is =
+    let callbacks = callbacks_of g.M.Module g.M.State.PartialEq.eq c.args.self.now.module_ in
+    let machine = c.args.self.now.machine in
+    let calls = c.args.gathered.now.calls in
+    let answered = outcome.RepeatState c.in-RepeatState.data c.in-RepeatState.actions in
+    let course : Course _ = record { now = c.args.now; number = c.args.number; after = c.self.inside.state; changed = false; repeats = true } in
+    let given = handled_is ∙ ap (λ said. called_with callbacks.same_state calls machine.state machine.data said) c.in-RepeatState.is in
+    let entered = called_is ∙ ap (λ said. if is_entered callbacks machine.state said then entered_by callbacks machine.state handled else handled) c.in-RepeatState.is in
+    c.proceed-in-RepeatState.ensures.step handled called (comes_of callbacks machine calls answered course handled called given (rw (← c.self.view_is) refl) refl) (rw given refl)
+    (enters_by callbacks machine calls answered course handled called refl refl entered)
 
-pub array_drop-planned-requires-in-Some-reason-2 : goal.array_drop-planned-requires-in-Some-reason-2
-array_drop-planned-requires-in-Some-reason-2 g c = omega (arith, g.met.M.Module.lawful.settings_fit)
+pub returns-in-RepeatStateAndData-clause-step : goal.returns-in-RepeatStateAndData-clause-step
+returns-in-RepeatStateAndData-clause-step g c handled called handled_is called_is =
+    let callbacks = callbacks_of g.M.Module g.M.State.PartialEq.eq c.args.self.now.module_ in
+    let machine = c.args.self.now.machine in
+    let calls = c.args.gathered.now.calls in
+    let answered = outcome.RepeatStateAndData c.in-RepeatStateAndData.actions in
+    let course : Course _ = record { now = c.args.now; number = c.args.number; after = c.self.inside.state; changed = false; repeats = true } in
+    let given = handled_is ∙ ap (λ said. called_with callbacks.same_state calls machine.state machine.data said) c.in-RepeatStateAndData.is in
+    let entered = called_is ∙ ap (λ said. if is_entered callbacks machine.state said then entered_by callbacks machine.state handled else handled) c.in-RepeatStateAndData.is in
+    c.proceed-in-RepeatStateAndData.ensures.step handled called (comes_of callbacks machine calls answered course handled called given (rw (← c.self.view_is) refl) refl) (rw given refl)
+    (enters_by callbacks machine calls answered course handled called refl refl entered)
 
--- what the outcome comes to fits in memory
-pub plan_outcome-requires : goal.plan_outcome-requires
-plan_outcome-requires g c =
-    let fits = g.met.M.Module.lawful in
-    (fits.outcome_fits, (fits.planned_fits, (fits.outcome_fits, (fits.actions_fit, (fits.replies_fit, (fits.inserts_fit, (fits.settings_fit, fits.planned_fits)))))))
+pub returns-in-Stop-clause-step : goal.returns-in-Stop-clause-step
+returns-in-Stop-clause-step g c handled called handled_is called_is =
+    let callbacks = callbacks_of g.M.Module g.M.State.PartialEq.eq c.args.self.now.module_ in
+    let machine = c.args.self.now.machine in
+    let calls = c.args.gathered.now.calls in
+    let given = handled_is ∙ ap (λ said. called_with callbacks.same_state calls machine.state machine.data said) c.in-Stop.is in
+    let entered = called_is ∙ ap (λ said. if is_entered callbacks machine.state said then entered_by callbacks machine.state handled else handled) c.in-Stop.is in
+    let same : called ≡ handled = enters_not callbacks machine (outcome.Stop c.in-Stop.reason c.in-Stop.data) handled called refl refl entered in
+    let some : handled.reason ≡ Some c.in-Stop.reason = rw given refl in
+    rw same
+    (meets_same turn_takes_memory turn_without_memory _ _ _ (stops callbacks machine (with_moment machine c.args.now) c.args.number handled c.in-Stop.reason some)
+    (c.stop_at.ensures.step handled (record {
+      calls = rw given refl;
+      state = rw (given, ← c.self.view_is) refl;
+      «data» = rw given refl;
+      changed = rw given refl;
+      actions = rw (given, c.new-actions.ensures) refl;
+    })))
+
+pub returns-in_ok-actions-in-StopAndReply-clause-step : goal.returns-in_ok-actions-in-StopAndReply-clause-step
+returns-in_ok-actions-in-StopAndReply-clause-step g c handled called handled_is called_is =
+    let callbacks = callbacks_of g.M.Module g.M.State.PartialEq.eq c.args.self.now.module_ in
+    let machine = c.args.self.now.machine in
+    let calls = c.args.gathered.now.calls in
+    let given = handled_is ∙ ap (λ said. called_with callbacks.same_state calls machine.state machine.data said) c.in-StopAndReply.is in
+    let entered = called_is ∙ ap (λ said. if is_entered callbacks machine.state said then entered_by callbacks machine.state handled else handled) c.in-StopAndReply.is in
+    let same : called ≡ handled = enters_not callbacks machine (outcome.StopAndReply c.in-StopAndReply.reason c.in-StopAndReply.replies c.in-StopAndReply.data) handled called refl refl entered in
+    let some : handled.reason ≡ Some c.in-StopAndReply.reason = rw given refl in
+    rw same
+    (meets_same turn_takes_memory turn_without_memory _ _ _ (stops callbacks machine (with_moment machine c.args.now) c.args.number handled c.in-StopAndReply.reason some)
+    (c.stop_at-in-StopAndReply.ensures.step handled (record {
+      calls = rw given refl;
+      state = rw (given, ← c.self.view_is) refl;
+      «data» = rw given refl;
+      changed = rw given refl;
+      actions = rw (given, c.in_ok-actions-in-StopAndReply.ensures) refl;
+    })))

@@ -1,74 +1,107 @@
-use Rattle.std.proofs.Common.{◌≡◌, ◌≤◌, ◌+◌, ◌^◌, true, Some, length, max, refl, ap, sym, ◌∙◌, arith}
-use Rattle.std.proofs.lemmas.Result.{err_from_is_err_and}
+use Rattle.std.proofs.Common.{◌≡◌, true, Some, length, max, refl, ap, sym, ◌∙◌, arith}
 use Rattle.std.specs.Option.{option_map}
+use Rattle.st_actions.specs.Counted.{numbers_taken}
 use Rattle.st_actions.specs.Plan.{replies_of, inserts_of, postpone_of, settings_of}
+use Rattle.st_actions.specs.Taking.{all_settings_of}
 use Rattle.st_requests.specs.Requests.{taken_by}
-use Rattle.st_core.proofs.StateLemmas.{settled_keeps}
 use Rattle.st_events.specs.declared.event.Event.{Event}
 use Rattle.st_agenda.specs.declared.schedule.Schedule.{Schedule}
-use Rattle.st_agenda.specs.Agenda.{next_in}
-use Rattle.st_agenda.specs.Items.{numbered, numbers_of}
-use Rattle.st_agenda.specs.Timing.{numbers_taken}
-use Rattle.st_core.specs.Transition.{with_moment, has_numbers, times_of}
+use Rattle.st_agenda.specs.Agenda.{Agenda, next_in, settled_in}
+use Rattle.st_core.specs.Transition.{with_moment, has_numbers}
+use Rattle.st_core.proofs.StateLemmas.{settled_keeps}
 use Rattle.st_core.proofs.TransitionLemmas.{went_on_is, went_on_refused, machine_is, settled_is, enough_for_all}
 use Rattle.st_core.proofs.engine.Core.go_on.Goals as goal
 
 -- the answer and what is left are the definition's
 pub returns-clause-step : goal.returns-clause-step
-returns-clause-step g c called same_calls same_state same_data same_change same_plan =
+returns-clause-step g c called comes =
     let machine = c.args.self.now.machine in
-    let planned = sym same_plan in
-    let enough : has_numbers (with_moment machine c.args.now) called.actions ≡ true =
-    rw (← c.self.view_is) (rw planned at c.in_ok-prepared.ensures.numbers) in
-    let inserted : c.in_ok-prepared.prepared.inserted ≡ numbers_of (numbered c.self.inside.agenda.schedule.next_number (inserts_of called.actions)) =
-    rw planned at c.in_ok-prepared.ensures.inserted in
-    let set : c.in_ok-prepared.prepared.set ≡ times_of (settings_of called.actions) = rw planned at c.in_ok-prepared.ensures.set in
-    let latest : c.max-self-inside.result ≡ max machine.latest c.args.now = rw (c.max-self-inside.ensures, ← c.self.view_is) refl in
+    let actions = c.args.actions.now in
+    let old = c.self.inside in
+    let enough : has_numbers (with_moment machine c.args.course.now) called.actions ≡ true = rw (comes.actions, ← c.self.view_is) c.in-Ok.ensures.numbers in
+    let latest : c.max-self-inside.result ≡ max machine.latest c.args.course.now = rw (c.max-self-inside.ensures, ← c.self.view_is) refl in
     let same : c.prepare.new.agenda.schedule ≡ machine.schedule = rw (c.prepare.ensures.same_schedule, ← c.self.view_is) refl in
-    let postponed : c.args.planned.postpone ≡ postpone_of called.actions = rw planned refl in
-    let to_insert : c.args.planned.inserts ≡ inserts_of called.actions = rw planned refl in
-    let to_set : c.args.planned.requests ≡ settings_of called.actions = rw planned refl in
-    let to_reply : c.args.planned.replies ≡ replies_of called.actions = rw planned refl in
-    let replied : c.answer_all.new.taken.items ≡ taken_by machine.requests (replies_of called.actions) =
-    rw (c.answer_all.ensures.taken, c.in_ok-prepared.ensures.replied, to_reply, ← c.self.view_is) refl in
-    went_on_is machine (with_moment machine c.args.now) _ c.args.number called enough
-    (rw (c.done_by-done.ensures, planned, inserted, set, c.from.ensures, replied, same_calls, same_state, ← c.self.view_is) refl)
-    (machine_is (rw (← c.self.view_is) refl) (sym same_state)
-    (rw (c.replace.ensures, same_data, ← c.self.view_is) refl)
-    (c.settle.ensures ∙ settled_is c.args.number latest same postponed (sym same_change) to_insert to_set)
-    (rw (c.answer_all.ensures.answered, to_reply, ← c.self.view_is) refl)
+    let postponed : c.unwrap_or-postpone.result ≡ postpone_of called.actions = rw (c.unwrap_or-postpone.ensures, comes.actions) c.in-Ok.ensures.postpone in
+    let to_reply : replies_of c.prepare.new.actions ≡ replies_of called.actions = rw comes.actions c.prepare.ensures.same_replies in
+    let to_insert : inserts_of c.answer_each.new.actions ≡ inserts_of called.actions = rw comes.actions (c.answer_each.ensures.same_inserts ∙ c.prepare.ensures.same_inserts) in
+    let to_set : all_settings_of c.insert.new.actions ≡ settings_of called.actions =
+    rw comes.actions (c.insert.ensures.same_settings ∙ (c.answer_each.ensures.same_settings ∙ c.in-Ok.ensures.last)) in
+    let replied : c.answer_each.new.taken.items ≡ taken_by machine.requests (replies_of called.actions) =
+    rw (c.answer_each.ensures.taken, c.in-Ok.ensures.replied, to_reply, ← c.self.view_is) refl in
+    let settled : c.set_all.new.self.schedule ≡ settled_in c.max-self-inside.result c.prepare.new.agenda.schedule c.args.course.number c.unwrap_or-postpone.result c.args.course.changed
+    (inserts_of c.answer_each.new.actions) (all_settings_of c.insert.new.actions) = rw (c.set_all.ensures, c.insert.ensures.inserted, c.settle.ensures.schedule) refl in
+    went_on_is machine (with_moment machine c.args.course.now) _ c.args.course.number called enough
+    (rw (c.done_by.ensures, postponed, c.in-Ok.ensures.inserted, c.in-Ok.ensures.set, replied, c.prepare.ensures.same_calls, comes.calls, comes.state, comes.actions, ← c.self.view_is) refl)
+    (machine_is (rw (← c.self.view_is) refl) (sym comes.state)
+    (rw (c.replace.ensures, comes.data, ← c.self.view_is) refl)
+    (settled ∙ settled_is c.args.course.number latest same postponed (sym comes.changed) to_insert to_set)
+    (rw (c.answer_each.ensures.answered, to_reply, ← c.self.view_is) refl)
     latest (rw (← c.self.view_is) refl))
 
 -- numbers or memory are wanting
-pub returns-in_err-prepared-clause-step : goal.returns-in_err-prepared-clause-step
-returns-in_err-prepared-clause-step g c called same_calls same_state same_data same_change same_plan =
+pub returns-in-Err-clause-step : goal.returns-in-Err-clause-step
+returns-in-Err-clause-step g c called comes =
     let machine = c.args.self.now.machine in
-    let told = err_from_is_err_and c.from_residual.result c.from_residual.ensures.1 in
-    rw (told.1, told.2) (went_on_refused machine (with_moment machine c.args.now) _ c.args.number called c.in_err-prepared.field-0.0
-    (rw (c.prepare.ensures.same_schedule, ← c.self.view_is) refl) (rw (← c.self.view_is) (rw (sym same_plan) at c.in_err-prepared.ensures.refusals)))
+    went_on_refused machine (with_moment machine c.args.course.now) _ c.args.course.number called c.in-Err.refusal
+    (rw (c.prepare.ensures.same_schedule, ← c.self.view_is) refl) (rw (comes.actions, ← c.self.view_is) c.in-Err.ensures.refusals)
+
+pub answer_each-requires : goal.answer_each-requires
+answer_each-requires g c =
+    let none = ap length c.in-Ok.ensures.replied in
+    let same = ap length c.prepare.ensures.same_replies in
+    (g.met.M.Module.lawful.actions_fit, omega (arith, none, same, c.in-Ok.ensures.replies))
 
 pub settle-requires : goal.settle-requires
 settle-requires g c =
     let same : c.prepare.new.agenda.schedule ≡ c.args.self.now.machine.schedule = rw (c.prepare.ensures.same_schedule, ← c.self.view_is) refl in
-    let next : c.prepare.new.agenda.schedule.next_number ≡ c.self.inside.agenda.schedule.next_number = ap (λ (s : Schedule _). s.next_number) c.prepare.ensures.same_schedule in
-    let enough = enough_for_all c.self.inside.agenda.schedule.next_number (length c.args.planned.inserts) (numbers_taken c.args.planned.requests) c.in_ok-prepared.ensures.numbers in
-    let numbers : c.prepare.new.agenda.schedule.next_number + (length c.args.planned.inserts + numbers_taken c.args.planned.requests) ≤ 2 ^ 63 = omega (arith, next, enough) in
-    let number_is = ap (λ (s : Schedule _). option_map (λ (event : Event _). event.number) (next_in s)) same ∙ c.requires.number_is in
-    let inserts_fit = g.met.M.Module.lawful.inserts_fit in
-    let settings_fit = g.met.M.Module.lawful.settings_fit in
-    (inserts_fit, (settings_fit, (inserts_fit, (settings_fit, (omega (arith, c.max-self-inside.ensures, c.self.invariant.moment, c.requires.moment), (number_is, (c.in_ok-prepared.ensures.staged, (c.in_ok-prepared.ensures.reserved, numbers))))))))
+    record {
+      number_is = ap (λ (s : Schedule _). option_map (λ (event : Event _). event.number) (next_in s)) same ∙ c.requires.number_is;
+      staged = omega (arith, c.in-Ok.ensures.staged);
+    }
 
--- the requests are dropped
-pub array_drop-planned-requires-in_err-prepared-2 : goal.array_drop-planned-requires-in_err-prepared-2
-array_drop-planned-requires-in_err-prepared-2 g c = omega (arith, g.met.M.Module.lawful.settings_fit)
+pub insert-requires : goal.insert-requires
+insert-requires g c =
+    let old = c.self.inside in
+    let actions = c.args.actions.now in
+    let next = ap (λ (s : Schedule _). s.next_number) c.prepare.ensures.same_schedule in
+    let inserts = c.answer_each.ensures.same_inserts ∙ c.prepare.ensures.same_inserts in
+    let count = ap length c.answer_each.ensures.same_inserts in
+    let few = ap length c.prepare.ensures.same_inserts in
+    let enough = enough_for_all old.agenda.schedule.next_number (length (inserts_of actions)) (numbers_taken (settings_of actions)) c.in-Ok.ensures.numbers in (
+      g.met.M.Module.lawful.actions_fit,
+      (
+        omega (arith, count, c.in-Ok.ensures.counted.inserts),
+        (omega (arith, few, c.in-Ok.ensures.counted.inserts, c.in-Ok.ensures.staged, c.settle.ensures.staged), omega (arith, few, c.in-Ok.ensures.counted.inserts, next, c.settle.ensures.next_number, enough)),
+      ),
+    )
+
+pub set_all-requires : goal.set_all-requires
+set_all-requires g c =
+    let old = c.self.inside in
+    let actions = c.args.actions.now in
+    let next = ap (λ (s : Schedule _). s.next_number) c.prepare.ensures.same_schedule in
+    let enough = enough_for_all old.agenda.schedule.next_number (length (inserts_of actions)) (numbers_taken (settings_of actions)) c.in-Ok.ensures.numbers in
+    let settings : all_settings_of c.insert.new.actions ≡ settings_of actions = c.insert.ensures.same_settings ∙ (c.answer_each.ensures.same_settings ∙ c.in-Ok.ensures.last) in
+    let kept = ap (λ (a : Agenda _). a.reserved) c.insert.ensures.inserted in
+    let more = ap (λ (a : Agenda _). a.schedule.next_number) c.insert.ensures.inserted in
+    let count = ap length (c.answer_each.ensures.same_inserts ∙ c.prepare.ensures.same_inserts) in
+    rw settings (
+      g.met.M.Module.lawful.actions_fit,
+      (
+        omega (arith, c.max-self-inside.ensures, c.self.invariant.moment, c.requires.moment),
+        (omega (arith, kept, c.settle.ensures.reserved, c.in-Ok.ensures.reserved), omega (arith, more, count, next, c.settle.ensures.next_number, enough)),
+      ),
+    )
 
 -- what is left can come about
 pub invariant_of-self-2 : goal.invariant_of-self-2
 invariant_of-self-2 g c =
     let old = c.self.inside in
-    let planned = c.args.planned in
-    let next : option_map (λ (event : Event _). event.number) (next_in old.agenda.schedule) ≡ Some c.args.number = rw (← c.self.view_is) at c.requires.number_is in
-    let enough = enough_for_all old.agenda.schedule.next_number (length planned.inserts) (numbers_taken planned.requests) c.in_ok-prepared.ensures.numbers in
-    rw (c.settle.ensures, c.answer_all.ensures.answered, c.prepare.ensures.same_schedule, c.max-self-inside.ensures)
-    (settled_keeps old.id old.agenda.schedule old.requests old.latest c.args.now old.ended c.args.number planned.postpone c.args.made.changed planned.inserts planned.requests planned.replies
+    let actions = c.args.actions.now in
+    let next : option_map (λ (event : Event _). event.number) (next_in old.agenda.schedule) ≡ Some c.args.course.number = rw (← c.self.view_is) at c.requires.number_is in
+    let enough = enough_for_all old.agenda.schedule.next_number (length (inserts_of actions)) (numbers_taken (settings_of actions)) c.in-Ok.ensures.numbers in
+    let settings : all_settings_of c.insert.new.actions ≡ settings_of actions = c.insert.ensures.same_settings ∙ (c.answer_each.ensures.same_settings ∙ c.in-Ok.ensures.last) in
+    let inserts : inserts_of c.answer_each.new.actions ≡ inserts_of actions = c.answer_each.ensures.same_inserts ∙ c.prepare.ensures.same_inserts in
+    rw (c.set_all.ensures, c.insert.ensures.inserted, c.settle.ensures.schedule, c.answer_each.ensures.answered, settings, inserts, c.prepare.ensures.same_replies, c.prepare.ensures.same_schedule, c.max-self-inside.ensures)
+    (settled_keeps old.id old.agenda.schedule old.requests old.latest c.args.course.now old.ended c.args.course.number c.unwrap_or-postpone.result c.args.course.changed (inserts_of actions) (settings_of actions) (replies_of actions)
     c.requires.moment next enough c.self.invariant)

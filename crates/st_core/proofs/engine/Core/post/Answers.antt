@@ -2,7 +2,7 @@ use Rattle.std.proofs.Common.{◌≡◌, ◌<◌, ◌^◌, None, refl, sym, ◌�
 use Rattle.st_requests.proofs.LawfulRequests.{fresh}
 use Rattle.st_requests.specs.Requests.{held_for}
 use Rattle.st_core.proofs.LawfulLemmas.{lawful_posted}
-use Rattle.st_core.proofs.PlanningLemmas.{there}
+use Rattle.st_core.proofs.TransitionLemmas.{there}
 use Rattle.st_core.proofs.TransitionLemmas.{machine_of, post_wants_memory}
 use Rattle.st_core.proofs.engine.Core.post.Goals as goal
 

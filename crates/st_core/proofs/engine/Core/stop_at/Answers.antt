@@ -1,17 +1,19 @@
-use Rattle.std.proofs.Common.{refl, inr}
-use Rattle.std.proofs.lemmas.Result.{err_from_is_err_and}
+use Rattle.std.proofs.Common.{length, ap, arith}
+use Rattle.st_actions.specs.Plan.{replies_of}
+use Rattle.st_core.proofs.AnsweringLemmas.{replies_within}
 use Rattle.st_core.proofs.StateLemmas.{answered_keeps}
 use Rattle.st_core.proofs.engine.Core.stop_at.Goals as goal
+
+-- there is a place for the tag of each reply
+pub answer_each-requires : goal.answer_each-requires
+answer_each-requires g c =
+    let few = replies_within c.args.actions.now in
+    let none = ap length c.requires.empty.replied in
+    (g.met.M.Module.lawful.actions_fit, omega (arith, few, none, c.len.ensures.length, c.in_ok-reserve_exact.ensures.ok, c.in_ok-reserve_exact.ensures.len, ap length c.in_ok-reserve_exact.ensures.items))
 
 -- it can come about before it ends
 pub invariant_of-self : goal.invariant_of-self
 invariant_of-self g c =
     let old = c.self.inside in
-    rw (c.answer_all.ensures.answered, c.max-self-inside.ensures)
-    (answered_keeps old.id old.agenda.schedule old.requests old.latest c.args.now old.ended c.args.replies c.requires.moment c.self.invariant)
-
--- there is no memory for the tags of the replies
-pub returns-in_err-replied-clause-step : goal.returns-in_err-replied-clause-step
-returns-in_err-replied-clause-step g c called same_calls same_state same_data same_replies =
-    let told = err_from_is_err_and c.from_residual-in_err-replied.result c.from_residual-in_err-replied.ensures.1 in
-    inr (refl, rw (told.1, told.2) refl, refl)
+    rw (c.answer_each.ensures.answered, c.max-self-inside.ensures)
+    (answered_keeps old.id old.agenda.schedule old.requests old.latest c.args.course.now old.ended (replies_of c.args.actions.now) c.requires.moment c.self.invariant)

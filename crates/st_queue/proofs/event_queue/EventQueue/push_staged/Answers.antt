@@ -8,7 +8,7 @@ invariant_of-self g c =
     let fewer = ap length c.detach_first-nothing.ensures.0 in
     let longer = length-append c.self.inside.rest.items (Some c.args.event ∷ []) in
     let bound = c.self.invariant.2 in
-    rw c.attach_behind.ensures.0 (c.self.invariant.0, filled_append c.self.inside.rest.items (Some c.args.event ∷ []) c.self.invariant.1 tt, omega arith)
+    rw c.attach_behind.ensures.0 (c.self.invariant.0, filled_append c.self.inside.rest.items (Some c.args.event ∷ []) c.self.invariant.1 tt, omega arith, c.self.invariant.3)
 
 pub returns-clause-pushed : goal.returns-clause-pushed
 returns-clause-pushed g c =

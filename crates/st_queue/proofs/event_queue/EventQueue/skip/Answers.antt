@@ -15,7 +15,7 @@ invariant_of-self g c =
     let bound = c.self.invariant.2 in
     let first = filled_first c.detach_first-event.result.0 c.detach_first-event.new.self.items filled in
     let left = filled_rest c.detach_first-event.result.0 c.detach_first-event.new.self.items filled in
-    rw c.attach_behind.ensures.0 (filled_append c.self.inside.passed.items (c.detach_first-event.result.0 ∷ []) c.self.invariant.0 first, left, omega arith)
+    rw c.attach_behind.ensures.0 (filled_append c.self.inside.passed.items (c.detach_first-event.result.0 ∷ []) c.self.invariant.0 first, left, omega arith, c.self.invariant.3)
 
 pub returns-clause-end : goal.returns-clause-end
 returns-clause-end g c =

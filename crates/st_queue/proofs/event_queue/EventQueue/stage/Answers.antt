@@ -1,12 +1,20 @@
-use Rattle.std.proofs.Common.{◌+◌, ◌^◌, ◌<◌, length, ◌-◌, sym, subst, arith}
+use Rattle.std.proofs.Common.{length, ◌∙◌, ap, arith}
 use Rattle.std.proofs.lemmas.List.{length-append}
 use Rattle.st_queue.proofs.QueueLemmas.{length_of_items}
 use Rattle.st_queue.proofs.event_queue.EventQueue.stage.Goals as goal
 
-pub invariant_of-self : goal.invariant_of-self
-invariant_of-self g c =
+pub fill-requires-clause-small : goal.fill-requires-clause-small
+fill-requires-clause-small g c =
     let items = length_of_items c.self.inside.passed.items c.self.inside.rest.items c.self.invariant.0 c.self.invariant.1 in
-    let bound = subst (λ queue. length queue.items + queue.staged + (c.args.count - c.len-ready.result) < 2 ^ 63) (sym c.self.view_is) c.in_ok-made.ensures.small in
-    let longer = length-append c.self.inside.spare.items c.in_ok-made.made.items in
-    let made = c.in_ok-made.ensures.count in
-    rw c.join.ensures.0 (c.self.invariant.0, c.self.invariant.1, omega arith)
+    let bound = c.self.invariant.2 in
+    let moved = ap (λ chain. length chain.items) c.swap.ensures.x_after in
+    omega arith
+
+pub invariant_of-self-3 : goal.invariant_of-self-3
+invariant_of-self-3 g c =
+    let items = length_of_items c.self.inside.passed.items c.self.inside.rest.items c.self.invariant.0 c.self.invariant.1 in
+    let bound = c.in_ok-fill.ensures.small in
+    let longer = length-append c.self.inside.spare.items c.fill.new.made.items in
+    let filled = c.in_ok-fill.ensures.count in
+    let none = ap (λ chain. chain.items) c.swap.ensures.y_after ∙ c.new-made.ensures in
+    rw (c.join.ensures.0, none) (c.self.invariant.0, c.self.invariant.1, omega arith, (tt, omega arith))

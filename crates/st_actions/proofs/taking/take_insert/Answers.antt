@@ -1,0 +1,34 @@
+use Rattle.std.proofs.Common.{Some, refl, sym, ap, ◌∙◌}
+use Rattle.st_events.specs.declared.action.Action.TheVariants.{NextEvent, Hibernate}
+use Rattle.st_actions.specs.Plan.{replies_of, inserts_of}
+use Rattle.st_actions.specs.Taking.{all_settings_of, as_reply, as_insert, as_setting}
+use Rattle.st_actions.proofs.TakingLemmas.{none_at, last_out, other_out, none_behind, none_behind_out, replies_are, inserts_are, settings_are}
+use Rattle.st_actions.proofs.taking.take_insert.Goals as goal
+
+pub returns-then-not-is_insert_at-clause-none_behind : goal.returns-then-not-is_insert_at-clause-none_behind
+returns-then-not-is_insert_at-clause-none_behind g c =
+    none_behind as_insert Hibernate refl inserts_of inserts_are c.args.actions.now c.args.index c.requires.last
+    (none_at as_insert c.args.actions.now c.args.index (sym c.is_insert_at.ensures ∙ c.if-not-is_insert_at.true))
+
+pub returns-clause-taken : goal.returns-clause-taken
+returns-clause-taken g c =
+    rw c.replace.ensures.put_in
+    (last_out as_insert Hibernate refl inserts_of inserts_are c.args.actions.now c.args.index (NextEvent c.in-Some-NextEvent.kind c.in-Some-NextEvent.content) _
+    (sym c.in-Some-NextEvent.ensures.replaced ∙ ap Some c.in-Some-NextEvent.field-0-is) refl c.requires.last)
+
+pub returns-clause-none_behind : goal.returns-clause-none_behind
+returns-clause-none_behind g c =
+    rw c.replace.ensures.put_in
+    (none_behind_out as_insert Hibernate refl inserts_of inserts_are c.args.actions.now c.args.index c.requires.last)
+
+pub returns-clause-same_settings : goal.returns-clause-same_settings
+returns-clause-same_settings g c =
+    rw c.replace.ensures.put_in
+    (other_out as_setting Hibernate refl all_settings_of settings_are c.args.actions.now c.args.index (NextEvent c.in-Some-NextEvent.kind c.in-Some-NextEvent.content)
+    (sym c.in-Some-NextEvent.ensures.replaced ∙ ap Some c.in-Some-NextEvent.field-0-is) refl)
+
+pub returns-clause-same_replies : goal.returns-clause-same_replies
+returns-clause-same_replies g c =
+    rw c.replace.ensures.put_in
+    (other_out as_reply Hibernate refl replies_of replies_are c.args.actions.now c.args.index (NextEvent c.in-Some-NextEvent.kind c.in-Some-NextEvent.content)
+    (sym c.in-Some-NextEvent.ensures.replaced ∙ ap Some c.in-Some-NextEvent.field-0-is) refl)

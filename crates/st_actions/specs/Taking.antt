@@ -1,0 +1,50 @@
+-- Actions that leave a list of actions, kind by kind: `Hibernate`, which has no effect, stands in their places.
+use Rattle.std.specs.Prelude.{Option, Some, None, List, [], ◌∷◌}
+use Rattle.st_events.specs.declared.action.Action.{Action}
+use Rattle.st_events.specs.declared.action.Action.TheVariants.{Reply, Postpone, NextEvent, Set, Hibernate}
+use Rattle.st_events.specs.declared.insert.Insert.{Insert}
+use Rattle.st_events.specs.declared.setting.Setting.{Setting}
+use Rattle.st_events.specs.declared.tag.Tag.{Tag}
+use Rattle.st_events.specs.declared.timer.Timer.{Timer}
+
+-- all settings, in the order of the actions
+abbrev pub all_settings_of : {C : Type 0} → List (Action C) → List (Setting C)
+all_settings_of [] = []
+all_settings_of (Reply tag content ∷ actions) = all_settings_of actions
+all_settings_of (Postpone last ∷ actions) = all_settings_of actions
+all_settings_of (NextEvent kind content ∷ actions) = all_settings_of actions
+all_settings_of (Set timer time content ∷ actions) =
+    record { timer = timer; time = time; content = content } ∷ all_settings_of actions
+all_settings_of (Hibernate ∷ actions) = all_settings_of actions
+
+-- the reply that an action is
+abbrev pub as_reply : {C : Type 0} → Action C → Option (Tag × C)
+as_reply (Reply tag content) = Some (tag, content)
+as_reply (Postpone last) = None
+as_reply (NextEvent kind content) = None
+as_reply (Set timer time content) = None
+as_reply Hibernate = None
+
+-- the event to be inserted that it is
+abbrev pub as_insert : {C : Type 0} → Action C → Option (Insert C)
+as_insert (Reply tag content) = None
+as_insert (Postpone last) = None
+as_insert (NextEvent kind content) = Some (record { kind = kind; content = content })
+as_insert (Set timer time content) = None
+as_insert Hibernate = None
+
+-- the setting that it is
+abbrev pub as_setting : {C : Type 0} → Action C → Option (Setting C)
+as_setting (Reply tag content) = None
+as_setting (Postpone last) = None
+as_setting (NextEvent kind content) = None
+as_setting (Set timer time content) = Some (record { timer = timer; time = time; content = content })
+as_setting Hibernate = None
+
+-- the timer that it sets
+abbrev pub timer_set : {C : Type 0} → Action C → Option Timer
+timer_set (Reply tag content) = None
+timer_set (Postpone last) = None
+timer_set (NextEvent kind content) = None
+timer_set (Set timer time content) = Some timer
+timer_set Hibernate = None

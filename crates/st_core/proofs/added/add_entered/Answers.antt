@@ -1,0 +1,10 @@
+use Rattle.std.proofs.Common.{sym, append-nil}
+use Rattle.st_core.proofs.AddedLemmas.{enter-replies}
+use Rattle.st_core.proofs.added.add_entered.Goals as goal
+
+pub returns-in-Stop-clause-added : goal.returns-in-Stop-clause-added
+returns-in-Stop-clause-added g c = rw c.in-Stop.is (sym (append-nil c.args.actions.now))
+
+pub returns-in_ok-add_replies-in-StopAndReply-clause-added : goal.returns-in_ok-add_replies-in-StopAndReply-clause-added
+returns-in_ok-add_replies-in-StopAndReply-clause-added g c =
+    rw (c.in-StopAndReply.is, enter-replies c.in-StopAndReply.replies) c.in_ok-add_replies-in-StopAndReply.ensures

@@ -1,0 +1,53 @@
+-- What was gathered for a report, and the answer that it makes.
+use Rattle.std.specs.Prelude.{◌≡◌, ℕ, Option, Some, List, [], Result, Ok, Err}
+use Rattle.st_events.specs.declared.action.Action.{Action}
+use Rattle.st_events.specs.declared.refusal.Refusal.{Refusal}
+use Rattle.st_core.specs.declared.done.Done.{Done}
+use Rattle.st_core.specs.declared.report.Report.{Report}
+use Rattle.st_core.specs.declared.turned.Turned.{Turned}
+use Rattle.st_core.specs.declared.turned.Turned.TheVariants.{Reported}
+use Rattle.st_core.specs.declared.call.Call.{Call}
+use Rattle.st_core.specs.declared.course.Course.{Course}
+use Rattle.st_core.specs.declared.gathered.Gathered.{Gathered}
+use Rattle.st_core.specs.declared.machine_state.MachineState.{MachineState}
+use Rattle.st_core.specs.Callbacks.{Called, or_old}
+use Rattle.st_core.specs.Run.{Meets, turn_takes_memory, turn_without_memory}
+
+-- no reply was taken yet, and nothing is inserted or set
+pub record IsEmpty {S : Type 0} (gathered : Gathered S) : Type 0 where
+  pub replied : gathered.replied.items ≡ []
+  pub inserted : gathered.inserted ≡ []
+  pub set : gathered.set ≡ []
+
+-- the report that tells it
+abbrev pub report_with : {S : Type 0} → Option ℕ → Done → S → S → Gathered S → Report S
+report_with event done before after gathered = record {
+  event = event;
+  done = done;
+  calls = gathered.calls;
+  before = before;
+  after = after;
+  replied = gathered.replied.items;
+  inserted = gathered.inserted;
+  set = gathered.set;
+}
+
+-- what a turn answers that ended so, or was refused
+abbrev pub turned_with : {S : Type 0} → ℕ → S → S → Gathered S → Result Done Refusal → Result (Turned S) Refusal
+turned_with number before after gathered (Ok done) = Ok (Reported (report_with (Some number) done before after gathered))
+turned_with number before after gathered (Err refusal) = Err refusal
+
+-- the callbacks of a transition came to this: these calls, the state and the change of its course, new data or else the
+-- old, and these actions
+pub record ComesTo {S D C : Type 0} (course : Course S) (held : D) (made : List (Call S)) (new : Option D) (asked : List (Action C)) (called : Called S D C) : Type 0 where
+  pub calls : called.calls ≡ made
+  pub state : called.state ≡ course.after
+  pub «data» : called.data ≡ or_old held new
+  pub changed : called.changed ≡ course.changed
+  pub actions : called.actions ≡ asked
+
+-- a turn on an event ended so, or was refused: its answer and the machine after it are those of the definition; or memory
+-- was wanted, and nothing changed
+abbrev pub TurnsTo : {S D C : Type 0} → ℕ → MachineState S D C → MachineState S D C → Gathered S → Result Done Refusal → Result (Turned S) Refusal × MachineState S D C → Type 0
+TurnsTo number old new gathered result definition =
+    Meets turn_takes_memory turn_without_memory (turned_with number old.state new.state gathered result) old new definition
