@@ -1,6 +1,6 @@
 //! Lists of the calls that a turn made.
 use super::host::{Host, got, holds, same};
-use st_core::{Call, Calls};
+use st_core::{Call, Calls, OneInline};
 use std::process::Abort;
 
 /// The state 1 is entered from another.

@@ -4,7 +4,7 @@ use st_cell::{
     Answer, Collected, Command, Entry, Journal, JournalEntry, MachineId, PlainList, Reason, Report,
     Tag, Turned,
 };
-use st_core::{Call, Calls, Done};
+use st_core::{Call, Done, OneInline};
 use st_events::{Kind, Time, Timer};
 use std::alloc::{AllocError, Global};
 
