@@ -43,7 +43,6 @@ pub fn turn_and_collect<M: Module>(
 }
 
 /// A run after a run is a run.
-#[tactic(auto, using(st_core::proofs::RunLemmas::run_on))]
 pub fn two_runs<M: Module>(
     core: &mut Core<M>,
     first: Vec<Command<M::Content>>,
