@@ -1,8 +1,12 @@
-use Rattle.std.proofs.Common.{◌≡◌, ◌++◌, ap, ◌∙◌, arith, string_bytes}
+use Rattle.std.proofs.Common.{◌≡◌, ◌++◌, refl, ap, ◌∙◌, arith, string_bytes}
 use Rattle.st_trace.specs.Totals.{totals_of}
 use Rattle.st_trace.specs.Trace.{machine_line, entry_lines}
 use Rattle.st_trace.proofs.TraceLemmas.{one_line_more, no_line_left}
 use Rattle.st_trace.proofs.tracing.trace_text.Goals as goal
+
+-- the machine's line, and no entry's yet
+pub loop-entry-init : goal.loop-entry-init
+loop-entry-init g c = rw (c.in_ok-text.ensures, c.as_str.ensures.value, c.as_slice-entry-items.ensures) refl
 
 -- one line more
 pub loop-entry-preserved : goal.loop-entry-preserved

@@ -1,4 +1,4 @@
-use Rattle.std.proofs.Common.{◌≡◌, length, arith}
+use Rattle.std.proofs.Common.{◌≡◌, ◌+◌, length, length-append, ap, sym, ◌∙◌, arith}
 use Rattle.std.proofs.lemmas.Grind.{common_steps}
 use Rattle.std.specs.Vec.Iter.{into_iter_items}
 use Rattle.st_core.specs.Callbacks.{callbacks_of}
@@ -7,6 +7,15 @@ use Rattle.st_pool_core.proofs.BalanceLemmas.{step-balanced}
 use Rattle.st_pool_core.proofs.CommandLemmas.{plays-went}
 use Rattle.st_pool_core.proofs.PlayLemmas.{play_more}
 use Rattle.st_pool_core.proofs.pool_world.PoolWorld.play.Goals as goal
+
+-- there is a place for the answer of each step that is left
+pub push_reserved-requires : goal.push_reserved-requires
+push_reserved-requires g c =
+    let left = into_iter_items c.loop-step.step-iterator in
+    let next = ap length c.in-Some.ensures.steps.0 in
+    let whole : length c.loop-step.yielded + length left ≡ length c.args.steps.items =
+    sym (length-append c.loop-step.yielded left) ∙ ap length c.loop-step.invariant.split in
+    omega (arith, next, whole, c.loop-step.invariant.reserved, c.loop-step.invariant.count)
 
 -- one more step was done, and its answer stands behind the others
 pub loop-step-preserved : goal.loop-step-preserved
