@@ -7,8 +7,6 @@ use Rattle.std.proofs.lemmas.List.{take_all}
 use Rattle.std.proofs.lemmas.Option.{slice_get_cases}
 use Rattle.st_events.specs.declared.action.Action.{Action}
 use Rattle.st_events.specs.declared.setting.Setting.{Setting}
-use Rattle.st_events.specs.declared.time.Time.{Time}
-use Rattle.st_events.specs.declared.time.Time.TheVariants.{After, Infinity}
 use Rattle.st_timeouts.specs.declared.running.Running.{Running}
 use Rattle.st_actions.specs.Counted.{number_taken, numbers_taken}
 use Rattle.st_actions.specs.Taking.{all_settings_of}
@@ -69,16 +67,6 @@ module _ {C : Type 0} where
   -- where none is before the end, none is left
   pub none_left : (actions : List (Action C)) (end : ℕ) → length actions ≡ end → all_settings_of (take end actions) ≡ [] → all_settings_of actions ≡ []
   none_left actions end many none = let whole : take end actions ≡ actions = take_all end actions (omega (arith, many)) in rw whole at none
-
--- a setting takes one number at most
-pub one_at_most : (time : Time) → number_taken time ≤ 1
-one_at_most Infinity = omega arith
-one_at_most (After time) = omega arith
-
-module _ {C : Type 0} where
-  pub taken_within : (settings : List (Setting C)) → numbers_taken settings ≤ length settings
-  taken_within [] = omega arith
-  taken_within (setting ∷ settings) = omega (arith, one_at_most setting.time, taken_within settings)
 
 -- nothing was found and something was: that cannot be
 pub none_not_some : {A : Type 0} (found : Option A) (a : A) → found ≡ None → found ≡ Some a → ⊥

@@ -466,6 +466,7 @@ fn dead_number<C>(pending: &Pending<C>, timeouts: &Timeouts<C>) -> Option<u64>
 
 /// Takes expiries out of the front whose time-outs run no more, and answers how many expiries stay.
 /// Nothing that waits is changed by it. Where there is no expiry, it looks at nothing.
+#[inline]
 fn pass_dead<C: Drop>(pending: &mut Pending<C>, timeouts: &Timeouts<C>, expiries: usize) -> usize
     requires { Agrees pending.old timeouts.now.listed expiries }
     ensures agrees { Agrees pending.new timeouts.now.listed result }

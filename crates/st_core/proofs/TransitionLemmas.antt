@@ -157,30 +157,6 @@ module _ {S D C : Type 0} (callbacks : Callbacks S D C) (machine : MachineState 
       ap (λ (done : Result (Turned S) Refusal × MachineState S D C). turn_takes_memory done.0) (turn_is event ended early next)
       ∙ concluded_takes_memory callbacks (with_moment machine now) event.number (called_of callbacks machine event) (called_of callbacks machine event).reason
 
-  -- with no enter call
-  pub turn_concludes : (event : Event C) → machine.ended ≡ None → now < 2 ^ 63 → next_event_of machine ≡ Some event
-      → is_entered callbacks machine.state (outcome_of callbacks machine event) ≡ false
-      → turn_of callbacks machine now ≡ unless_refused machine (concluded callbacks (with_moment machine now) event.number
-      (handled_with callbacks.same_state event.number event.kind machine.state machine.data (outcome_of callbacks machine event))
-      (handled_with callbacks.same_state event.number event.kind machine.state machine.data (outcome_of callbacks machine event)).reason)
-  turn_concludes event ended early next no_call =
-      let handled = handled_with callbacks.same_state event.number event.kind machine.state machine.data (outcome_of callbacks machine event) in
-      turn_is event ended early next
-      ∙ ap (λ (enters : Bool). unless_refused machine (concluded callbacks (with_moment machine now) event.number
-      (if enters then entered_by callbacks machine.state handled else handled) (if enters then entered_by callbacks machine.state handled else handled).reason)) no_call
-
-  -- with an enter call
-  pub turn_enters : (event : Event C) → machine.ended ≡ None → now < 2 ^ 63 → next_event_of machine ≡ Some event
-      → is_entered callbacks machine.state (outcome_of callbacks machine event) ≡ true
-      → turn_of callbacks machine now ≡ unless_refused machine (concluded callbacks (with_moment machine now) event.number
-      (entered_by callbacks machine.state (handled_with callbacks.same_state event.number event.kind machine.state machine.data (outcome_of callbacks machine event)))
-      (entered_by callbacks machine.state (handled_with callbacks.same_state event.number event.kind machine.state machine.data (outcome_of callbacks machine event))).reason)
-  turn_enters event ended early next call =
-      let handled = handled_with callbacks.same_state event.number event.kind machine.state machine.data (outcome_of callbacks machine event) in
-      turn_is event ended early next
-      ∙ ap (λ (enters : Bool). unless_refused machine (concluded callbacks (with_moment machine now) event.number
-      (if enters then entered_by callbacks machine.state handled else handled) (if enters then entered_by callbacks machine.state handled else handled).reason)) call
-
 module _ {S D C : Type 0} (machine : MachineState S D C) (entry : Entry) (content : C) where
   -- a post to a machine that runs takes memory where a number is left
   pub post_wants_memory : machine.ended ≡ None → machine.schedule.next_number < 2 ^ 63 → post_takes_memory (post_of machine entry content).0 ≡ true
