@@ -1,5 +1,5 @@
 -- Ids compared.
-use Rattle.std.proofs.Common.{◌≡◌, ◌≢◌, ℕ, Bool, true, false, ◌&&◌, ◌==◌, refl, ap, ◌∙◌, arith, inl, inr, eqb-true}
+use Rattle.std.proofs.Common.{◌≡◌, ◌≢◌, ℕ, ◌+◌, ◌≤◌, Bool, true, false, ◌&&◌, ◌==◌, Some, List, slice_get, refl, sym, ap, ◌∙◌, arith, inl, inr, eqb-true}
 use Rattle.std.proofs.lemmas.Bool.{cases_Bool, and_parts}
 use Rattle.st_events.specs.declared.machine_id.MachineId.{MachineId}
 use Rattle.st_directory.specs.DirectoryState.{same_id}
@@ -42,4 +42,19 @@ pub others_differ : (one other : MachineId) → one ≢ other → same_id one ot
 others_differ one other differs = elim (cases_Bool (same_id one other)) [
   | inl same ↦ absurd (differs (ids_same one other same))
   | inr apart ↦ apart
+]
+
+later_than : (at place : ℕ) → place ≤ at → (at == place) ≡ false → place + 1 ≤ at
+later_than at place below differs = grind arith
+
+-- where one is another, and all later ones are, all from it on are
+pub others_from : (ids : List MachineId) (id first : MachineId) (place : ℕ) → slice_get ids place ≡ Some first → same_id id first ≡ false
+    → ((at : ℕ) (other : MachineId) → place + 1 ≤ at → slice_get ids at ≡ Some other → same_id id other ≡ false)
+    → (at : ℕ) (other : MachineId) → place ≤ at → slice_get ids at ≡ Some other → same_id id other ≡ false
+others_from ids id first place here differs later at other below there = elim (cases_Bool (at == place)) [
+  | inl same ↦
+      let found : Some other ≡ Some first = sym there ∙ (ap (slice_get ids) (eqb-true at place same) ∙ here) in
+      let is : other ≡ first = cc in
+      ap (same_id id) is ∙ differs
+  | inr apart ↦ later at other (later_than at place below apart) there
 ]

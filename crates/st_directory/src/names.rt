@@ -1,20 +1,29 @@
 //! The names of a directory, in order of registration.
-ghost use Rattle.std.specs.Prelude.{◌≡◌, String, ◌<◌, ◌≤◌, not, [], length, None, Some, is_some, IsSome, IfOk, OnOk, IfSome, IfNone, string_bytes, option_copied};
+ghost use Rattle.std.specs.Prelude.{◌≡◌, ℕ, String, ◌<◌, ◌≤◌, false, slice_get, [], length, None, Some, is_some, IsSome, IfOk, OnOk, IfSome, IfNone, string_bytes, option_copied};
 ghost use Rattle.std.specs.Option.{option_map};
 ghost use Rattle.std.specs.Map.Iter.{ShowsInOrder, deref_pair};
 ghost use Rattle.st_directory.specs.Entries.{names_of_entries};
+ghost use Rattle.st_events.specs.declared.machine_id.MachineId.{MachineId};
+ghost use Rattle.st_directory.specs.InOrder.{IdsNamedOnce};
 ghost use Rattle.st_directory.specs.DirectoryState.{id_in, same_id, with_name, without_name, without_names_of};
 
+use crate::crowds::Crowds;
+use crate::keyed::Keyed;
 use indexmap::IndexMap;
-use indexmap::map::Iter;
+use indexmap::map::{Iter, Keys};
 use st_events::MachineId;
 use std::alloc::{AllocError, Global};
+use std::hash::BuildHasher;
 use std::marker::Model;
 
 /// Names, each with the id that it names. One is found in one hashed look-up.
+///
+/// Whoever chooses the names knows how they are hashed. So where too many fall together, all are hashed anew by another
+/// number before the next comes in: names that fall together then have to be chosen for that number.
 #[derive(Drop)]
 pub(crate) struct Names {
-    entries: IndexMap<String, MachineId>,
+    entries: IndexMap<String, MachineId, Keyed>,
+    crowds: Crowds,
 }
 
 impl Model for Names {
@@ -35,7 +44,8 @@ impl Names {
         ensures { result.names ≡ [] }
     {
         Names {
-            entries: IndexMap::new(alloc),
+            entries: IndexMap::with_hasher(alloc, Keyed::new(0)),
+            crowds: Crowds::new(),
         }
     }
 
@@ -54,6 +64,21 @@ impl Names {
         self.entries.iter()
     }
 
+    /// Hashes the names by another number, with the same room for more.
+    fn hash_anew(&mut self, alloc: Global) -> Result<(), AllocError>
+        ensures kept { self.old.places ≤ self.new.places }
+        ensures unchanged { self.new.names ≡ self.old.names }
+    {
+        let keyed = self.entries.hasher().next();
+        let crowds = crowds_of(self.entries.keys(), self.entries.len(), keyed);
+        let room = self.entries.capacity();
+        let mut entries = IndexMap::with_capacity_and_hasher(alloc, room, keyed)?;
+        entries.append(&mut self.entries)?;
+        self.entries = entries;
+        self.crowds = crowds;
+        Ok(())
+    }
+
     /// Makes room for a name more, and copies it. Where there is no name, nothing is done.
     pub(crate) fn prepare(
         &mut self,
@@ -67,6 +92,9 @@ impl Names {
     {
         match name {
             Some(name) => {
+                if self.crowds.is_there_one() {
+                    self.hash_anew(alloc)?;
+                }
                 self.entries.reserve(1)?;
                 Ok(Some(String::from_str(alloc, name)?))
             }
@@ -81,6 +109,8 @@ impl Names {
         ensures { self.new.names ≡ with_name (option_map string_bytes name) id self.old.names }
     {
         if let Some(name) = name {
+            let hash = self.entries.hasher().hash_one(name.as_str());
+            self.crowds.count(hash, self.entries.len());
             self.entries.insert(name, id).unwrap();
         }
     }
@@ -96,15 +126,39 @@ impl Names {
         self.entries.shift_remove(name)
     }
 
-    /// Takes the names of an id out. The others keep their order.
+    /// Takes the name of an id out, if it has one. The others keep their order.
     pub(crate) fn remove_id(&mut self, id: MachineId)
+        requires { IdsNamedOnce self.old.names }
         ensures removed { self.new.names ≡ without_names_of id self.old.names }
         ensures kept { self.old.places ≤ self.new.places }
     {
-        self.entries.retain(
-            |_name: &String, named: &mut MachineId| -> bool
-                ensures { (result ≡ not (same_id id named.old)) × (named.new ≡ named.old) }
-            { id != *named },
-        );
+        if let Some(place) = place_of(self.entries.values().as_slice(), id) {
+            drop(self.entries.shift_remove_index(place));
+        }
     }
+}
+
+/// A place of an id. The last ones are looked at first.
+fn place_of(ids: &[MachineId], id: MachineId) -> Option<usize>
+    ensures place { IfSome result (λ place. slice_get ids.now place ≡ Some id) }
+
+    ensures missing { IfNone result ((place : ℕ) (other : MachineId) → slice_get ids.now place ≡ Some other → same_id id other ≡ false) }
+{
+    let mut place = ids.len();
+    while place > 0 {
+        place -= 1;
+        if id == ids[place] {
+            return Some(place);
+        }
+    }
+    None
+}
+
+/// How so many names are spread that are hashed so.
+fn crowds_of(names: Keys<'_, String, MachineId>, len: usize, keyed: Keyed) -> Crowds {
+    let mut crowds = Crowds::new();
+    for name in names {
+        crowds.count(keyed.hash_one(name.as_str()), len);
+    }
+    crowds
 }

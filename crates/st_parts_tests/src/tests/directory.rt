@@ -1,15 +1,17 @@
 //! Tests of st_directory: what directories answer to calls, with memory and while an allocation is refused.
 
+mod crowd;
 mod rows;
 mod told;
 
 use super::host::{Host, holds, same};
+use crowd::{names_of_one_hash, names_of_one_kind};
 use rows::{
     A_FULL_DIRECTORY, A_MIDDLE_NAME_GOES, AN_ID_IS_GIVEN_ONCE, FRONT_IS_LAST,
     NAMES_HAVE_1_TO_64_BYTES, OTHERS_IN_ORDER, THE_FIRST_NAME_GOES,
 };
 use st_directory::{Directory, MOST, a_directory_is_in_order, a_gone_id_stays_gone};
-use told::{drop_place, fill, names_are, tell_all};
+use told::{drop_place, fill, names_are, names_rise, tell_all};
 
 /// Says that values of a type may go to another thread, and be read by several.
 fn crosses_threads<T: Send + Sync>(_value: &T) {}
@@ -54,5 +56,26 @@ fn a_full_directory_takes_no_more(rt: HostRuntime) {
     fill(&rt, &mut directory, MOST);
     tell_all(&rt, &mut directory, A_FULL_DIRECTORY.as_slice());
     same(&rt, "how many there are", &directory.len(), &MOST);
+    rt.end();
+}
+
+/// With a table that these names hurt this takes minutes.
+#[test]
+fn names_of_one_hash_are_found(rt: HostRuntime) {
+    let rt = Host::with_memory(rt);
+    let mut directory = Directory::new(rt.alloc());
+    names_of_one_hash(&rt, &mut directory, MOST);
+    same(&rt, "how many there are", &directory.len(), &MOST);
+    rt.end_with_memory();
+}
+
+#[test]
+fn a_crowd_of_names_stays_in_order(rt: HostRuntime) {
+    let rt = Host::new(rt);
+    let mut directory = Directory::new(rt.alloc());
+    let found = names_of_one_kind(&rt, &mut directory);
+    holds(&rt, "they are a crowd", found > 300);
+    same(&rt, "how many there are", &directory.len(), &found);
+    names_rise(&rt, &directory);
     rt.end();
 }

@@ -49,7 +49,7 @@ fn finds_no_memory(
 
 /// Puts a value in, under a name if there is one. Where there is no memory, nothing that can be read has changed, and
 /// the call is made again.
-fn put(
+pub fn put(
     rt: &Host<impl Abort>,
     directory: &mut Directory<u32>,
     name: Option<&str>,
@@ -141,5 +141,14 @@ pub fn names_are(rt: &Host<impl Abort>, directory: &Directory<u32>, wanted: &[(&
     for ((name, id), (wanted_name, wanted_id)) in directory.names().zip(wanted) {
         same(rt, "the name", &name.as_str(), wanted_name);
         same(rt, "its id", id, wanted_id);
+    }
+}
+
+/// Looks that the names stand in order of registration: each has a later serial than the one before it.
+pub fn names_rise(rt: &Host<impl Abort>, directory: &Directory<u32>) {
+    let mut last = 0;
+    for (_name, id) in directory.names() {
+        holds(rt, "the order of the names", id.serial > last);
+        last = id.serial;
     }
 }
