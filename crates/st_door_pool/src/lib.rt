@@ -2,8 +2,10 @@
 #![tactic(auto)]
 
 mod clock;
+mod door_hall;
 mod moment_rule;
 mod pooled_door;
+mod pooled_doors;
 mod pooled_script;
 mod run;
 

@@ -3,8 +3,7 @@ ghost use Rattle.std.specs.Prelude.{◌≡◌, IfOk, OnErr};
 ghost use Rattle.st_events.specs.declared.refusal.Refusal.TheVariants.{NoMemory};
 
 use st_client::{
-    Collected, Machine, MachineId, Port, Reason, Refusal, RequestId, Wake, cast, check,
-    send_request,
+    Collected, Machine, Port, Reason, Refusal, RequestId, Wake, cast, check, send_request,
 };
 use st_door::{Door, DoorContent, DoorData, DoorState, ended_status, status};
 use st_lock::Look;
@@ -12,8 +11,11 @@ use st_wake::schedule;
 use std::alloc::{AllocError, Global};
 use std::sync::{Arc, Wait};
 
-/// How many entries the journal of a door may have, whatever waits at the door.
+/// How many entries the journal of a door may have, however few events wait at the door.
 const JOURNAL_LIMIT: u64 = 4;
+
+/// Over how many entries one walks in the time in which one event that waits is copied, about.
+const COPY_COST: u64 = 16;
 
 /// A door that workers serve: the port through which its script posts, and what the script knows of the door's journal,
 /// which nothing reads. Each call takes its memory first; where there is none, the script ends.
@@ -41,11 +43,6 @@ impl PooledDoor {
             }),
             Err(_) => Err(AllocError),
         }
-    }
-
-    /// Its id.
-    pub(crate) fn id(&self) -> MachineId {
-        self.port.machine().id()
     }
 
     /// Casts a button, and answers why that is refused, if it is. The post is an entry, and so is its turn.
@@ -168,10 +165,12 @@ impl PooledDoor {
     }
 }
 
-/// Whether a journal is to be cut. A look walks the journal, and a cut copies what waits: where it is cut once its square
-/// is greater than the number of those, both stay near that number's square root for each line.
+/// Whether a journal is to be cut. A look walks the journal, and a cut copies what waits, which costs much more for each: so
+/// a journal is cut where it has more entries than events wait, and where many wait, sooner: once its square is greater
+/// than so many times their number. Then both stay near the square root of that number for each line.
 fn is_long(entries: u64, waiting: u64) -> bool {
-    entries > JOURNAL_LIMIT && entries.saturating_mul(entries) > waiting
+    let most = waiting.saturating_mul(waiting.min(COPY_COST));
+    entries > JOURNAL_LIMIT && entries.saturating_mul(entries) > most
 }
 
 /// A refusal, which a line may have; but where memory is wanted and there is none, no line has it.

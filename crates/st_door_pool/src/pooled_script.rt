@@ -2,11 +2,12 @@
 ghost use Rattle.std.specs.Prelude.{◌≡◌, ◌≤◌, ◌<◌, ◌^◌};
 
 use crate::clock::Clock;
+use crate::door_hall::DoorHall;
 use crate::pooled_door::{PooledDoor, told_length, unless_memory};
-use indexmap::IndexMap;
+use crate::pooled_doors::PooledDoors;
 use st_core::MOMENT_LIMIT;
 use st_door::{Digits, Door, Effect, Line, Text, code_length, expired, removed};
-use st_hall::{Hall, MachineId, Reason, Refusal, Registry, Started, Token};
+use st_hall::{MachineId, Reason, Refusal, Started, Token};
 use st_pool::{Gate, Machines, Pool, Runtime, Scheduler};
 use st_wake::schedule;
 use std::alloc::{AllocError, Global};
@@ -26,7 +27,7 @@ fn started<R: Runtime, M: Machines + Drop + Send + Sync + 'static>(
 }
 
 /// A script between two of its lines: the workers, who rest then, their clock, which has the script's moment, the hall of
-/// its doors, and the doors by name in order of registration. A script that is let go ends its threads first.
+/// its doors, which finds them by name, and what the script knows of each. A script that is let go ends its threads first.
 #[derive(Drop)]
 pub(crate) struct PooledScript<R: Runtime> {
     rt: R,
@@ -34,8 +35,8 @@ pub(crate) struct PooledScript<R: Runtime> {
     pool: Pool<R>,
     scheduler: Scheduler,
     clock: Arc<Clock>,
-    hall: Arc<Hall<Door, R>>,
-    doors: IndexMap<String, PooledDoor>,
+    served: Arc<DoorHall<R>>,
+    doors: PooledDoors,
 }
 
 impl<R: Runtime> PooledScript<R> {
@@ -44,9 +45,9 @@ impl<R: Runtime> PooledScript<R> {
     pub(crate) fn start(rt: R, alloc: Global, workers: usize) -> Result<PooledScript<R>, AllocError>
         requires { (1 ≤ workers) × (workers ≤ 16) }
     {
-        let hall = Arc::new(alloc, Hall::new(rt, Registry::new(alloc)))?;
+        let served = Arc::new(alloc, DoorHall::new(rt, alloc))?;
         let clock = Arc::new(alloc, Clock::new())?;
-        let pool = started(rt, alloc, workers, &hall, &clock)?;
+        let pool = started(rt, alloc, workers, &served, &clock)?;
         let scheduler = pool.scheduler()?;
         Ok(PooledScript {
             rt,
@@ -54,8 +55,8 @@ impl<R: Runtime> PooledScript<R> {
             pool,
             scheduler,
             clock,
-            hall,
-            doors: IndexMap::new(alloc),
+            served,
+            doors: PooledDoors::new(alloc),
         })
     }
 
@@ -79,7 +80,11 @@ impl<R: Runtime> PooledScript<R> {
     /// Starts a door under a name, and answers its status.
     fn obey_new(&mut self, name: Text, code: Digits) -> Result<Effect, AllocError> {
         let now = self.clock.now();
-        match self.hall.start(Some(name.as_str()), Door, &code, now) {
+        match self
+            .served
+            .hall
+            .start(Some(name.as_str()), Door, &code, now)
+        {
             Ok(Started::Running { id, wake }) => self.register(name, id, wake),
             Ok(Started::Ignored) => unreachable!(),
             Ok(Started::Stopped(_reason)) => unreachable!(),
@@ -94,49 +99,75 @@ impl<R: Runtime> PooledScript<R> {
         id: MachineId,
         wake: Option<Token>,
     ) -> Result<Effect, AllocError> {
-        let Ok(machine) = self.hall.machine(id) else {
+        let Ok(machine) = self.served.hall.machine(id) else {
             return Err(AllocError);
         };
-        let mut door = PooledDoor::new(&self.rt, &machine)?;
+        let door = PooledDoor::new(&self.rt, &machine)?;
+        self.doors.put(id, door)?;
         if schedule(&self.rt, &self.scheduler, wake).is_some() {
             return Err(AllocError);
         }
+        self.show(name.as_str(), id)
+    }
+
+    /// The id of the door of a name.
+    fn find(&self, name: &str) -> Option<MachineId> {
+        self.served.hall.whereis(name).ok()
+    }
+
+    /// Waits until the workers rest. Where a turn found no memory, the script ends.
+    fn rest(&self) -> Result<(), AllocError> {
         self.pool.drain();
-        let text = door.status(&self.rt, self.alloc, name.as_str())?;
-        self.doors.insert(name.into_string(), door)?;
+        if self.served.is_out_of_memory() {
+            return Err(AllocError);
+        }
+        Ok(())
+    }
+
+    /// Answers the status of a door, once the workers rest.
+    fn show(&mut self, name: &str, id: MachineId) -> Result<Effect, AllocError> {
+        self.rest()?;
+        let Some(door) = self.doors.get_mut(id) else {
+            return Ok(Effect::Refuses(Refusal::NoSuchMachine));
+        };
+        let text = door.status(&self.rt, self.alloc, name)?;
         Ok(Effect::Printed(Text::from(text)))
     }
 
     /// Presses a button of the door of a name, and answers its status.
     fn obey_button(&mut self, name: &str, digit: u8) -> Result<Effect, AllocError> {
-        let Some(door) = self.doors.get_mut(name) else {
+        let Some(id) = self.find(name) else {
             return Ok(Effect::Refuses(Refusal::NoSuchName));
+        };
+        let Some(door) = self.doors.get_mut(id) else {
+            return Ok(Effect::Refuses(Refusal::NoSuchMachine));
         };
         if let Some(refusal) = door.press(&self.rt, &self.scheduler, digit)? {
             return Ok(Effect::Refuses(refusal));
         }
-        self.obey_show(name)
+        self.show(name, id)
     }
 
     /// Ends the door of a name, and answers its status.
     fn obey_stop(&mut self, name: &str, reason: Reason) -> Result<Effect, AllocError> {
-        let Some(door) = self.doors.get_mut(name) else {
+        let Some(id) = self.find(name) else {
             return Ok(Effect::Refuses(Refusal::NoSuchName));
+        };
+        let Some(door) = self.doors.get_mut(id) else {
+            return Ok(Effect::Refuses(Refusal::NoSuchMachine));
         };
         if let Some(refusal) = door.stop(&self.rt, reason)? {
             return Ok(Effect::Refuses(refusal));
         }
-        self.obey_show(name)
+        self.show(name, id)
     }
 
-    /// Answers the status of the door of a name, once the workers rest.
+    /// Answers the status of the door of a name.
     fn obey_show(&mut self, name: &str) -> Result<Effect, AllocError> {
-        let Some(door) = self.doors.get_mut(name) else {
-            return Ok(Effect::Refuses(Refusal::NoSuchName));
-        };
-        self.pool.drain();
-        let text = door.status(&self.rt, self.alloc, name)?;
-        Ok(Effect::Printed(Text::from(text)))
+        match self.find(name) {
+            Some(id) => self.show(name, id),
+            None => Ok(Effect::Refuses(Refusal::NoSuchName)),
+        }
     }
 
     /// Lets time pass up to a moment, and answers how many time-outs expire. A moment before the script's counts as the
@@ -147,38 +178,41 @@ impl<R: Runtime> PooledScript<R> {
         }
         let now = self.clock.now().max(moment);
         self.clock.set(now);
-        let count = self.tick(now)?;
-        self.pool.drain();
-        self.shorten()?;
+        let count = self.doors.tick(&self.rt, &self.scheduler, now)?;
+        self.rest()?;
+        self.doors.shorten(&self.rt)?;
         let text = expired(self.alloc, now, count)?;
         Ok(Effect::Printed(Text::from(text)))
     }
 
     /// Takes out the door of a name, which has ended.
     fn obey_remove(&mut self, name: &str) -> Result<Effect, AllocError> {
-        let Some(door) = self.doors.get(name) else {
+        let Some(id) = self.find(name) else {
             return Ok(Effect::Refuses(Refusal::NoSuchName));
         };
-        if let Err(refusal) = self.hall.remove_stopped(door.id()) {
+        if let Err(refusal) = self.served.hall.remove_stopped(id) {
             return Ok(Effect::Refuses(refusal));
         }
-        drop(self.doors.shift_remove(name));
+        self.doors.remove(id);
         let text = removed(self.alloc, name)?;
         Ok(Effect::Printed(Text::from(text)))
     }
 
     /// Asks the door of a name how long its code is, and answers what it replies.
     fn obey_length(&mut self, name: &str) -> Result<Effect, AllocError> {
-        let Some(door) = self.doors.get_mut(name) else {
+        let Some(id) = self.find(name) else {
             return Ok(Effect::Refuses(Refusal::NoSuchName));
         };
-        let id = match door.ask(&self.rt, &self.scheduler)? {
-            Ok(id) => id,
+        let Some(door) = self.doors.get_mut(id) else {
+            return Ok(Effect::Refuses(Refusal::NoSuchMachine));
+        };
+        let request = match door.ask(&self.rt, &self.scheduler)? {
+            Ok(request) => request,
             Err(refusal) => return Ok(Effect::Refuses(refusal)),
         };
-        self.pool.drain();
-        let digits = told_length(&self.rt, &id)?;
-        door.shorten(&self.rt)?;
+        self.rest()?;
+        let digits = told_length(&self.rt, &request)?;
+        self.doors.shorten_one(&self.rt, id)?;
         let text = code_length(self.alloc, name, digits)?;
         Ok(Effect::Printed(Text::from(text)))
     }
@@ -186,29 +220,11 @@ impl<R: Runtime> PooledScript<R> {
     /// Answers the names, in order of registration.
     fn obey_names(&self) -> Result<Effect, AllocError> {
         let mut text = String::from_str(self.alloc, "names")?;
-        for name in self.doors.keys() {
+        for (name, _id) in &self.served.hall.names(self.alloc)? {
             text.push_str(" ")?;
             text.push_str(name.as_str())?;
         }
         text.push_str("\n")?;
         Ok(Effect::Printed(Text::from(text)))
-    }
-
-    /// Ticks each door at a moment, in order of registration, and answers how many time-outs expire.
-    fn tick(&mut self, now: u64) -> Result<u128, AllocError> {
-        let mut expired = 0u128;
-        for door in self.doors.values_mut() {
-            let count = door.tick(&self.rt, &self.scheduler, now)?;
-            expired = expired.saturating_add(u128::from(count));
-        }
-        Ok(expired)
-    }
-
-    /// Cuts the journal of each door where it is long, while the workers rest.
-    fn shorten(&mut self) -> Result<(), AllocError> {
-        for door in self.doors.values_mut() {
-            door.shorten(&self.rt)?;
-        }
-        Ok(())
     }
 }

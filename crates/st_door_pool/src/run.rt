@@ -48,10 +48,10 @@ fn run_lines<R: Runtime, W: Sink>(
 /// workers' threads are joined.
 ///
 /// `Read`: a read failed. `TooLong`: the input has more than 1,048,576 bytes. After these nothing was written. `Write`: a
-/// write failed or took no bytes. `Memory`: memory was wanted and there was none, or no thread could be started. After
-/// these what was written is a front of the output.
+/// write failed or took no bytes. `Memory`: memory was wanted and there was none, for a turn too, or no thread could be
+/// started. After these what was written is a front of the output.
 ///
-/// No clause says what is written, nor that it ends: a turn that finds no memory is made again, until it finds some.
+/// No clause says what is written, nor that it ends.
 ///
 /// Ours: docs/SCRIPTS.md.
 pub fn run_pool<R: Runtime, S: Source, W: Sink>(

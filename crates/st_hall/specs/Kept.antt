@@ -1,11 +1,12 @@
 -- Which tokens are kept.
-use Rattle.std.specs.Prelude.{Bool, true, false, if◌then◌else◌, Option, Some, None, Result, Ok, Err}
+use Rattle.std.specs.Prelude.{Bool, true, false, if◌then◌else◌, Some, None, Result, Ok, Err}
 use Rattle.st_events.specs.declared.refusal.Refusal.{Refusal}
 use Rattle.st_events.specs.declared.refusal.Refusal.TheVariants.{Exhausted, Moment, NoMemory}
 use Rattle.st_events.specs.declared.refused.Refused.{Refused}
 use Rattle.st_events.specs.declared.token.Token.{Token}
 use Rattle.st_cell.specs.declared.next.Next.{Next}
 use Rattle.st_cell.specs.declared.next.Next.TheVariants.{Again, Rest}
+use Rattle.st_hall.specs.declared.served.Served.{Served}
 
 -- a machine that refused a turn for this reason has its token outstanding still
 abbrev pub is_kept : Refusal → Bool
@@ -14,8 +15,12 @@ is_kept Moment = true
 is_kept NoMemory = true
 is_kept _ = false
 
--- the token by which a machine was served, where it is to be served by it again
-abbrev pub kept : Token → Result Next (Refused Token) → Option Token
-kept token (Ok (Again again)) = Some token
-kept token (Ok Rest) = None
-kept token (Err refused) = if is_kept refused.refusal then Some token else None
+-- no turn was made for a token, for this reason: the token comes back where it is outstanding still
+abbrev pub unserved_as : Token → Refusal → Served
+unserved_as token refusal = record { token = if is_kept refusal then Some token else None; refusal = Some refusal }
+
+-- what comes of a token by which a machine was served: it comes back where the machine is to be served by it again
+abbrev pub served_as : Token → Result Next (Refused Token) → Served
+served_as token (Ok (Again again)) = record { token = Some token; refusal = None }
+served_as token (Ok Rest) = record { token = None; refusal = None }
+served_as token (Err refused) = unserved_as token refused.refusal

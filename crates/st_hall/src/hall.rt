@@ -1,5 +1,5 @@
 //! A registry that threads share.
-ghost use Rattle.std.specs.Prelude.{◌≡◌, ◌⊎◌, IfOk, IfErr, IfSome, option_copied};
+ghost use Rattle.std.specs.Prelude.{◌≡◌, ◌⊎◌, if◌then◌else◌, Some, None, IfOk, IfErr, IfSome, option_copied};
 ghost use Rattle.std.specs.Arc.{arc_value};
 ghost use Rattle.st_events.specs.declared.refusal.Refusal.TheVariants.{NoMemory, NoSuchName, NoSuchMachine, NotStopped};
 ghost use Rattle.st_core.specs.Callbacks.{callbacks_of};
@@ -7,9 +7,11 @@ ghost use Rattle.st_core.specs.Start.{start_of};
 ghost use Rattle.st_lock.specs.Machines.{id_of};
 ghost use Rattle.st_directory.specs.Entries.{names_of_entries};
 ghost use Rattle.st_hall.specs.Hall.{StartsSomewhere, IsNamedSomewhere, AreNamesSomewhere};
+ghost use Rattle.st_hall.specs.Kept.{is_kept};
 
+use crate::Served;
 use crate::copies::copied;
-use crate::kept::{keeps, kept_after};
+use crate::kept::{served, unserved};
 use st_registry::{
     Machine, MachineId, Module, Refusal, Refused, Registry, Started, Token, a_registry_is_in_order,
 };
@@ -153,9 +155,22 @@ impl<M: Module, R: Wait + Drop> Hall<M, R> {
     pub fn turn(&self, token: Token, now: u64) -> Option<Token>
         ensures returned { IfSome result (λ back. back ≡ token) }
     {
+        self.serve(token, now).token
+    }
+
+    /// Serves the machine of a token as `turn` does, and says too why no turn was made, if none was: `NoSuchMachine` where
+    /// the id names none now, `NotQueued` where the machine has another token outstanding, and `Moment`, `Exhausted` and
+    /// `NoMemory`, after which it keeps the token and the same turn may be asked for again.
+    ///
+    /// Manual: `Module:handle_event/4`; ours: docs/DECISIONS.md, Halls, Tokens.
+    pub fn serve(&self, token: Token, now: u64) -> Served
+        ensures returned { IfSome result.token (λ back. back ≡ token) }
+
+        ensures kept { IfSome result.refusal (λ refusal. result.token ≡ (if is_kept refusal then Some token else None)) }
+    {
         match self.machine(token.machine) {
-            Ok(machine) => kept_after(token, machine.turn(&self.rt, token, now)),
-            Err(refusal) => { if keeps(refusal) { Some(token) } else { None } }
+            Ok(machine) => served(token, machine.turn(&self.rt, token, now)),
+            Err(refusal) => unserved(token, refusal),
         }
     }
 }

@@ -1,7 +1,8 @@
 //! Whether a machine kept the token by which it was served.
 ghost use Rattle.std.specs.Prelude.{◌≡◌};
-ghost use Rattle.st_hall.specs.Kept.{kept, is_kept};
+ghost use Rattle.st_hall.specs.Kept.{is_kept, served_as, unserved_as};
 
+use crate::Served;
 use st_cell::Next;
 use st_registry::{Refusal, Refused, Token};
 
@@ -15,19 +16,28 @@ pub(crate) fn keeps(refusal: Refusal) -> bool
     }
 }
 
-/// The token by which a machine was served, where it is to be served again by it.
-pub(crate) fn kept_after(token: Token, answer: Result<Next, Refused<Token>>) -> Option<Token>
-    ensures { result ≡ kept token answer }
+/// No turn was made for a token, for this reason.
+pub(crate) fn unserved(token: Token, refusal: Refusal) -> Served
+    ensures { result ≡ unserved_as token refusal }
 {
-    match answer {
+    let token = if keeps(refusal) { Some(token) } else { None };
+    Served {
+        token,
+        refusal: Some(refusal),
+    }
+}
+
+/// What comes of a token by which a machine was served.
+pub(crate) fn served(token: Token, answer: Result<Next, Refused<Token>>) -> Served
+    ensures { result ≡ served_as token answer }
+{
+    let token = match answer {
         Ok(Next::Again(_)) => Some(token),
         Ok(Next::Rest) => None,
-        Err(refused) => {
-            if keeps(refused.refusal) {
-                Some(token)
-            } else {
-                None
-            }
-        }
+        Err(refused) => return unserved(token, refused.refusal),
+    };
+    Served {
+        token,
+        refusal: None,
     }
 }

@@ -6,8 +6,10 @@ mod copies;
 mod hall;
 mod kept;
 mod machines;
+mod served;
 
 pub use hall::Hall;
+pub use served::Served;
 pub use st_registry::{
     Machine, MachineId, Module, Port, Reason, Refusal, Refused, Registry, Started, Token,
 };

@@ -7,32 +7,34 @@ use st_door_pool::Runtime;
 use std::process::Abort;
 
 /// Two workers, a byte at a time, and the read or the write that fails.
-fn failing(failing_read: usize, failing_write: usize) -> Way {
+fn failing(failing_read: usize, failing_write: usize, takes_nothing: bool) -> Way {
     Way {
         workers: 2,
         most: 1,
         failing_read,
         failing_write,
+        takes_nothing,
     }
 }
 
 /// Sees that a script ends at each read that fails, before anything is written. There is a byte a read, and the end.
 fn ends_at_each_read<R: Runtime>(rt: &Host<impl Abort + AllocGlobal>, threads: R, script: &[u8]) {
     for count in 0..=script.len() {
-        let way = failing(count + 1, 0);
+        let way = failing(count + 1, 0, false);
         ends(rt, threads, script, way, Err(ScriptFault::Read), b"");
     }
 }
 
-/// Sees that a script ends at each write that fails, a byte a write.
+/// Sees that a script ends at each write that fails, or that takes nothing, a byte a write.
 fn ends_at_each_write<R: Runtime>(
     rt: &Host<impl Abort + AllocGlobal>,
     threads: R,
     script: &[u8],
     output: &[u8],
+    takes_nothing: bool,
 ) {
     for count in 0..output.len() {
-        let way = failing(0, count + 1);
+        let way = failing(0, count + 1, takes_nothing);
         ends(
             rt,
             threads,
@@ -53,7 +55,9 @@ fn each_worked_script_ends_at_each_failure(rt: HostRuntime) {
     }
     for worked in ALL {
         ends_at_each_read(&rt, threads, worked.script);
-        ends_at_each_write(&rt, threads, worked.script, worked.output.as_bytes());
+        let output = worked.output.as_bytes();
+        ends_at_each_write(&rt, threads, worked.script, output, false);
+        ends_at_each_write(&rt, threads, worked.script, output, true);
     }
 }
 

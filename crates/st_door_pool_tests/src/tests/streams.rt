@@ -1,5 +1,5 @@
 //! Readers and writers that give and take little at a time, and fail when they are told to.
-ghost use Rattle.std.specs.Prelude.{◌≡◌, ◌<◌, ◌≤◌};
+ghost use Rattle.std.specs.Prelude.{◌≡◌, ◌<◌, ◌≤◌, IfOk};
 ghost use Rattle.std.specs.Io.{ReadsAtMost};
 
 use super::host::{Host, holds, same};
@@ -22,6 +22,8 @@ pub struct Way {
     pub failing_read: usize,
     /// Which write fails.
     pub failing_write: usize,
+    /// Whether that write takes no bytes, in place of an error.
+    pub takes_nothing: bool,
     ghost few: { workers ≤ 16 },
 }
 
@@ -34,6 +36,7 @@ pub fn by(workers: usize) -> Way
         most: usize::MAX,
         failing_read: 0,
         failing_write: 0,
+        takes_nothing: false,
     }
 }
 
@@ -71,13 +74,26 @@ struct Writer {
     writes: usize,
     most: usize,
     failing: usize,
+    takes_nothing: bool,
+}
+
+impl Writer {
+    /// What a write that fails answers.
+    fn fail(&self) -> io::Result<usize>
+        ensures { IfOk result (λ count. count ≡ 0) }
+    {
+        if self.takes_nothing {
+            return Ok(0);
+        }
+        Err(io::Error::from(ErrorKind::Other))
+    }
 }
 
 impl Write for Writer {
     fn write(&mut self, buf: &[u8]) -> io::Result<usize> {
         self.writes = self.writes.saturating_add(1);
         if self.writes == self.failing {
-            return Err(io::Error::from(ErrorKind::Other));
+            return self.fail();
         }
         let count = buf.len().min(self.most);
         self.held.extend_from_slice(&buf[..count])?;
@@ -140,6 +156,7 @@ pub fn run_once<R: Runtime>(
         writes: 0,
         most: way.most,
         failing: way.failing_write,
+        takes_nothing: way.takes_nothing,
     };
     over::<R, Brand, Brand>(
         threads,

@@ -51,7 +51,7 @@ fn goes_round<R: Runtime>(
     machine: &Machine<Plain>,
 ) {
     holds(rt, "it goes round", gate.waits_for(1_000));
-    holds(rt, "the last word", machine.stop(&threads, 3) == Ok(7));
+    holds(rt, "the last word", machine.stop(&threads, 5) == Ok(7));
     pool.drain();
 }
 

@@ -1,22 +1,26 @@
 //! A hall's calls, one after another.
-use super::begun::{hall, id, mark, port, start};
+use super::begun::{filled, hall, id, mark, port, start};
 use super::cast::posts;
 use super::host::{Host, got, holds};
+use super::mark::Mark;
 use super::plain::Plain;
 use st_hall::{Hall, MachineId, Refusal, Token};
 use std::process::Abort;
-use std::sync::Wait;
+use std::sync::{Arc, Wait};
 
 /// Serves a machine that has two events by its token. A turn at a moment that is too late leaves the token outstanding.
 fn is_served_twice<R: Wait + Drop>(rt: &impl Abort, hall: &Hall<Plain, R>, token: Token) {
-    let late = hall.turn(token, 1 << 63);
-    holds(rt, "it is too late for a turn", late == Some(token));
+    let late = hall.serve(token, 1 << 63);
+    holds(rt, "it is too late for a turn", late.token == Some(token));
+    holds(rt, "it says so", late.refusal == Some(Refusal::Moment));
     let first = hall.turn(token, 5);
     holds(rt, "one more event waits", first == Some(token));
     let second = hall.turn(token, 5);
     holds(rt, "no event waits", second == None);
-    let third = hall.turn(token, 5);
-    holds(rt, "the token was retired", third == None);
+    let third = hall.serve(token, 5);
+    holds(rt, "the token was retired", third.token == None);
+    let is_told = third.refusal == Some(Refusal::NotQueued);
+    holds(rt, "it says so too", is_told);
 }
 
 /// Stops a machine.
@@ -102,5 +106,32 @@ fn names_stand_in_order(rt: HostRuntime) {
     drop(names);
     drop(mark);
     drop(hall);
+    rt.end_with_memory();
+}
+
+/// Looks that no machine is started for want of a place, and the module comes back.
+fn is_full<R: Wait + Drop>(rt: &impl Abort, hall: &Hall<Plain, R>, mark: &Arc<Mark>) {
+    let plain = Plain::new(mark).expect(rt, "an owner");
+    let refused = hall.start(None, plain, &(), 0).err();
+    let refusal = refused.expect(rt, "it is refused").refusal;
+    holds(rt, "there is no place", refusal == Refusal::Full);
+}
+
+#[test]
+fn a_hall_of_65_536_machines_is_full(rt: HostRuntime) {
+    let threads = rt;
+    let rt = Host::with_memory(rt);
+    let mark = mark(&rt, true);
+    let hall = filled(&rt, threads, &mark, 65_536);
+    is_full(&rt, &*hall, &mark);
+    holds(&rt, "all are there", hall.len() == 65_536);
+    stop(&rt, &threads, &*hall, id(7, 8));
+    let removed = hall.remove_stopped(id(7, 8));
+    holds(&rt, "it is removed", removed == Ok(()));
+    let next = start(&rt, &*hall, &mark, None);
+    holds(&rt, "the next takes its place", next == id(7, 65_537));
+    is_full(&rt, &*hall, &mark);
+    drop(hall);
+    drop(mark);
     rt.end_with_memory();
 }

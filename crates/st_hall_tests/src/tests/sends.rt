@@ -18,8 +18,23 @@ pub fn token(wake: u64) -> Token {
     }
 }
 
-/// Posts an event, which is one. Where there is no memory, nothing was posted, the content comes back, and it is posted
-/// again.
+/// How many events wait at a door, and how many entries its journal has. Where there is no memory, it is looked at again.
+fn seen(rt: &Host<impl Abort>, threads: &impl Wait, door: &mut Doorway) -> (usize, u64) {
+    let look = match door.port.look(threads) {
+        Ok(look) => look,
+        Err(refusal) => {
+            is_made_again(rt, refusal);
+            let again = door.port.look(threads);
+            got(rt, "one allocation alone is refused", again)
+        }
+    };
+    let seen = (look.waiting, look.entries);
+    drop(look);
+    seen
+}
+
+/// Posts an event, which is one. Where there is no memory, nothing was posted, the journal is as before, the content comes
+/// back, and it is posted again.
 pub fn sends(
     rt: &Host<impl Abort>,
     threads: &impl Wait,
@@ -28,11 +43,14 @@ pub fn sends(
     content: DoorContent,
 ) -> Sent {
     let before = door.port.count();
+    let seen_before = seen(rt, threads, door);
     let sent = match door.send(threads, sending, content) {
         Ok(sent) => sent,
         Err(refused) => {
             is_given_back(rt, &refused, content);
             holds(rt, "nothing was posted", door.port.count() == before);
+            let is_as_before = seen(rt, threads, door) == seen_before;
+            holds(rt, "nothing is in its journal", is_as_before);
             let again = door.send(threads, sending, refused.value);
             got(rt, "one allocation alone is refused", again)
         }

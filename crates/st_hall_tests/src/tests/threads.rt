@@ -69,3 +69,38 @@ fn a_call_ends_with_its_machine(rt: HostRuntime) {
     drop(doors);
     rt.end_with_memory();
 }
+
+/// Waits until two calls were posted. That their threads wait for a reply then, nobody else can see.
+fn two_are_posted(rt: &Host<impl Abort>, threads: &impl Wait, ours: &mut Caller) {
+    for _ in threads.forever() {
+        let look = got(rt, "a look", ours.port.look(threads));
+        let are_posted = look.waiting == 2;
+        drop(look);
+        if are_posted {
+            break;
+        }
+        thread::yield_now();
+    }
+}
+
+#[test]
+fn two_calls_end_with_their_machine(rt: HostRuntime) {
+    let threads = rt;
+    let rt = Host::with_memory(rt);
+    let mut doors = no_door(&rt, rt.alloc());
+    let mut ours = first_caller(&rt, &threads, &mut doors);
+    let first = ours.another(&rt, &threads);
+    let second = ours.another(&rt, &threads);
+    let first = thread::spawn(&threads, move || first.length(&threads));
+    let second = thread::spawn(&threads, move || second.length(&threads));
+    two_are_posted(&rt, &threads, &mut ours);
+    let stopped = ours.port.machine().stop(&threads, 7);
+    got(&rt, "it is stopped", stopped);
+    let first = first.expect(&rt, "a thread").join(&threads);
+    holds(&rt, "the first is told the reason", first == Err(Some(7)));
+    let second = second.expect(&rt, "a thread").join(&threads);
+    holds(&rt, "the second is told the reason", second == Err(Some(7)));
+    drop(ours);
+    drop(doors);
+    rt.end_with_memory();
+}

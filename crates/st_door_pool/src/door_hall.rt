@@ -1,0 +1,44 @@
+//! The hall of a script's doors, as its workers serve it.
+ghost use Rattle.std.specs.Prelude.{◌≡◌, IfSome};
+
+use st_door::Door;
+use st_hall::{Hall, Refusal, Registry, Token};
+use st_pool::{Machines, Runtime};
+use std::alloc::Global;
+use std::sync::atomic::{AtomicBool, Ordering};
+
+/// The hall of a script's doors. Where a turn of theirs finds no memory, the script is to end: that is noted, and the
+/// token comes to rest, so that its turn is not asked for again and again.
+#[derive(Drop)]
+pub(crate) struct DoorHall<R: Runtime> {
+    pub(crate) hall: Hall<Door, R>,
+    out_of_memory: AtomicBool,
+}
+
+impl<R: Runtime> DoorHall<R> {
+    /// No door yet. It takes no memory.
+    pub(crate) fn new(rt: R, alloc: Global) -> DoorHall<R> {
+        DoorHall {
+            hall: Hall::new(rt, Registry::new(alloc)),
+            out_of_memory: AtomicBool::new(false),
+        }
+    }
+
+    /// Whether any turn found no memory.
+    pub(crate) fn is_out_of_memory(&self) -> bool {
+        self.out_of_memory.load(Ordering::SeqCst)
+    }
+}
+
+impl<R: Runtime> Machines for DoorHall<R> {
+    ghost served = { λ token now answer. IfSome answer (λ back. back ≡ token) };
+
+    fn turn(&self, token: Token, now: u64) -> Option<Token> {
+        let served = self.hall.serve(token, now);
+        if served.refusal == Some(Refusal::NoMemory) {
+            self.out_of_memory.store(true, Ordering::SeqCst);
+            return None;
+        }
+        served.token
+    }
+}
