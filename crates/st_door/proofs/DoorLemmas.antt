@@ -1,13 +1,8 @@
--- The doors and the entries of their map, and the first element that passes a test.
-use Rattle.std.proofs.Common.{◌≡◌, ℕ, zero, suc, ◌+◌, ◌<◌, ◌≤◌, Bool, nat_lt, List, [], ◌∷◌, ◌++◌, length, get_or, set, map, slice_get, Option, Some, None, Result, Ok, Err, IfOk, OnOk, OnErr, IfSome, IfNone, refl, ap, arith, inl, inr, bytes_eq, string_bytes}
+-- The first element that passes a test, and facts under a result.
+use Rattle.std.proofs.Common.{◌≡◌, ℕ, zero, suc, ◌+◌, ◌<◌, ◌≤◌, Bool, nat_lt, List, [], ◌∷◌, length, get_or, set, map, Option, Some, None, Result, Ok, Err, IfOk, OnOk, OnErr, IfSome, IfNone, refl, ap, arith, inl, inr}
 use Rattle.std.specs.List.{position, position_or_len, find}
-use Rattle.std.specs.Prelude.{String}
-use Rattle.std.specs.Map.{remove_entry}
-use Rattle.std.specs.String.{string_eq}
 use Rattle.std.proofs.lemmas.Bool.{cases_Bool, ltb-true, ltb-false}
-use Rattle.indexmap.specs.IndexMap.{set_value_at, insert_entry}
-use Rattle.st_door.specs.Doors.{NamedDoor, KeptDoor, door_named, IsFirst, has_name, door_of, without_door, change_first}
-use Rattle.st_door.specs.Entries.{door_of_entry, doors_of_entries}
+use Rattle.st_door.specs.Doors.{IsFirst, change_first}
 
 -- ---- the first element that passes
 one_more : (n : ℕ) → 1 + n ≡ suc n
@@ -75,57 +70,6 @@ find-map f test (x ∷ xs) h = elim (cases_Bool (test (f x))) [
   | inr fails ↦ let rest = rw fails at h in rw fails (find-map f test xs rest)
 ]
 
--- ---- the entries of the map
-module _ {A : Type 0} where
-  -- the door at a place is changed, where its machine was written
-  pub doors-written : (es : List (String A × KeptDoor)) (place : ℕ) (key : String A) (core new : KeptDoor) (change : NamedDoor → NamedDoor) (d : NamedDoor)
-      → slice_get es place ≡ Some (key, core)
-      → door_of_entry (key, new) ≡ change (door_of_entry (key, core))
-      → doors_of_entries (set_value_at es place new) ≡ set (doors_of_entries es) place (change (get_or (doors_of_entries es) place d))
-  doors-written [] place key core new change d at same = cc
-  doors-written (e ∷ es) zero key core new change d at same =
-      let here : e ≡ (key, core) = cc in
-      rw here (ap (λ t. t ∷ doors_of_entries es) same)
-  doors-written (e ∷ es) (suc place) key core new change d at same =
-      ap (λ t. door_of_entry e ∷ t) (doors-written es place key core new change d at same)
-
-  -- the doors stay, where the same machine was written
-  pub doors-rewritten : (es : List (String A × KeptDoor)) (place : ℕ) (key : String A) (core new : KeptDoor)
-      → slice_get es place ≡ Some (key, core) → new ≡ core
-      → doors_of_entries (set_value_at es place new) ≡ doors_of_entries es
-  doors-rewritten [] place key core new at same = refl
-  doors-rewritten (e ∷ es) zero key core new at same =
-      let here : e ≡ (key, core) = cc in
-      rw (here, same) refl
-  doors-rewritten (e ∷ es) (suc place) key core new at same =
-      ap (λ t. door_of_entry e ∷ t) (doors-rewritten es place key core new at same)
-
-  -- the door at the place of an entry
-  pub doors-at : (es : List (String A × KeptDoor)) (place : ℕ) (key : String A) (core : KeptDoor) (d : NamedDoor)
-      → slice_get es place ≡ Some (key, core) → get_or (doors_of_entries es) place d ≡ door_of_entry (key, core)
-  doors-at [] place key core d at = cc
-  doors-at (e ∷ es) zero key core d at = let here : e ≡ (key, core) = cc in ap door_of_entry here
-  doors-at (e ∷ es) (suc place) key core d at = doors-at es place key core d at
-
-  -- an entry of a new name goes last
-  pub entries-new : (es : List (String A × KeptDoor)) (key : String A) (core : KeptDoor)
-      → door_of (string_bytes key) (doors_of_entries es) ≡ None
-      → insert_entry string_eq es key core ≡ es ++ (key, core) ∷ []
-  entries-new [] key core none = refl
-  entries-new (e ∷ es) key core none = elim (cases_Bool (string_eq key e.0)) [
-    | inl passes ↦ let some = rw passes at none in cc
-    | inr fails ↦ let rest = rw fails at none in rw fails (ap (λ t. e ∷ t) (entries-new es key core rest))
-  ]
-
-  -- the doors without one
-  pub doors-removed : (name : List ℕ) (es : List (String A × KeptDoor))
-      → doors_of_entries (remove_entry (λ key. bytes_eq name (string_bytes key)) es) ≡ without_door name (doors_of_entries es)
-  doors-removed name [] = refl
-  doors-removed name (e ∷ es) = elim (cases_Bool (bytes_eq name (string_bytes e.0))) [
-    | inl passes ↦ rw passes refl
-    | inr fails ↦ rw fails (ap (λ t. door_of_entry e ∷ t) (doors-removed name es))
-  ]
-
 -- ---- facts under a result
 pub on_ok : {T E : Type 0} (P Q : Type 0) (r : Result T E) → (P → Q) → OnOk r P → OnOk r Q
 on_ok P Q (Ok x) f h = f h
@@ -146,34 +90,6 @@ if_some Q None f = tt
 pub if_none : {T : Type 0} (Q : Type 0) (o : Option T) → (o ≡ None → Q) → IfNone o Q
 if_none Q (Some x) f = tt
 if_none Q None f = f refl
-
--- the same door under a name
-pub same_door : (name : List ℕ) (one other : KeptDoor) → one ≡ other → door_named name one ≡ door_named name other
-same_door name one other same = ap (door_named name) same
-
-pub find-of_map : {X Y : Type 0} (f : X → Y) (test : Y → Bool) (xs : List X) → find test (map f xs) ≡ None → find (λ x. test (f x)) xs ≡ None
-find-of_map f test [] h = refl
-find-of_map f test (x ∷ xs) h = elim (cases_Bool (test (f x))) [
-  | inl passes ↦ let some = rw passes at h in cc
-  | inr fails ↦ let rest = rw fails at h in rw fails (find-of_map f test xs rest)
-]
-
-module _ {A : Type 0} (name : List ℕ) (es : List (String A × KeptDoor)) where
-  abbrev is_key : String A → Bool
-  is_key key = bytes_eq name (string_bytes key)
-
-  abbrev key_of : String A × KeptDoor → String A
-  key_of entry = entry.0
-
-  -- the place of a key is that of the door
-  pub entries-place : (place : ℕ) → position is_key (map key_of es) ≡ Some place → IsFirst (has_name name) (doors_of_entries es) place
-  entries-place place found =
-      IsFirst-map door_of_entry (has_name name) es place (IsFirst-of_map key_of is_key es place (IsFirst-some is_key (map key_of es) place found))
-
-  -- where there is no key, there is no door
-  pub entries-missing : position is_key (map key_of es) ≡ None → door_of name (doors_of_entries es) ≡ None
-  entries-missing missing =
-      find-map door_of_entry (has_name name) es (find-of_map key_of is_key es (find-none is_key (map key_of es) missing))
 
 pub ok_always : {T E : Type 0} (P : Type 0) (r : Result T E) → P → OnOk r P
 ok_always P (Ok x) h = h

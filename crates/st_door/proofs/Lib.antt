@@ -3,6 +3,7 @@ pub mod PieceLemmas
 pub mod StreamLemmas
 pub mod WordLemmas
 pub mod DoorLemmas
+mod NumberLemmas
 pub mod SlotLemmas
 pub mod ToldLemmas
 pub mod CellLemmas

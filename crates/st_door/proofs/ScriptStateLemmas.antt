@@ -1,5 +1,5 @@
 -- What a script keeps of its doors, and what a line makes of them.
-use Rattle.std.proofs.Common.{◌≡◌, ℕ, zero, suc, ◌+◌, ◌<◌, ◌≤◌, ◌^◌, ◌≢◌, nat_eq, Bool, true, false, nat_lt, List, [], ◌∷◌, ◌++◌, length, get_or, set, Option, Some, None, Result, Ok, Err, refl, ap, sym, ◌∙◌, arith, inl, inr, bytes_eq, length-append, lt-ltb, if◌then◌else◌}
+use Rattle.std.proofs.Common.{◌≡◌, ℕ, zero, suc, ◌+◌, ◌<◌, ◌≤◌, ◌^◌, ◌-◌, min, ◌≢◌, ◌⊎◌, nat_eq, Bool, true, false, nat_lt, List, [], ◌∷◌, ◌++◌, length, get_or, set, Option, Some, None, Result, Ok, Err, refl, ap, sym, ◌∙◌, arith, inl, inr, bytes_eq, length-append, lt-ltb, if◌then◌else◌}
 use Rattle.std.specs.Prelude.{is_some}
 use Rattle.std.specs.List.{find}
 use Rattle.std.proofs.lemmas.Bool.{cases_Bool, cases_lt}
@@ -110,18 +110,35 @@ pub slot-marked : (doors : List NamedDoor) (marks : List Bool) (name : List ℕ)
 slot-marked doors marks name place d marked first =
     freed-within marks (slots_of doors) (slots_of (without_door name doors)) (get_or doors place d).machine.id.slot marked (occurrences-without name doors place d first)
 
--- a door is gone, and its place in the table is free; any other may be ready
+-- what is below the end is not below the least of both
+at_most : (until end k : ℕ) → min until end ≤ k → k < end → until ≤ k
+at_most until end k after less = grind (arith, after, less)
+
+-- a door that is left was at the same place before, or one place further
+get_or-without : (name : List ℕ) (doors : List NamedDoor) (place k : ℕ) (d : NamedDoor) → IsFirst (has_name name) doors place
+    → (get_or (without_door name doors) k d ≡ get_or doors k d) ⊎ (get_or (without_door name doors) k d ≡ get_or doors (suc k) d)
+get_or-without name [] place k d first = absurd first
+get_or-without name (door ∷ doors) zero k d first = rw first (inr refl)
+get_or-without name (door ∷ doors) (suc place) zero d first = rw first.0 (inl refl)
+get_or-without name (door ∷ doors) (suc place) (suc k) d first = rw first.0 (get_or-without name doors place k d first.1)
+
+-- a door is gone, and its place in the table is free; those that are left rest as before, at the same place or one further up
 pub kept-without : (doors : List NamedDoor) (marks : List Bool) (from until : ℕ) (name : List ℕ) (place : ℕ) → IsKept doors marks from until → IsFirst (has_name name) doors place
-    → IsKept (without_door name doors) (set marks (get_or doors place no_door).machine.id.slot false) 0 (length (without_door name doors))
+    → IsKept (without_door name doors) (set marks (get_or doors place no_door).machine.id.slot false) (from - 1) (min until (length (without_door name doors)))
 kept-without doors marks from until name place kept first =
     let fewer : length doors ≡ length (without_door name doors) + 1 = length-without name doors place first in
     record {
-      ordered = omega arith;
-      within = omega arith;
+      ordered = grind (arith, fewer, kept.ordered, kept.within);
+      within = grind arith;
       few = omega (arith, fewer, kept.few);
       marked = marked-freed marks (slots_of doors) (slots_of (without_door name doors)) (get_or doors place no_door).machine.id.slot kept.marked
           (occurrences-without name doors place no_door first) (length-slots doors ∙ (fewer ∙ ap (λ (n : ℕ). n + 1) (sym (length-slots (without_door name doors)))));
-      resting = λ k d less outside. absurd (elim outside [ inl before ↦ omega arith | inr after ↦ omega arith ]);
+      resting = λ k d less outside.
+          let there : (k + 1 < from) ⊎ (until ≤ k) = elim outside [ inl before ↦ inl (omega arith) | inr after ↦ inr (at_most until (length (without_door name doors)) k after less) ] in
+          elim (get_or-without name doors place k d first) [
+            | inl same ↦ rw same (kept.resting k d (omega (arith, fewer)) (elim there [ inl before ↦ inl (omega arith) | inr after ↦ inr after ]))
+            | inr same ↦ rw same (kept.resting (suc k) d (omega (arith, fewer)) (elim there [ inl before ↦ inl (omega arith) | inr after ↦ inr (omega arith) ]))
+          ];
     }
 
 -- ---- the place of a name

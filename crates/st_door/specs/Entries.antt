@@ -1,5 +1,5 @@
 -- The entries of the map of doors, as doors with their names.
-use Rattle.std.specs.Prelude.{◌≡◌, ◌+◌, Bool, true, if◌then◌else◌, List, ◌++◌, Option, Some, None, map, length, string_bytes, String}
+use Rattle.std.specs.Prelude.{◌≡◌, ◌+◌, Bool, true, if◌then◌else◌, List, ◌++◌, Option, Some, None, length, string_bytes, String}
 use Rattle.st_core.specs.MachineState.{Machine}
 use Rattle.st_door.specs.declared.door.Door.{Door}
 use Rattle.st_door.specs.declared.door_content.DoorContent.{DoorContent}
@@ -58,7 +58,3 @@ pub record HasTold (command : Command DoorContent) (old new : DoorCellState) : T
 -- the door of an entry
 abbrev pub door_of_entry : {A : Type 0} → String A × KeptDoor → NamedDoor
 door_of_entry entry = door_named (string_bytes entry.0) entry.1
-
--- the doors of entries, in order
-abbrev pub doors_of_entries : {A : Type 0} → List (String A × KeptDoor) → List NamedDoor
-doors_of_entries entries = map door_of_entry entries

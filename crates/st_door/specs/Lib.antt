@@ -2,6 +2,7 @@
 pub mod Door
 pub mod Doors
 pub mod Entries
+pub mod Numbers
 pub mod Grammar
 pub mod Lines
 pub mod Printing

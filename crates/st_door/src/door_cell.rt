@@ -1,19 +1,21 @@
 //! A door of a script: its machine in a cell of its own.
-ghost use Rattle.std.specs.Prelude.{◌≡◌, true, false, IfOk, OnOk, OnErr};
+ghost use Rattle.std.specs.Prelude.{◌≡◌, true, false, IfOk, IfErr, OnOk, OnErr, MatchResult};
+ghost use Rattle.std.specs.Io.KnownBytes.{Appends};
 ghost use Rattle.st_core.specs.Choice.{is_ready_of};
 ghost use Rattle.st_core.specs.Run.{step_of};
 ghost use Rattle.st_core.specs.declared.command.Command.TheVariants as command;
 ghost use Rattle.st_scheduled.specs.Serving.{is_turn};
 ghost use Rattle.st_door.specs.Doors.{door_at_first, door_callbacks, told_kept};
+ghost use Rattle.st_door.specs.ScriptFault.{IsOfInput, write_failures_after};
+ghost use Rattle.st_door.specs.Streams.{AppendsFront};
 ghost use Rattle.st_door.specs.Traces.{trace_by};
 
 use crate::answers::DoorAnswer;
 use crate::cells::{collect, make_ready, post, reply, stop, tick, turn};
-use crate::door_states::DoorStates;
-use crate::{Door, DoorContent};
+use crate::tracing::write_trace;
+use crate::{Door, DoorContent, ScriptFault, Sink};
 use st_cell::Cell;
 use st_core::{Command, Core};
-use st_trace::trace_text;
 use std::alloc::{AllocError, Global};
 use std::marker::Model;
 
@@ -91,17 +93,25 @@ impl DoorCell {
         turn(&mut *self.cell, moment)
     }
 
-    /// The door's trace under a name. It is nothing where the history is not kept.
-    pub(crate) fn trace(&self, alloc: Global, name: &str) -> Result<Vec<u8>, AllocError>
-        ensures { IfOk result (λ text. text.items ≡ trace_by name.now self.now.machine self.now.history) }
+    /// Writes the door's trace under a name. It is nothing where the history is not kept.
+    pub(crate) fn write_trace<W: Sink>(
+        &self,
+        alloc: Global,
+        name: &str,
+        writer: &mut W,
+    ) -> Result<(), ScriptFault>
+        ensures written { OnOk result (Appends (W.held writer.old) (W.held writer.new) (trace_by name.now self.now.machine self.now.history)) }
+
+        ensures faults { IfErr result (λ fault. IsOfInput fault → ⊥) }
+        ensures failures { MatchResult result (λ _. W.failures writer.new ≡ W.failures writer.old)
+            (λ fault. W.failures writer.new ≡ write_failures_after fault (W.failures writer.old)) }
+        ensures front { OnErr result (AppendsFront (W.held writer.old) (W.held writer.new) (trace_by name.now self.now.machine self.now.history)) }
     {
-        if self.keeps {
-            match self.cell.journal(name) {
-                Ok(journal) => trace_text(alloc, &journal, &DoorStates),
-                Err(_) => Err(AllocError),
-            }
-        } else {
-            Ok(Vec::new(alloc))
+        if !self.keeps {
+            return Ok(());
         }
+        let id = self.cell.core().id();
+        let from = self.cell.base().latest;
+        write_trace(alloc, id, name, from, self.cell.entries(), writer)
     }
 }

@@ -1,15 +1,19 @@
 //! The doors of a script, by name, in order of registration.
-ghost use Rattle.std.specs.Prelude.{◌≡◌, ◌<◌, ◌≤◌, true, false, [], ◌∷◌, ◌++◌, None, is_some, IfOk, OnOk, OnErr, IfSome, IfNone, length, slice_set, slice_index_or, string_bytes};
+ghost use Rattle.std.specs.Prelude.{◌≡◌, ◌<◌, ◌≤◌, true, false, [], ◌∷◌, ◌++◌, None, is_some, IfOk, IfErr, OnOk, OnErr, MatchResult, IfSome, IfNone, length, slice_set, slice_index_or, string_bytes};
+ghost use Rattle.std.specs.Io.KnownBytes.{Appends};
 ghost use Rattle.st_core.specs.declared.command.Command.TheVariants as command;
 ghost use Rattle.st_scheduled.specs.Serving.{is_turn};
 ghost use Rattle.st_door.specs.Doors.{NamedDoor, door_named, IsFirst, has_name, door_of, without_door, is_ready_door, told_of, told_door, all_expired_of, ticked_doors, SameLabels, door_limit};
 ghost use Rattle.st_door.specs.Printing.{status_of, names_text};
+ghost use Rattle.st_door.specs.ScriptFault.{IsOfInput, write_failures_after};
+ghost use Rattle.st_door.specs.Streams.{AppendsFront};
 ghost use Rattle.st_door.specs.Traces.{trace_of_door};
 
-use crate::DoorContent;
 use crate::answers::{DoorAnswer, count_in};
 use crate::door_cell::DoorCell;
+use crate::numbers::Numbers;
 use crate::printing::{ended_status, status};
+use crate::{DoorContent, ScriptFault, Sink};
 use indexmap::IndexMap;
 use st_core::Command;
 use st_events::MachineId;
@@ -17,19 +21,27 @@ use std::alloc::{AllocError, Global};
 use std::marker::Model;
 
 /// The doors of a script. Contracts see the list of the doors with their names.
+///
+/// Each door has a number, under which it stands in the table; a name's number is found by the order of names. So whoever
+/// picks the names cannot make a look-up slow. The numbers rise in the order of registration.
 #[derive(Drop)]
 pub(crate) struct Doors {
-    entries: IndexMap<String, DoorCell>,
+    alloc: Global,
+    entries: IndexMap<u64, (String, DoorCell)>,
+    numbers: Numbers,
+    next: u64,
 }
 
 impl Model for Doors {
     ghost use Rattle.std.specs.Prelude.{List};
     ghost use Rattle.st_door.specs.Doors.{NamedDoor};
-    ghost use Rattle.st_door.specs.Entries.{doors_of_entries};
+    ghost use Rattle.st_door.specs.Numbers.{doors_of_numbered, AreNumbered, HasNumbers};
 
     ghost Value = { List NamedDoor };
 
-    ghost view = { λ doors. doors_of_entries doors.entries.entries };
+    ghost view = { λ doors. doors_of_numbered doors.entries.entries };
+
+    ghost invariant = { λ doors. HasNumbers doors.numbers.numbers doors.entries.entries × AreNumbered 0 doors.entries.entries doors.next };
 }
 
 impl Doors {
@@ -38,7 +50,10 @@ impl Doors {
         ensures { result ≡ [] }
     {
         Doors {
+            alloc,
             entries: IndexMap::new(alloc),
+            numbers: Numbers::new(alloc),
+            next: 0,
         }
     }
 
@@ -55,7 +70,8 @@ impl Doors {
 
         ensures missing { IfNone result (door_of name.now self.now ≡ None) }
     {
-        self.entries.get_index_of(name)
+        let number = self.numbers.get(name)?;
+        self.entries.get_index_of(&number)
     }
 
     /// Registers a door under a name that is not taken.
@@ -65,7 +81,18 @@ impl Doors {
 
         ensures unchanged { OnErr result (self.new ≡ self.old) }
     {
-        self.entries.insert(name, door)?;
+        let place = self.entries.len();
+        let number = self.next;
+        let Some(next) = number.checked_add(1) else {
+            return Err(AllocError);
+        };
+        let key = String::from_str(self.alloc, name.as_str())?;
+        self.entries.insert(number, (name, door))?;
+        if let Err(error) = self.numbers.insert(key, number) {
+            self.entries.truncate(place);
+            return Err(error);
+        }
+        self.next = next;
         Ok(())
     }
 
@@ -73,7 +100,9 @@ impl Doors {
     pub(crate) fn remove(&mut self, name: &str)
         ensures { self.new ≡ without_door name.now self.old }
     {
-        drop(self.entries.shift_remove(name));
+        if let Some(number) = self.numbers.remove(name) {
+            drop(self.entries.shift_remove(&number));
+        }
     }
 
     /// The name and the door at a place.
@@ -81,7 +110,8 @@ impl Doors {
         requires { place < length self.now }
         ensures { (d : NamedDoor) → door_named (string_bytes result.0.now) result.1.now ≡ slice_index_or self.now place d }
     {
-        self.entries.get_index(place).unwrap()
+        let (_, entry) = self.entries.get_index(place).unwrap();
+        (&entry.0, &entry.1)
     }
 
     /// The id of the door at a place.
@@ -122,8 +152,8 @@ impl Doors {
 
         ensures unchanged { OnErr result (self.new ≡ self.old) }
     {
-        let (_, door) = self.entries.pair_mut(place);
-        door.tell(command)
+        let (_, entry) = self.entries.pair_mut(place);
+        entry.1.tell(command)
     }
 
     /// Gives the door at a place, which is ready, a turn. Where memory is wanted and there is none, the doors stay.
@@ -134,8 +164,8 @@ impl Doors {
 
         ensures unchanged { OnErr result (self.new ≡ self.old) }
     {
-        let (_, door) = self.entries.pair_mut(place);
-        door.turn(moment)
+        let (_, entry) = self.entries.pair_mut(place);
+        entry.1.turn(moment)
     }
 
     /// Ticks each door, in order of registration, and answers how many time-outs expire.
@@ -188,12 +218,22 @@ impl Doors {
         )
     }
 
-    /// The trace of the door at a place.
-    pub(crate) fn trace_at(&self, alloc: Global, place: usize) -> Result<Vec<u8>, AllocError>
+    /// Writes the trace of the door at a place.
+    pub(crate) fn write_trace_at<W: Sink>(
+        &self,
+        alloc: Global,
+        place: usize,
+        writer: &mut W,
+    ) -> Result<(), ScriptFault>
         requires { place < length self.now }
-        ensures { IfOk result (λ text. (d : NamedDoor) → text.items ≡ trace_of_door (slice_index_or self.now place d)) }
+        ensures written { OnOk result ((d : NamedDoor) → Appends (W.held writer.old) (W.held writer.new) (trace_of_door (slice_index_or self.now place d))) }
+
+        ensures faults { IfErr result (λ fault. IsOfInput fault → ⊥) }
+        ensures failures { MatchResult result (λ _. W.failures writer.new ≡ W.failures writer.old)
+            (λ fault. W.failures writer.new ≡ write_failures_after fault (W.failures writer.old)) }
+        ensures front { OnErr result ((d : NamedDoor) → AppendsFront (W.held writer.old) (W.held writer.new) (trace_of_door (slice_index_or self.now place d))) }
     {
         let (name, door) = self.entry_at(place);
-        door.trace(alloc, name.as_str())
+        door.write_trace(alloc, name.as_str(), writer)
     }
 }

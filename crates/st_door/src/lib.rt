@@ -22,6 +22,7 @@ mod laws;
 mod line;
 mod lines;
 mod mode;
+mod numbers;
 mod output;
 mod printing;
 mod run;
@@ -32,6 +33,7 @@ mod sink;
 mod slots;
 mod source;
 mod text;
+mod tracing;
 mod until_idle;
 mod word_forms;
 

@@ -89,7 +89,8 @@ pub(crate) fn trace_input<W: Sink>(
 /// Reads a script, does its lines and writes what they print; or, in mode `Trace`, the traces of the doors that are left at
 /// its end. The answer is the status: 1 where a line was refused or malformed, else 0.
 ///
-/// The whole input is read before the first line is done. The output is written line by line, or trace by trace.
+/// The whole input is read before the first line is done. The output is written line by line; a trace while it is made,
+/// piece by piece.
 ///
 /// `Read`: a read failed. `TooLong`: the input has more than 1,048,576 bytes. After these nothing was
 /// written. `Write`: a write failed or took no bytes. `Memory`: memory was wanted and there was none.

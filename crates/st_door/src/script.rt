@@ -16,7 +16,6 @@ use crate::door_cell::DoorCell;
 use crate::doors::Doors;
 use crate::effect::Effect;
 use crate::line::Line;
-use crate::output::write_output;
 use crate::printing::{code_length, expired, removed};
 use crate::slots::Slots;
 use crate::text::Text;
@@ -244,7 +243,7 @@ impl Script {
         }
     }
 
-    /// Takes out the door of a name, which is at this place. From then on any door may be ready.
+    /// Takes out the door of a name, which is at this place. Those behind it move up by one place, and none becomes ready.
     fn remove_door(&mut self, name: &str, place: usize)
         requires { IsFirst (has_name name.now) self.old.doors place }
         ensures { self.new ≡ without_named self.old name.now }
@@ -252,8 +251,8 @@ impl Script {
         let slot = self.doors.id_at(place).slot;
         self.doors.remove(name);
         self.slots.free(slot);
-        self.from = 0;
-        self.until = self.doors.len();
+        self.from = self.from.saturating_sub(1);
+        self.until = self.until.min(self.doors.len());
     }
 
     /// Tells the door at a place a command that is no turn, and answers its answer. From then on the door may be ready.
@@ -297,7 +296,7 @@ impl Script {
         Ok(())
     }
 
-    /// Writes the traces of the doors, in order of registration, one after another.
+    /// Writes the traces of the doors, in order of registration, one after another, each piece by piece.
     pub(crate) fn write_traces<W: Sink>(&self, writer: &mut W) -> Result<(), ScriptFault>
         ensures written { OnOk result (Appends (W.held writer.old) (W.held writer.new) (traces_of self.now.doors)) }
 
@@ -307,8 +306,7 @@ impl Script {
         ensures front { OnErr result (AppendsFront (W.held writer.old) (W.held writer.new) (traces_of self.now.doors)) }
     {
         for place in 0..self.doors.len() {
-            let text = self.doors.trace_at(self.alloc, place)?;
-            write_output(writer, text.as_slice())?;
+            self.doors.write_trace_at(self.alloc, place, writer)?;
         }
         Ok(())
     }

@@ -78,18 +78,26 @@ fn put_off<S, C>(entries: &[JournalEntry<S, C>]) -> usize
     entries.iter().filter(|entry| has_put_off(entry)).count()
 }
 
-/// What a journal's entries come to. A turn that ended the machine counts among the turns alone; of a journal that was
-/// cut the entries that are left count. It takes no memory.
+/// What entries of a journal come to. A turn that ended the machine counts among the turns alone. It takes no memory.
 ///
 /// Ours: docs/SCRIPTS.md, Traces.
-pub fn summary<S, C>(journal: &Journal<S, C>) -> Totals
-    ensures { result ≡ totals_of journal.now.entries }
+pub fn totals_in<S, C>(entries: &[JournalEntry<S, C>]) -> Totals
+    ensures { result ≡ totals_of entries.now }
 {
-    let entries = journal.entries.as_slice();
     Totals {
         posts: posts(entries),
         turns: turns(entries),
         finished: finished(entries),
         put_off: put_off(entries),
     }
+}
+
+/// What a journal's entries come to, as `totals_in` counts them; of a journal that was cut the entries that are left
+/// count. It takes no memory.
+///
+/// Ours: docs/SCRIPTS.md, Traces.
+pub fn summary<S, C>(journal: &Journal<S, C>) -> Totals
+    ensures { result ≡ totals_of journal.now.entries }
+{
+    totals_in(journal.entries.as_slice())
 }

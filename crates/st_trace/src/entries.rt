@@ -20,8 +20,11 @@ pub(crate) fn word<C>(command: &Command<C>) -> &'static str
     }
 }
 
-/// The latest moment after a command, by the latest before it.
-pub(crate) fn latest_after<C>(latest: u64, command: &Command<C>) -> u64
+/// The latest moment that a machine has seen after a command, by the latest before it, in milliseconds: ticks and turns
+/// are handed one. It takes no memory.
+///
+/// Ours: docs/SCRIPTS.md, Traces.
+pub fn latest_after<C>(latest: u64, command: &Command<C>) -> u64
     ensures { result ≡ latest_after latest command.now }
 {
     match command {

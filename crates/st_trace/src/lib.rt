@@ -10,7 +10,9 @@ mod state_names;
 mod totals;
 mod tracing;
 
-pub use counting::summary;
+pub use counting::{summary, totals_in};
+pub use entries::latest_after;
+pub use lines::{entry_line, machine_line, summary_line};
 pub use st_cell::{Journal, JournalEntry};
 pub use state_names::StateNames;
 pub use totals::Totals;

@@ -30,17 +30,26 @@ fn number_or_hyphen(alloc: Global, number: Option<u64>) -> Result<String, AllocE
     }
 }
 
-/// The line of a machine.
-pub(crate) fn machine_line(alloc: Global, id: MachineId, label: &str) -> Result<String, AllocError>
+/// The first line of a trace, that of the machine: its id and its label. It ends with a line feed.
+///
+/// Where there is no memory there is no line.
+///
+/// Ours: docs/SCRIPTS.md, Traces.
+pub fn machine_line(alloc: Global, id: MachineId, label: &str) -> Result<String, AllocError>
     ensures { IfOk result (λ text. string_bytes text ≡ machine_line id label.now) }
 {
     let MachineId { slot, serial } = id;
     format!(in alloc; "machine {slot} {serial} {label}\n")
 }
 
-/// The line of an entry, by the latest moment after it.
+/// The line of an entry, by the latest moment that the machine had seen after it, in milliseconds (`latest_after`). It
+/// ends with a line feed.
+///
+/// Where there is no memory there is no line; the entry is only read.
+///
+/// Ours: docs/SCRIPTS.md, Traces.
 #[tactic(auto, using(crate::proofs::ColumnLemmas::number_to_the_right, crate::proofs::ColumnLemmas::text_to_the_right, crate::proofs::ColumnLemmas::text_to_the_left))]
-pub(crate) fn entry_line<S: Copy, C, N: StateNames<S>>(
+pub fn entry_line<S: Copy, C, N: StateNames<S>>(
     alloc: Global,
     names: &N,
     latest: u64,
@@ -57,8 +66,12 @@ pub(crate) fn entry_line<S: Copy, C, N: StateNames<S>>(
     format!(in alloc; "{place:>10} {port:>6} {word:<7} {moment:>19} {number:>10} {rest}\n")
 }
 
-/// The line of what was counted.
-pub(crate) fn summary_line(alloc: Global, totals: Totals) -> Result<String, AllocError>
+/// The last line of a trace, that of what was counted. It ends with a line feed.
+///
+/// Where there is no memory there is no line.
+///
+/// Ours: docs/SCRIPTS.md, Traces.
+pub fn summary_line(alloc: Global, totals: Totals) -> Result<String, AllocError>
     ensures { IfOk result (λ text. string_bytes text ≡ summary_line totals) }
 {
     let Totals {

@@ -2,6 +2,8 @@
 //! It knows nothing of any rule.
 #![tactic(auto)]
 
+mod called;
+
 ghost use Rattle.std.specs.Prelude.{◌≡◌, ◌<◌, IfOk, IfErr, IfSome, OnOk, OnErr, MatchResult, Err};
 ghost use Rattle.std.specs.Io.KnownBytes.{Appends, IsAtEnd, Keeps};
 ghost use Rattle.st_door.specs.Script.{DoesSome, output_of, status_of_script};
@@ -10,6 +12,7 @@ ghost use Rattle.st_door.specs.Streams.{AppendsFront, ConsumesMoreThan};
 ghost use Rattle.statem.specs.Program.{mode_of, status_of};
 ghost use Rattle.st_words.specs.Order.{HasWorkers};
 
+use crate::called::Called;
 use clap::Error;
 use clap::error::ErrorKind;
 use st_door::{Counted, INPUT_LIMIT, Mode, ScriptFault, Sink, Source, run_script};
@@ -34,9 +37,9 @@ fn status_of(fault: ScriptFault) -> u8
     }
 }
 
-/// The program's name and the words after it.
+/// The program's name and the words after it. A name that is not text is no word: it counts as empty.
 fn words(rt: &HostRuntime) -> io::Result<Vec<String>> {
-    Ok(env::args(rt)?.collect(rt.alloc())?)
+    Ok(env::args(&Called { rt })?.collect(rt.alloc())?)
 }
 
 /// Does what is asked for between a reader and a writer, and answers the script's status. Without workers it is

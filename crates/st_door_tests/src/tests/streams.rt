@@ -171,8 +171,8 @@ pub fn ends(
     }
     same(rt, "what is written", &writer.held.as_slice(), &output);
     same(rt, "the answer", &answer, &wanted);
-    // A writer that takes all is handed each line by one write. Traces come a door at a time.
-    let comes_by_lines = writer.by_lines || way.most < usize::MAX || way.mode == Mode::Trace;
+    // A writer that takes all is handed each line by one write, in traces too.
+    let comes_by_lines = writer.by_lines || way.most < usize::MAX;
     holds(rt, "each line comes by one write", comes_by_lines);
 }
 

@@ -9,8 +9,11 @@ use rows::{Row, Turn, journal};
 use st_cell::Entry;
 use st_core::Done;
 use st_events::{Kind, MachineId, Tag, Timer};
-use st_trace::{Journal, StateNames, Totals, summary, trace_text};
-use std::alloc::Global;
+use st_trace::{
+    Journal, StateNames, Totals, entry_line, latest_after, machine_line, summary, summary_line,
+    totals_in, trace_text,
+};
+use std::alloc::{AllocError, Global};
 use std::process::Abort;
 
 /// The names of a door's states.
@@ -49,6 +52,31 @@ fn text_of(rt: &Host<impl Abort>, alloc: Global, journal: &Journal<bool, char>) 
     got(rt, "one allocation alone is refused", again)
 }
 
+/// The lines of a journal's trace, made one by one and put together.
+fn joined(alloc: Global, journal: &Journal<bool, char>) -> Result<Vec<u8>, AllocError> {
+    let entries = journal.entries.as_slice();
+    let mut text = machine_line(alloc, journal.id, journal.label.as_str())?;
+    let mut latest = journal.from;
+    for entry in entries {
+        latest = latest_after(latest, &entry.command);
+        let line = entry_line(alloc, &Names, latest, entry)?;
+        text.push_str(line.as_str())?;
+    }
+    let line = summary_line(alloc, totals_in(entries))?;
+    text.push_str(line.as_str())?;
+    Ok(text.into_bytes())
+}
+
+/// The same, where memory was refused, once more.
+fn lines_of(rt: &Host<impl Abort>, alloc: Global, journal: &Journal<bool, char>) -> Vec<u8> {
+    if let Ok(text) = joined(alloc, journal) {
+        return text;
+    }
+    rt.retry();
+    let again = joined(alloc, journal);
+    got(rt, "one allocation alone is refused", again)
+}
+
 /// The rows come to these totals and print this text.
 fn prints(
     rt: &Host<impl Abort>,
@@ -62,6 +90,8 @@ fn prints(
     same(rt, "the totals", &summary(&journal), &totals);
     let text = text_of(rt, alloc, &journal);
     same(rt, "the text", &text.as_slice(), &wanted.as_bytes());
+    let lines = lines_of(rt, alloc, &journal);
+    same(rt, "the lines", &lines.as_slice(), &wanted.as_bytes());
 }
 
 /// A turn of a locked door at the moment 0, that finished its event and set a timer.

@@ -1,11 +1,25 @@
-use Rattle.std.proofs.Common.{◌∙◌, sym}
-use Rattle.st_door.proofs.DoorLemmas.{if_some, if_none, entries-place, entries-missing}
+use Rattle.std.proofs.Common.{◌≡◌, ◌∙◌, sym, map, nat_eq, None, Some}
+use Rattle.st_door.specs.Numbers.{number_of}
+use Rattle.st_door.proofs.DoorLemmas.{if_some, if_none, IsFirst-some, find-none}
+use Rattle.st_door.proofs.NumberLemmas.{numbered-place, number-missing, number-present}
 use Rattle.st_door.proofs.doors.Doors.place_of.Goals as goal
 
+pub returns-in_err-number-clause-missing : goal.returns-in_err-number-clause-missing
+returns-in_err-number-clause-missing c =
+    let none : number_of c.args.name.now c.self.inside.entries.entries ≡ None = sym (c.self.invariant.0 c.args.name.now) ∙ sym c.in_err-number.ensures in
+    if_none _ c.from_residual.result (λ _. rw (← c.self.view_is) (number-missing c.args.name.now c.self.inside.entries.entries none))
+
 pub returns-clause-place : goal.returns-clause-place
-returns-clause-place c = if_some _ c.get_index_of.result (λ place found.
-    rw (← c.self.view_is) (entries-place c.args.name.now c.self.inside.entries.entries place (sym c.get_index_of.ensures.index ∙ found)))
+returns-clause-place c =
+    let entries = c.self.inside.entries.entries in
+    let found : number_of c.args.name.now entries ≡ Some c.in_ok-number.number = sym (c.self.invariant.0 c.args.name.now) ∙ sym c.in_ok-number.ensures in
+    if_some _ c.get_index_of.result (λ place is.
+    rw (← c.self.view_is) (numbered-place 0 entries c.self.inside.next c.args.name.now c.in_ok-number.number place c.self.invariant.1 found
+    (IsFirst-some _ _ place (sym c.get_index_of.ensures.index ∙ is))))
 
 pub returns-clause-missing : goal.returns-clause-missing
-returns-clause-missing c = if_none _ c.get_index_of.result (λ missing.
-    rw (← c.self.view_is) (entries-missing c.args.name.now c.self.inside.entries.entries (sym c.get_index_of.ensures.index ∙ missing)))
+returns-clause-missing c =
+    let entries = c.self.inside.entries.entries in
+    let found : number_of c.args.name.now entries ≡ Some c.in_ok-number.number = sym (c.self.invariant.0 c.args.name.now) ∙ sym c.in_ok-number.ensures in
+    if_none _ c.get_index_of.result (λ missing.
+    absurd (number-present c.args.name.now entries c.in_ok-number.number found (find-none (λ key. nat_eq c.in_ok-number.number key) (map (λ e. e.0) entries) (sym c.get_index_of.ensures.index ∙ missing))))

@@ -1,13 +1,54 @@
-use Rattle.std.proofs.Common.{◌∙◌, ap, ◌++◌, ◌∷◌, []}
-use Rattle.std.proofs.lemmas.List.{map-append}
-use Rattle.st_door.specs.Entries.{door_of_entry, doors_of_entries}
-use Rattle.st_door.proofs.DoorLemmas.{entries-new}
+use Rattle.std.proofs.Common.{rules, ◌≡◌, ℕ, ◌+◌, List, [], ◌∷◌, ◌++◌, take, Option, Some, None, if◌then◌else◌, bytes_eq, string_bytes, ap, sym, ◌∙◌}
+use Rattle.std.proofs.Math.Seq.{take-append_seam}
+use Rattle.std.specs.BTreeMap.{get_by_text}
+use Rattle.st_door.specs.Doors.{NamedDoor, door_named}
+use Rattle.st_door.specs.Numbers.{doors_of_numbered, number_of}
+use Rattle.st_door.proofs.NumberLemmas.{number-free, inserted-last, doors-last, number-last, numbered-last}
 use Rattle.st_door.proofs.doors.Doors.push.Goals as goal
 
--- the new entry goes last, and so does the door
+-- the entry that was put last is gone again
+back : (c : goal.After-truncate) → c.truncate.new.self.entries ≡ c.self.inside.entries.entries
+back c =
+    let entries = c.self.inside.entries.entries in
+    let last : c.insert.new.self.entries ≡ entries ++ (c.self.inside.next, (c.args.name, c.args.door)) ∷ [] =
+    c.in_ok-insert.ensures.entries ∙ inserted-last 0 entries c.self.inside.next (c.args.name, c.args.door) c.self.invariant.1 in
+    c.truncate.ensures.entries
+    ∙ (ap (take c.len-place.result) last
+    ∙ (ap (λ (n : ℕ). take n (entries ++ (c.self.inside.next, (c.args.name, c.args.door)) ∷ [])) c.len-place.ensures.len
+    ∙ take-append_seam entries ((c.self.inside.next, (c.args.name, c.args.door)) ∷ [])))
+
+pub invariant_of-self-in-Err : goal.invariant_of-self-in-Err
+invariant_of-self-in-Err c = (
+  λ other. c.in-Err.ensures.unchanged other ∙ (c.self.invariant.0 other ∙ ap (number_of other) (sym (back c))),
+  rw (back c) c.self.invariant.1,
+)
+
+pub returns-in-Err-clause-unchanged : goal.returns-in-Err-clause-unchanged
+returns-in-Err-clause-unchanged c = ap doors_of_numbered (back c) ∙ c.self.view_is
+
+-- the door stands last, and its name has its number
+pub invariant_of-self-2 : goal.invariant_of-self-2
+invariant_of-self-2 c =
+    let entries = c.self.inside.entries.entries in
+    let name : List ℕ = string_bytes c.args.name in
+    let next : ℕ = c.self.inside.next in
+    let free : number_of (string_bytes c.args.name) entries ≡ None = number-free (string_bytes c.args.name) entries (rw c.self.view_is c.requires) in
+    let last : c.insert.new.self.entries ≡ entries ++ (c.self.inside.next, (c.args.name, c.args.door)) ∷ [] =
+    c.in_ok-insert.ensures.entries ∙ inserted-last 0 entries c.self.inside.next (c.args.name, c.args.door) c.self.invariant.1 in
+    let key : string_bytes c.in_ok-key.key ≡ string_bytes c.args.name = c.in_ok-key.ensures.ok ∙ c.as_str.ensures.value in
+    let counted : c.in-Some.next ≡ c.self.inside.next + 1 = search rules in (
+      λ other. c.in_default-insert.ensures.inserted other
+          ∙ (ap (λ (n : List ℕ). if bytes_eq n other then Some next else get_by_text c.self.inside.numbers.numbers other) key
+          ∙ (ap (λ (found : Option ℕ). if bytes_eq name other then Some next else found) (c.self.invariant.0 other)
+          ∙ (sym (number-last entries next c.args.name c.args.door other free) ∙ ap (number_of other) (sym last)))),
+      rw (last, counted) (numbered-last 0 entries c.self.inside.next c.args.name c.args.door c.self.invariant.1 free),
+    )
+
 pub returns-clause-pushed : goal.returns-clause-pushed
 returns-clause-pushed c =
-    let es = c.self.inside.entries.entries in
-    let new = entries-new es c.args.name c.args.door (rw c.self.view_is c.requires) in
-    ap doors_of_entries (c.in_ok-insert.ensures.entries ∙ new)
-    ∙ (map-append door_of_entry es ((c.args.name, c.args.door) ∷ []) ∙ ap (λ t. t ++ door_of_entry (c.args.name, c.args.door) ∷ []) c.self.view_is)
+    let entries = c.self.inside.entries.entries in
+    let last : c.insert.new.self.entries ≡ entries ++ (c.self.inside.next, (c.args.name, c.args.door)) ∷ [] =
+    c.in_ok-insert.ensures.entries ∙ inserted-last 0 entries c.self.inside.next (c.args.name, c.args.door) c.self.invariant.1 in
+    ap doors_of_numbered last
+    ∙ (doors-last entries c.self.inside.next c.args.name c.args.door
+    ∙ ap (λ (doors : List NamedDoor). doors ++ door_named (string_bytes c.args.name) c.args.door ∷ []) c.self.view_is)

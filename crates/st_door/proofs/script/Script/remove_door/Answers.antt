@@ -1,4 +1,4 @@
-use Rattle.std.proofs.Common.{◌≡◌, ap}
+use Rattle.std.proofs.Common.{rules, ◌≡◌, ◌-◌, min, length, ap}
 use Rattle.st_door.specs.Doors.{has_name}
 use Rattle.st_door.specs.Script.{ScriptState}
 use Rattle.st_door.proofs.DoorLemmas.{IsFirst-within}
@@ -23,5 +23,7 @@ free-requires c =
 pub invariant_of-self : goal.invariant_of-self
 invariant_of-self c =
     let doors : c.self.inside.doors ≡ c.args.self.now.doors = ap (λ (script : ScriptState). script.doors) c.self.view_is in
-    rw (c.len-self-inside.ensures, c.free.ensures, c.remove.ensures, c.id_at-slot.ensures no_door)
+    let low : c.saturating_sub-self-inside.result ≡ c.self.inside.from - 1 = search rules in
+    let high : c.min-self-inside.result ≡ min c.self.inside.until (length c.remove.new.self) = search rules in
+    rw (high, low, c.free.ensures, c.remove.ensures, c.id_at-slot.ensures no_door)
     (kept-without c.self.inside.doors c.self.inside.slots c.self.inside.from c.self.inside.until c.args.name.now c.args.place c.self.invariant (rw doors c.requires))

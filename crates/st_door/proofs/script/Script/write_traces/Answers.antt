@@ -1,5 +1,6 @@
-use Rattle.std.proofs.Common.{rules, ◌≡◌, ◌+◌, List, ◌∷◌, ◌++◌, drop, get_or}
+use Rattle.std.proofs.Common.{rules, ◌≡◌, ◌+◌, List, ◌∷◌, ◌++◌, drop, get_or, refl, ap}
 use Rattle.st_door.specs.Doors.{NamedDoor}
+use Rattle.st_door.specs.Script.{ScriptState}
 use Rattle.st_door.specs.Traces.{trace_of_door}
 use Rattle.st_door.proofs.IdleLemmas.{no_door}
 use Rattle.st_door.proofs.ScriptLemmas.{doors_left-cons, front_more, traces_step}
@@ -13,22 +14,25 @@ loop-place-preserved g c =
     let doors : List NamedDoor = c.args.self.now.doors in
     let door : NamedDoor = get_or doors place no_door in
     let here : drop place doors ≡ door ∷ drop (place + 1) doors = doors_left-cons doors place no_door (search rules) in
-    let text : c.as_slice.result.now ≡ trace_of_door door = search rules in (
+    let same : c.self.inside.doors ≡ c.args.self.now.doors = ap (λ (script : ScriptState). script.doors) c.self.view_is in
+    let written = rw same at (c.in_ok-write_trace_at.ensures.written no_door) in (
       search rules,
       (
-        c.loop-place.invariant.1.0 ++ c.as_slice.result.now,
-        appends_more _ _ _ _ _ c.loop-place.invariant.1.1 c.in_ok-write_output.ensures.written,
-        traces_step _ _ _ _ _ _ here text c.loop-place.invariant.1.2,
+        c.loop-place.invariant.1.0 ++ trace_of_door door,
+        appends_more _ _ _ _ _ c.loop-place.invariant.1.1 written,
+        traces_step _ (trace_of_door door) door _ _ _ here refl c.loop-place.invariant.1.2,
       ),
     )
 
 -- the write stopped within a trace
-pub returns-in_err-write_output-clause-front : goal.returns-in_err-write_output-clause-front
-returns-in_err-write_output-clause-front g c =
+pub returns-in_err-write_trace_at-clause-front : goal.returns-in_err-write_trace_at-clause-front
+returns-in_err-write_trace_at-clause-front g c =
     let place = c.loop-place.place in
     let doors : List NamedDoor = c.args.self.now.doors in
     let door : NamedDoor = get_or doors place no_door in
     let here : drop place doors ≡ door ∷ drop (place + 1) doors = doors_left-cons doors place no_door (search rules) in
-    let text : c.as_slice.result.now ≡ trace_of_door door = search rules in
-    let front = front_more _ _ _ _ _ _ _ c.loop-place.invariant.1.1 c.in_err-write_output.ensures.front (traces_step _ _ _ _ _ _ here text c.loop-place.invariant.1.2) in
+    let same : c.self.inside.doors ≡ c.args.self.now.doors = ap (λ (script : ScriptState). script.doors) c.self.view_is in
+    let stopped = rw same at (c.in_err-write_trace_at.ensures.front no_door) in
+    let front = front_more _ _ _ _ (trace_of_door door) _ _ c.loop-place.invariant.1.1 stopped
+    (traces_step _ (trace_of_door door) door _ _ _ here refl c.loop-place.invariant.1.2) in
     search rules

@@ -1,0 +1,265 @@
+-- Doors by their numbers, and numbers by names.
+use Rattle.std.proofs.Common.{◌≡◌, ℕ, zero, suc, ◌+◌, ◌≤◌, ◌≢◌, true, false, nat_eq, if◌then◌else◌, List, [], ◌∷◌, ◌++◌, get_or, set, map, find, slice_get, Option, Some, None, String, refl, ap, sym, ◌∙◌, arith, inl, inr, bytes_eq, string_bytes, eqb-true}
+use Rattle.std.specs.Map.{remove_entry}
+use Rattle.std.proofs.lemmas.Bool.{cases_Bool, eq-eqb, false_from_ne_true}
+use Rattle.std.proofs.lemmas.List.{map-append}
+use Rattle.std.proofs.lemmas.Slice.Eq.{bytes_eq-Decides}
+use Rattle.indexmap.specs.IndexMap.{insert_entry, set_value_at}
+use Rattle.st_door.specs.Doors.{NamedDoor, KeptDoor, IsFirst, door_named, door_of, has_name, without_door}
+use Rattle.st_door.specs.Entries.{door_of_entry}
+use Rattle.st_door.specs.Numbers.{Numbered, doors_of_numbered, number_of, AreNumbered}
+
+-- ---- numbers and names compared
+other_number : (a b : ℕ) → a ≢ b → nat_eq a b ≡ false
+other_number a b apart = false_from_ne_true (nat_eq a b) (λ same. apart (eqb-true a b same))
+
+same_name : (a b : List ℕ) → bytes_eq a b ≡ true → a ≡ b
+same_name a b same = (bytes_eq-Decides a b).0 same
+
+is_name : (a b : List ℕ) → a ≡ b → bytes_eq a b ≡ true
+is_name a b same = (bytes_eq-Decides a b).1 same
+
+name_flips : (a b : List ℕ) → bytes_eq a b ≡ false → bytes_eq b a ≡ false
+name_flips a b apart = elim (cases_Bool (bytes_eq b a)) [
+  | inl same ↦ let true_too : bytes_eq a b ≡ true = is_name a b (sym (same_name b a same)) in cc
+  | inr other ↦ other
+]
+
+module _ {A : Type 0} where
+  -- ---- numbers rise
+  -- up to the next one
+  rising : (from : ℕ) (es : List (Numbered A)) (next : ℕ) → AreNumbered from es next → from ≤ next
+  rising from [] next are = are
+  rising from (e ∷ es) next are = let rest : suc e.0 ≤ next = rising (suc e.0) es next are.2 in omega (arith, are.0, rest)
+
+  -- from any lower one as well
+  lower : (low from : ℕ) (es : List (Numbered A)) (next : ℕ) → low ≤ from → AreNumbered from es next → AreNumbered low es next
+  lower low from [] next less are = omega (arith, less, are)
+  lower low from (e ∷ es) next less are = (omega (arith, less, are.0), are.1, are.2)
+
+  -- the number of a name is among them
+  above : (from : ℕ) (es : List (Numbered A)) (next : ℕ) (name : List ℕ) (number : ℕ) → AreNumbered from es next → number_of name es ≡ Some number → from ≤ number
+  above from [] next name number are is = cc
+  above from (e ∷ es) next name number are is = elim (cases_Bool (bytes_eq name (string_bytes e.1.0))) [
+    | inl same ↦ let found = rw same at is in let here : e.0 ≡ number = cc in omega (arith, are.0, here)
+    | inr other ↦ let rest = rw other at is in let least : suc e.0 ≤ number = above (suc e.0) es next name number are.2 rest in omega (arith, are.0, least)
+  ]
+
+  -- ---- look-ups
+  -- the place of a name's number is that of the door
+  pub numbered-place : (from : ℕ) (es : List (Numbered A)) (next : ℕ) (name : List ℕ) (number place : ℕ) → AreNumbered from es next → number_of name es ≡ Some number
+      → IsFirst (λ key. nat_eq number key) (map (λ e. e.0) es) place → IsFirst (has_name name) (doors_of_numbered es) place
+  numbered-place from [] next name number place are is first = absurd first
+  numbered-place from (e ∷ es) next name number zero are is first = elim (cases_Bool (bytes_eq name (string_bytes e.1.0))) [
+    | inl same ↦ same
+    | inr other ↦
+        let rest = rw other at is in
+        let least : suc e.0 ≤ number = above (suc e.0) es next name number are.2 rest in
+        let here : number ≡ e.0 = eqb-true number e.0 first in
+        absurd (omega (arith, least, here))
+  ]
+  numbered-place from (e ∷ es) next name number (suc place) are is first = elim (cases_Bool (bytes_eq name (string_bytes e.1.0))) [
+    | inl same ↦
+        let found = rw same at is in
+        let here : e.0 ≡ number = cc in
+        let equal : nat_eq number e.0 ≡ true = eq-eqb number e.0 (sym here) in
+        let apart = first.0 in
+        cc
+    | inr other ↦ (other, numbered-place (suc e.0) es next name number place are.2 (rw other at is) first.1)
+  ]
+
+  -- where a name has no number, there is no door
+  pub number-missing : (name : List ℕ) (es : List (Numbered A)) → number_of name es ≡ None → door_of name (doors_of_numbered es) ≡ None
+  number-missing name [] none = refl
+  number-missing name (e ∷ es) none = elim (cases_Bool (bytes_eq name (string_bytes e.1.0))) [
+    | inl same ↦ let some = rw same at none in cc
+    | inr other ↦ rw other (number-missing name es (rw other at none))
+  ]
+
+  -- and the other way round
+  pub number-free : (name : List ℕ) (es : List (Numbered A)) → door_of name (doors_of_numbered es) ≡ None → number_of name es ≡ None
+  number-free name [] none = refl
+  number-free name (e ∷ es) none = elim (cases_Bool (bytes_eq name (string_bytes e.1.0))) [
+    | inl same ↦ let some = rw same at none in cc
+    | inr other ↦ rw other (number-free name es (rw other at none))
+  ]
+
+  -- a name's number is that of an entry
+  pub number-present : (name : List ℕ) (es : List (Numbered A)) (number : ℕ) → number_of name es ≡ Some number
+      → find (λ key. nat_eq number key) (map (λ e. e.0) es) ≡ None → ⊥
+  number-present name [] number is none = cc
+  number-present name (e ∷ es) number is none = elim (cases_Bool (nat_eq number e.0)) [
+    | inl here ↦ let some = rw here at none in cc
+    | inr apart ↦ elim (cases_Bool (bytes_eq name (string_bytes e.1.0))) [
+      | inl same ↦
+          let found = rw same at is in
+          let same_one : e.0 ≡ number = cc in
+          let equal : nat_eq number e.0 ≡ true = eq-eqb number e.0 (sym same_one) in
+          cc
+      | inr other ↦ number-present name es number (rw other at is) (rw apart at none)
+    ]
+  ]
+
+  -- ---- a door more
+  -- it goes last, under the next number
+  pub inserted-last : (from : ℕ) (es : List (Numbered A)) (next : ℕ) (entry : String A × KeptDoor) → AreNumbered from es next
+      → insert_entry nat_eq es next entry ≡ es ++ (next, entry) ∷ []
+  inserted-last from [] next entry are = refl
+  inserted-last from (e ∷ es) next entry are =
+      let less : suc e.0 ≤ next = rising (suc e.0) es next are.2 in
+      rw (other_number next e.0 (omega (arith, less))) (ap (λ t. e ∷ t) (inserted-last (suc e.0) es next entry are.2))
+
+  pub doors-last : (es : List (Numbered A)) (number : ℕ) (name : String A) (door : KeptDoor)
+      → doors_of_numbered (es ++ (number, (name, door)) ∷ []) ≡ doors_of_numbered es ++ door_named (string_bytes name) door ∷ []
+  doors-last es number name door = map-append (λ (e : Numbered A). door_of_entry e.1) es ((number, (name, door)) ∷ [])
+
+  -- its name has its number, and the others have theirs
+  pub number-last : (es : List (Numbered A)) (number : ℕ) (key : String A) (door : KeptDoor) (name : List ℕ) → number_of (string_bytes key) es ≡ None
+      → number_of name (es ++ (number, (key, door)) ∷ []) ≡ (if bytes_eq (string_bytes key) name then Some number else number_of name es)
+  number-last [] number key door name free = elim (cases_Bool (bytes_eq name (string_bytes key))) [
+    | inl same ↦ rw (same, is_name (string_bytes key) name (sym (same_name name (string_bytes key) same))) refl
+    | inr other ↦ rw (other, name_flips name (string_bytes key) other) refl
+  ]
+  number-last (e ∷ es) number key door name free = elim (cases_Bool (bytes_eq (string_bytes key) (string_bytes e.1.0))) [
+    | inl same ↦ let some = rw same at free in cc
+    | inr apart ↦ elim (cases_Bool (bytes_eq name (string_bytes e.1.0))) [
+      | inl here ↦
+          let is : name ≡ string_bytes e.1.0 = same_name name (string_bytes e.1.0) here in
+          let elsewhere : bytes_eq (string_bytes key) name ≡ false = rw is apart in
+          rw (here, elsewhere) refl
+      | inr other ↦ rw other (number-last es number key door name (rw apart at free))
+    ]
+  ]
+
+  -- the numbers rise still
+  pub numbered-last : (from : ℕ) (es : List (Numbered A)) (next : ℕ) (key : String A) (door : KeptDoor) → AreNumbered from es next → number_of (string_bytes key) es ≡ None
+      → AreNumbered from (es ++ (next, (key, door)) ∷ []) (next + 1)
+  numbered-last from [] next key door are free = (are, refl, omega arith)
+  numbered-last from (e ∷ es) next key door are free = elim (cases_Bool (bytes_eq (string_bytes key) (string_bytes e.1.0))) [
+    | inl same ↦ let some = rw same at free in cc
+    | inr apart ↦
+        let rest : number_of (string_bytes key) es ≡ None = rw apart at free in
+        let once : number_of (string_bytes e.1.0) (es ++ (next, (key, door)) ∷ []) ≡ number_of (string_bytes e.1.0) es =
+        number-last es next key door (string_bytes e.1.0) rest ∙ rw apart refl in
+        (are.0, once ∙ are.1, numbered-last (suc e.0) es next key door are.2 rest)
+  ]
+
+  -- ---- a door less
+  -- without the number of a name the doors are without that door
+  pub doors-less : (from : ℕ) (es : List (Numbered A)) (next : ℕ) (name : List ℕ) (number : ℕ) → AreNumbered from es next → number_of name es ≡ Some number
+      → doors_of_numbered (remove_entry (λ key. nat_eq number key) es) ≡ without_door name (doors_of_numbered es)
+  doors-less from [] next name number are is = cc
+  doors-less from (e ∷ es) next name number are is = elim (cases_Bool (bytes_eq name (string_bytes e.1.0))) [
+    | inl same ↦
+        let found = rw same at is in
+        let here : e.0 ≡ number = cc in
+        rw (eq-eqb number e.0 (sym here), same) refl
+    | inr other ↦
+        let rest = rw other at is in
+        let least : suc e.0 ≤ number = above (suc e.0) es next name number are.2 rest in
+        rw (other_number number e.0 (omega (arith, least)), other)
+        (ap (λ t. door_of_entry e.1 ∷ t) (doors-less (suc e.0) es next name number are.2 rest))
+  ]
+
+  -- the name has no number any more, and the others have theirs
+  pub number-less : (from : ℕ) (es : List (Numbered A)) (next : ℕ) (gone : List ℕ) (number : ℕ) (name : List ℕ) → AreNumbered from es next → number_of gone es ≡ Some number
+      → number_of name (remove_entry (λ key. nat_eq number key) es) ≡ (if bytes_eq gone name then None else number_of name es)
+  number-less from [] next gone number name are is = cc
+  number-less from (e ∷ es) next gone number name are is = elim (cases_Bool (bytes_eq gone (string_bytes e.1.0))) [
+    | inl same ↦
+        let found = rw same at is in
+        let here : e.0 ≡ number = cc in
+        let there : gone ≡ string_bytes e.1.0 = same_name gone (string_bytes e.1.0) same in
+        elim (cases_Bool (bytes_eq gone name)) [
+          | inl it ↦
+              let once : number_of name es ≡ None = rw (sym (same_name gone name it) ∙ there) are.1 in
+              rw (eq-eqb number e.0 (sym here), it) once
+          | inr another ↦
+              let apart : bytes_eq name (string_bytes e.1.0) ≡ false = rw (← there) (name_flips gone name another) in
+              rw (eq-eqb number e.0 (sym here), another, apart) refl
+        ]
+    | inr other ↦
+        let rest = rw other at is in
+        let least : suc e.0 ≤ number = above (suc e.0) es next gone number are.2 rest in
+        let kept : nat_eq number e.0 ≡ false = other_number number e.0 (omega (arith, least)) in
+        elim (cases_Bool (bytes_eq name (string_bytes e.1.0))) [
+          | inl it ↦
+              let apart : bytes_eq gone name ≡ false = rw (same_name name (string_bytes e.1.0) it) other in
+              rw (kept, it, apart) refl
+          | inr another ↦ rw (kept, another) (number-less (suc e.0) es next gone number name are.2 rest)
+        ]
+  ]
+
+  -- the numbers rise still
+  pub numbered-less : (from : ℕ) (es : List (Numbered A)) (next : ℕ) (gone : List ℕ) (number : ℕ) → AreNumbered from es next → number_of gone es ≡ Some number
+      → AreNumbered from (remove_entry (λ key. nat_eq number key) es) next
+  numbered-less from [] next gone number are is = cc
+  numbered-less from (e ∷ es) next gone number are is = elim (cases_Bool (bytes_eq gone (string_bytes e.1.0))) [
+    | inl same ↦
+        let found = rw same at is in
+        let here : e.0 ≡ number = cc in
+        rw (eq-eqb number e.0 (sym here)) (lower from (suc e.0) es next (omega (arith, are.0)) are.2)
+    | inr other ↦
+        let rest = rw other at is in
+        let least : suc e.0 ≤ number = above (suc e.0) es next gone number are.2 rest in
+        let once : number_of (string_bytes e.1.0) (remove_entry (λ key. nat_eq number key) es) ≡ None =
+        number-less (suc e.0) es next gone number (string_bytes e.1.0) are.2 rest ∙ rw other are.1 in
+        rw (other_number number e.0 (omega (arith, least))) (are.0, once, numbered-less (suc e.0) es next gone number are.2 rest)
+  ]
+
+  -- a name that has no number is not there to be taken out
+  pub without-missing : (name : List ℕ) (es : List (Numbered A)) → number_of name es ≡ None → without_door name (doors_of_numbered es) ≡ doors_of_numbered es
+  without-missing name [] none = refl
+  without-missing name (e ∷ es) none = elim (cases_Bool (bytes_eq name (string_bytes e.1.0))) [
+    | inl same ↦ let some = rw same at none in cc
+    | inr other ↦ rw other (ap (λ t. door_of_entry e.1 ∷ t) (without-missing name es (rw other at none)))
+  ]
+
+  pub missing-less : (name other : List ℕ) (es : List (Numbered A)) → number_of name es ≡ None
+      → (if bytes_eq name other then None else number_of other es) ≡ number_of other es
+  missing-less name other es none = elim (cases_Bool (bytes_eq name other)) [
+    | inl same ↦ rw (same, ← same_name name other same, none) refl
+    | inr apart ↦ rw apart refl
+  ]
+
+  -- ---- a door changed
+  pub numbered-at : (es : List (Numbered A)) (place key : ℕ) (entry : String A × KeptDoor) (d : NamedDoor)
+      → slice_get es place ≡ Some (key, entry) → get_or (doors_of_numbered es) place d ≡ door_of_entry entry
+  numbered-at [] place key entry d at = cc
+  numbered-at (e ∷ es) zero key entry d at = let here : e ≡ (key, entry) = cc in ap (λ (x : Numbered A). door_of_entry x.1) here
+  numbered-at (e ∷ es) (suc place) key entry d at = numbered-at es place key entry d at
+
+  pub doors-changed : (es : List (Numbered A)) (place key : ℕ) (entry : String A × KeptDoor) (new : KeptDoor) (change : NamedDoor → NamedDoor) (d : NamedDoor)
+      → slice_get es place ≡ Some (key, entry)
+      → door_of_entry (entry.0, new) ≡ change (door_of_entry entry)
+      → doors_of_numbered (set_value_at es place (entry.0, new)) ≡ set (doors_of_numbered es) place (change (get_or (doors_of_numbered es) place d))
+  doors-changed [] place key entry new change d at same = cc
+  doors-changed (e ∷ es) zero key entry new change d at same =
+      let here : e ≡ (key, entry) = cc in
+      rw here (ap (λ t. t ∷ doors_of_numbered es) same)
+  doors-changed (e ∷ es) (suc place) key entry new change d at same =
+      ap (λ t. door_of_entry e.1 ∷ t) (doors-changed es place key entry new change d at same)
+
+  pub doors-same : (es : List (Numbered A)) (place key : ℕ) (entry : String A × KeptDoor) (new : KeptDoor)
+      → slice_get es place ≡ Some (key, entry) → new ≡ entry.1
+      → doors_of_numbered (set_value_at es place (entry.0, new)) ≡ doors_of_numbered es
+  doors-same [] place key entry new at same = refl
+  doors-same (e ∷ es) zero key entry new at same =
+      let here : e ≡ (key, entry) = cc in
+      rw (here, same) refl
+  doors-same (e ∷ es) (suc place) key entry new at same =
+      ap (λ t. door_of_entry e.1 ∷ t) (doors-same es place key entry new at same)
+
+  pub number-changed : (es : List (Numbered A)) (place key : ℕ) (entry : String A × KeptDoor) (new : KeptDoor) (name : List ℕ)
+      → slice_get es place ≡ Some (key, entry) → number_of name (set_value_at es place (entry.0, new)) ≡ number_of name es
+  number-changed [] place key entry new name at = refl
+  number-changed (e ∷ es) zero key entry new name at = let here : e ≡ (key, entry) = cc in rw here refl
+  number-changed (e ∷ es) (suc place) key entry new name at =
+      ap (λ (rest : Option ℕ). if bytes_eq name (string_bytes e.1.0) then Some e.0 else rest) (number-changed es place key entry new name at)
+
+  pub numbered-changed : (from : ℕ) (es : List (Numbered A)) (next place key : ℕ) (entry : String A × KeptDoor) (new : KeptDoor)
+      → slice_get es place ≡ Some (key, entry) → AreNumbered from es next → AreNumbered from (set_value_at es place (entry.0, new)) next
+  numbered-changed from [] next place key entry new at are = are
+  numbered-changed from (e ∷ es) next zero key entry new at are = let here : e ≡ (key, entry) = cc in (are.0, rw here at are.1, are.2)
+  numbered-changed from (e ∷ es) next (suc place) key entry new at are =
+      (are.0, number-changed es place key entry new (string_bytes e.1.0) at ∙ are.1, numbered-changed (suc e.0) es next place key entry new at are.2)

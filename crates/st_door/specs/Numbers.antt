@@ -1,0 +1,28 @@
+-- The numbers that doors have in their table, by their names.
+use Rattle.std.specs.Prelude.{◌≡◌, ℕ, suc, ◌≤◌, List, [], ◌∷◌, Option, Some, None, map, string_bytes, String, bytes_eq, if◌then◌else◌}
+use Rattle.std.specs.BTreeMap.{BTreeMap, get_by_text}
+use Rattle.st_door.specs.Doors.{NamedDoor, KeptDoor}
+use Rattle.st_door.specs.Entries.{door_of_entry}
+
+-- an entry of the table of doors: a number, a name and a door
+abbrev pub Numbered : Type 0 → Type 0
+Numbered A = ℕ × (String A × KeptDoor)
+
+-- the doors of numbered entries, in order
+abbrev pub doors_of_numbered : {A : Type 0} → List (Numbered A) → List NamedDoor
+doors_of_numbered entries = map (λ entry. door_of_entry entry.1) entries
+
+-- the number of a name: that of the first entry with it
+abbrev pub number_of : {A : Type 0} → List ℕ → List (Numbered A) → Option ℕ
+number_of name [] = None
+number_of name (entry ∷ entries) = if bytes_eq name (string_bytes entry.1.0) then Some entry.0 else number_of name entries
+
+-- the numbers rise, from this one on and up to the next one, and no name stands twice
+abbrev pub AreNumbered : {A : Type 0} → ℕ → List (Numbered A) → ℕ → Type 0
+AreNumbered from [] next = from ≤ next
+AreNumbered from (entry ∷ entries) next =
+    (from ≤ entry.0) × (number_of (string_bytes entry.1.0) entries ≡ None) × AreNumbered (suc entry.0) entries next
+
+-- the table has the number of each name
+abbrev pub HasNumbers : {A : Type 0} → BTreeMap (String A) ℕ → List (Numbered A) → Type 0
+HasNumbers numbers entries = (name : List ℕ) → get_by_text numbers name ≡ number_of name entries
