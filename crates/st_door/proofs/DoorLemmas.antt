@@ -1,20 +1,9 @@
 -- The first element that passes a test, and facts under a result.
 use Rattle.std.proofs.Common.{◌≡◌, ℕ, zero, suc, ◌+◌, ◌<◌, ◌≤◌, Bool, nat_lt, List, [], ◌∷◌, length, get_or, set, map, Option, Some, None, Result, Ok, Err, IfOk, OnOk, OnErr, IfSome, IfNone, refl, ap, arith, inl, inr}
-use Rattle.std.specs.List.{position, position_or_len, find}
-use Rattle.std.proofs.lemmas.Bool.{cases_Bool, ltb-true, ltb-false}
+use Rattle.std.specs.List.{find}
 use Rattle.st_door.specs.Doors.{IsFirst, change_first}
 
 -- ---- the first element that passes
-one_more : (n : ℕ) → 1 + n ≡ suc n
-one_more n = omega arith
-
-pub IsFirst-position : {X : Type 0} (test : X → Bool) (xs : List X) → position_or_len test xs < length xs → IsFirst test xs (position_or_len test xs)
-IsFirst-position test [] h = absurd (omega arith)
-IsFirst-position test (x ∷ xs) h = elim (cases_Bool (test x)) [
-  | inl passes ↦ rw passes passes
-  | inr fails ↦ let less = rw fails at h in rw (fails, one_more) (fails, IsFirst-position test xs (omega (arith, less)))
-]
-
 pub IsFirst-found : {X : Type 0} (test : X → Bool) (xs : List X) (place : ℕ) (d : X) → IsFirst test xs place → find test xs ≡ Some (get_or xs place d)
 IsFirst-found test [] place d h = absurd h
 IsFirst-found test (x ∷ xs) zero d h = rw h refl
@@ -39,36 +28,6 @@ pub IsFirst-of_map : {X Y : Type 0} (f : X → Y) (test : Y → Bool) (xs : List
 IsFirst-of_map f test [] place h = h
 IsFirst-of_map f test (x ∷ xs) zero h = h
 IsFirst-of_map f test (x ∷ xs) (suc place) h = (h.0, IsFirst-of_map f test xs place h.1)
-
--- ---- where a look-up finds a place, and where it finds none
-pub IsFirst-some : {X : Type 0} (test : X → Bool) (xs : List X) (place : ℕ) → position test xs ≡ Some place → IsFirst test xs place
-IsFirst-some test xs place h = elim (cases_Bool (nat_lt (position_or_len test xs) (length xs))) [
-  | inl less ↦
-      let found = rw less at h in
-      let same : position_or_len test xs ≡ place = cc in
-      rw (← same) (IsFirst-position test xs (ltb-true _ _ less))
-  | inr more ↦ let none = rw more at h in cc
-]
-
-missed : {X : Type 0} (test : X → Bool) (xs : List X) → length xs ≤ position_or_len test xs → find test xs ≡ None
-missed test [] h = refl
-missed test (x ∷ xs) h = elim (cases_Bool (test x)) [
-  | inl passes ↦ let less = rw passes at h in absurd (omega (arith, less))
-  | inr fails ↦ let more = rw fails at h in rw fails (missed test xs (omega (arith, more)))
-]
-
-pub find-none : {X : Type 0} (test : X → Bool) (xs : List X) → position test xs ≡ None → find test xs ≡ None
-find-none test xs h = elim (cases_Bool (nat_lt (position_or_len test xs) (length xs))) [
-  | inl less ↦ let some = rw less at h in cc
-  | inr more ↦ missed test xs (ltb-false _ _ more)
-]
-
-pub find-map : {X Y : Type 0} (f : X → Y) (test : Y → Bool) (xs : List X) → find (λ x. test (f x)) xs ≡ None → find test (map f xs) ≡ None
-find-map f test [] h = refl
-find-map f test (x ∷ xs) h = elim (cases_Bool (test (f x))) [
-  | inl passes ↦ let some = rw passes at h in cc
-  | inr fails ↦ let rest = rw fails at h in rw fails (find-map f test xs rest)
-]
 
 -- ---- facts under a result
 pub on_ok : {T E : Type 0} (P Q : Type 0) (r : Result T E) → (P → Q) → OnOk r P → OnOk r Q
@@ -97,3 +56,6 @@ ok_always P (Err e) h = tt
 
 pub when_none : {T : Type 0} (P : Type 0) (o : Option T) → o ≡ None → IfNone o P → P
 when_none P o none h = rw none at h
+
+pub when_some : {T : Type 0} (P : T → Type 0) (o : Option T) (x : T) → o ≡ Some x → IfSome o P → P x
+when_some P o x some h = rw some at h

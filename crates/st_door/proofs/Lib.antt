@@ -4,6 +4,7 @@ pub mod StreamLemmas
 pub mod WordLemmas
 pub mod DoorLemmas
 mod NumberLemmas
+mod TableLemmas
 pub mod SlotLemmas
 pub mod ToldLemmas
 pub mod CellLemmas

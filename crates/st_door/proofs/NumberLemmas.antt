@@ -1,16 +1,17 @@
 -- Doors by their numbers, and numbers by names.
 use Rattle.std.proofs.Common.{◌≡◌, ℕ, zero, suc, ◌+◌, ◌≤◌, ◌≢◌, true, false, nat_eq, if◌then◌else◌, List, [], ◌∷◌, ◌++◌, get_or, set, map, find, slice_get, Option, Some, None, String, refl, ap, sym, ◌∙◌, arith, inl, inr, bytes_eq, string_bytes, eqb-true}
-use Rattle.std.specs.Map.{remove_entry}
 use Rattle.std.proofs.lemmas.Bool.{cases_Bool, eq-eqb, false_from_ne_true}
 use Rattle.std.proofs.lemmas.List.{map-append}
 use Rattle.std.proofs.lemmas.Slice.Eq.{bytes_eq-Decides}
-use Rattle.indexmap.specs.IndexMap.{insert_entry, set_value_at}
-use Rattle.st_door.specs.Doors.{NamedDoor, KeptDoor, IsFirst, door_named, door_of, has_name, without_door}
+use Rattle.st_core.specs.Run.{step_of}
+use Rattle.st_core.specs.declared.command.Command.{Command}
+use Rattle.st_door.specs.declared.door_content.DoorContent.{DoorContent}
+use Rattle.st_door.specs.Doors.{NamedDoor, KeptDoor, DoorAnswer, IsFirst, door_callbacks, door_named, door_of, has_name, told_door, told_kept, told_of, without_door}
 use Rattle.st_door.specs.Entries.{door_of_entry}
-use Rattle.st_door.specs.Numbers.{Numbered, doors_of_numbered, number_of, AreNumbered}
+use Rattle.st_door.specs.Numbers.{Numbered, doors_of_numbered, number_of, AreNumbered, DoRise, has_number, without_number, unnumbered, kept_doors, with_door}
 
 -- ---- numbers and names compared
-other_number : (a b : ℕ) → a ≢ b → nat_eq a b ≡ false
+pub other_number : (a b : ℕ) → a ≢ b → nat_eq a b ≡ false
 other_number a b apart = false_from_ne_true (nat_eq a b) (λ same. apart (eqb-true a b same))
 
 same_name : (a b : List ℕ) → bytes_eq a b ≡ true → a ≡ b
@@ -37,6 +38,11 @@ module _ {A : Type 0} where
   lower low from [] next less are = omega (arith, less, are)
   lower low from (e ∷ es) next less are = (omega (arith, less, are.0), are.1, are.2)
 
+  -- by themselves
+  pub numbers-rise : (from : ℕ) (es : List (Numbered A)) (next : ℕ) → AreNumbered from es next → DoRise from es
+  numbers-rise from [] next are = tt
+  numbers-rise from (e ∷ es) next are = (are.0, numbers-rise (suc e.0) es next are.2)
+
   -- the number of a name is among them
   above : (from : ℕ) (es : List (Numbered A)) (next : ℕ) (name : List ℕ) (number : ℕ) → AreNumbered from es next → number_of name es ≡ Some number → from ≤ number
   above from [] next name number are is = cc
@@ -48,7 +54,7 @@ module _ {A : Type 0} where
   -- ---- look-ups
   -- the place of a name's number is that of the door
   pub numbered-place : (from : ℕ) (es : List (Numbered A)) (next : ℕ) (name : List ℕ) (number place : ℕ) → AreNumbered from es next → number_of name es ≡ Some number
-      → IsFirst (λ key. nat_eq number key) (map (λ e. e.0) es) place → IsFirst (has_name name) (doors_of_numbered es) place
+      → IsFirst (has_number number) es place → IsFirst (has_name name) (doors_of_numbered es) place
   numbered-place from [] next name number place are is first = absurd first
   numbered-place from (e ∷ es) next name number zero are is first = elim (cases_Bool (bytes_eq name (string_bytes e.1.0))) [
     | inl same ↦ same
@@ -86,7 +92,7 @@ module _ {A : Type 0} where
 
   -- a name's number is that of an entry
   pub number-present : (name : List ℕ) (es : List (Numbered A)) (number : ℕ) → number_of name es ≡ Some number
-      → find (λ key. nat_eq number key) (map (λ e. e.0) es) ≡ None → ⊥
+      → find (has_number number) es ≡ None → ⊥
   number-present name [] number is none = cc
   number-present name (e ∷ es) number is none = elim (cases_Bool (nat_eq number e.0)) [
     | inl here ↦ let some = rw here at none in cc
@@ -101,14 +107,6 @@ module _ {A : Type 0} where
   ]
 
   -- ---- a door more
-  -- it goes last, under the next number
-  pub inserted-last : (from : ℕ) (es : List (Numbered A)) (next : ℕ) (entry : String A × KeptDoor) → AreNumbered from es next
-      → insert_entry nat_eq es next entry ≡ es ++ (next, entry) ∷ []
-  inserted-last from [] next entry are = refl
-  inserted-last from (e ∷ es) next entry are =
-      let less : suc e.0 ≤ next = rising (suc e.0) es next are.2 in
-      rw (other_number next e.0 (omega (arith, less))) (ap (λ t. e ∷ t) (inserted-last (suc e.0) es next entry are.2))
-
   pub doors-last : (es : List (Numbered A)) (number : ℕ) (name : String A) (door : KeptDoor)
       → doors_of_numbered (es ++ (number, (name, door)) ∷ []) ≡ doors_of_numbered es ++ door_named (string_bytes name) door ∷ []
   doors-last es number name door = map-append (λ (e : Numbered A). door_of_entry e.1) es ((number, (name, door)) ∷ [])
@@ -147,7 +145,7 @@ module _ {A : Type 0} where
   -- ---- a door less
   -- without the number of a name the doors are without that door
   pub doors-less : (from : ℕ) (es : List (Numbered A)) (next : ℕ) (name : List ℕ) (number : ℕ) → AreNumbered from es next → number_of name es ≡ Some number
-      → doors_of_numbered (remove_entry (λ key. nat_eq number key) es) ≡ without_door name (doors_of_numbered es)
+      → doors_of_numbered (without_number number es) ≡ without_door name (doors_of_numbered es)
   doors-less from [] next name number are is = cc
   doors-less from (e ∷ es) next name number are is = elim (cases_Bool (bytes_eq name (string_bytes e.1.0))) [
     | inl same ↦
@@ -163,7 +161,7 @@ module _ {A : Type 0} where
 
   -- the name has no number any more, and the others have theirs
   pub number-less : (from : ℕ) (es : List (Numbered A)) (next : ℕ) (gone : List ℕ) (number : ℕ) (name : List ℕ) → AreNumbered from es next → number_of gone es ≡ Some number
-      → number_of name (remove_entry (λ key. nat_eq number key) es) ≡ (if bytes_eq gone name then None else number_of name es)
+      → number_of name (without_number number es) ≡ (if bytes_eq gone name then None else number_of name es)
   number-less from [] next gone number name are is = cc
   number-less from (e ∷ es) next gone number name are is = elim (cases_Bool (bytes_eq gone (string_bytes e.1.0))) [
     | inl same ↦
@@ -192,7 +190,7 @@ module _ {A : Type 0} where
 
   -- the numbers rise still
   pub numbered-less : (from : ℕ) (es : List (Numbered A)) (next : ℕ) (gone : List ℕ) (number : ℕ) → AreNumbered from es next → number_of gone es ≡ Some number
-      → AreNumbered from (remove_entry (λ key. nat_eq number key) es) next
+      → AreNumbered from (without_number number es) next
   numbered-less from [] next gone number are is = cc
   numbered-less from (e ∷ es) next gone number are is = elim (cases_Bool (bytes_eq gone (string_bytes e.1.0))) [
     | inl same ↦
@@ -202,7 +200,7 @@ module _ {A : Type 0} where
     | inr other ↦
         let rest = rw other at is in
         let least : suc e.0 ≤ number = above (suc e.0) es next gone number are.2 rest in
-        let once : number_of (string_bytes e.1.0) (remove_entry (λ key. nat_eq number key) es) ≡ None =
+        let once : number_of (string_bytes e.1.0) (without_number number es) ≡ None =
         number-less (suc e.0) es next gone number (string_bytes e.1.0) are.2 rest ∙ rw other are.1 in
         rw (other_number number e.0 (omega (arith, least))) (are.0, once, numbered-less (suc e.0) es next gone number are.2 rest)
   ]
@@ -223,43 +221,65 @@ module _ {A : Type 0} where
   ]
 
   -- ---- a door changed
-  pub numbered-at : (es : List (Numbered A)) (place key : ℕ) (entry : String A × KeptDoor) (d : NamedDoor)
-      → slice_get es place ≡ Some (key, entry) → get_or (doors_of_numbered es) place d ≡ door_of_entry entry
-  numbered-at [] place key entry d at = cc
-  numbered-at (e ∷ es) zero key entry d at = let here : e ≡ (key, entry) = cc in ap (λ (x : Numbered A). door_of_entry x.1) here
-  numbered-at (e ∷ es) (suc place) key entry d at = numbered-at es place key entry d at
+  -- the door at a place
+  pub numbered-at : (es : List (Numbered A)) (place : ℕ) (door : KeptDoor) (d : NamedDoor)
+      → slice_get (kept_doors es) place ≡ Some door → get_or (doors_of_numbered es) place d ≡ door_named (get_or (doors_of_numbered es) place d).name door
+  numbered-at [] place door d at = cc
+  numbered-at (e ∷ es) zero door d at = let here : e.1.1 ≡ door = cc in ap (door_named (string_bytes e.1.0)) here
+  numbered-at (e ∷ es) (suc place) door d at = numbered-at es place door d at
 
-  pub doors-changed : (es : List (Numbered A)) (place key : ℕ) (entry : String A × KeptDoor) (new : KeptDoor) (change : NamedDoor → NamedDoor) (d : NamedDoor)
-      → slice_get es place ≡ Some (key, entry)
-      → door_of_entry (entry.0, new) ≡ change (door_of_entry entry)
-      → doors_of_numbered (set_value_at es place (entry.0, new)) ≡ set (doors_of_numbered es) place (change (get_or (doors_of_numbered es) place d))
-  doors-changed [] place key entry new change d at same = cc
-  doors-changed (e ∷ es) zero key entry new change d at same =
-      let here : e ≡ (key, entry) = cc in
-      rw here (ap (λ t. t ∷ doors_of_numbered es) same)
-  doors-changed (e ∷ es) (suc place) key entry new change d at same =
-      ap (λ t. door_of_entry e.1 ∷ t) (doors-changed es place key entry new change d at same)
+  -- with its name
+  pub named-at : (es : List (Numbered A)) (place : ℕ) (name : String A) (door : KeptDoor) (d : NamedDoor)
+      → slice_get (unnumbered es) place ≡ Some (name, door) → door_named (string_bytes name) door ≡ get_or (doors_of_numbered es) place d
+  named-at [] place name door d at = cc
+  named-at (e ∷ es) zero name door d at = let here : e.1 ≡ (name, door) = cc in sym (ap (λ (t : String A × KeptDoor). door_of_entry t) here)
+  named-at (e ∷ es) (suc place) name door d at = named-at es place name door d at
 
-  pub doors-same : (es : List (Numbered A)) (place key : ℕ) (entry : String A × KeptDoor) (new : KeptDoor)
-      → slice_get es place ≡ Some (key, entry) → new ≡ entry.1
-      → doors_of_numbered (set_value_at es place (entry.0, new)) ≡ doors_of_numbered es
-  doors-same [] place key entry new at same = refl
-  doors-same (e ∷ es) zero key entry new at same =
-      let here : e ≡ (key, entry) = cc in
-      rw (here, same) refl
-  doors-same (e ∷ es) (suc place) key entry new at same =
-      ap (λ t. door_of_entry e.1 ∷ t) (doors-same es place key entry new at same)
+  pub doors-changed : (es : List (Numbered A)) (place : ℕ) (door new : KeptDoor) (change : NamedDoor → NamedDoor) (d : NamedDoor)
+      → slice_get (kept_doors es) place ≡ Some door
+      → ((name : List ℕ) → door_named name new ≡ change (door_named name door))
+      → doors_of_numbered (with_door es place new) ≡ set (doors_of_numbered es) place (change (get_or (doors_of_numbered es) place d))
+  doors-changed [] place door new change d at same = cc
+  doors-changed (e ∷ es) zero door new change d at same =
+      let here : e.1.1 ≡ door = cc in
+      ap (λ t. t ∷ doors_of_numbered es) (rw here (same (string_bytes e.1.0)))
+  doors-changed (e ∷ es) (suc place) door new change d at same =
+      ap (λ t. door_of_entry e.1 ∷ t) (doors-changed es place door new change d at same)
 
-  pub number-changed : (es : List (Numbered A)) (place key : ℕ) (entry : String A × KeptDoor) (new : KeptDoor) (name : List ℕ)
-      → slice_get es place ≡ Some (key, entry) → number_of name (set_value_at es place (entry.0, new)) ≡ number_of name es
-  number-changed [] place key entry new name at = refl
-  number-changed (e ∷ es) zero key entry new name at = let here : e ≡ (key, entry) = cc in rw here refl
-  number-changed (e ∷ es) (suc place) key entry new name at =
-      ap (λ (rest : Option ℕ). if bytes_eq name (string_bytes e.1.0) then Some e.0 else rest) (number-changed es place key entry new name at)
+  -- the door at a place answers to a command as it would under its name
+  pub answered-at : (es : List (Numbered A)) (place : ℕ) (door : KeptDoor) (d : NamedDoor) (command : Command DoorContent) (answer : DoorAnswer)
+      → slice_get (kept_doors es) place ≡ Some door → answer ≡ (step_of door_callbacks door.machine command).0
+      → answer ≡ (told_of command (get_or (doors_of_numbered es) place d)).0
+  answered-at [] place door d command answer at same = cc
+  answered-at (e ∷ es) zero door d command answer at same =
+      let here : e.1.1 ≡ door = cc in
+      same ∙ ap (λ (t : KeptDoor). (step_of door_callbacks t.machine command).0) (sym here)
+  answered-at (e ∷ es) (suc place) door d command answer at same = answered-at es place door d command answer at same
 
-  pub numbered-changed : (from : ℕ) (es : List (Numbered A)) (next place key : ℕ) (entry : String A × KeptDoor) (new : KeptDoor)
-      → slice_get es place ≡ Some (key, entry) → AreNumbered from es next → AreNumbered from (set_value_at es place (entry.0, new)) next
-  numbered-changed from [] next place key entry new at are = are
-  numbered-changed from (e ∷ es) next zero key entry new at are = let here : e ≡ (key, entry) = cc in (are.0, rw here at are.1, are.2)
-  numbered-changed from (e ∷ es) next (suc place) key entry new at are =
-      (are.0, number-changed es place key entry new (string_bytes e.1.0) at ∙ are.1, numbered-changed (suc e.0) es next place key entry new at are.2)
+  -- and is told it so
+  pub told-at : (es : List (Numbered A)) (place : ℕ) (door new : KeptDoor) (d : NamedDoor) (command : Command DoorContent)
+      → slice_get (kept_doors es) place ≡ Some door → new ≡ told_kept command door
+      → doors_of_numbered (with_door es place new) ≡ set (doors_of_numbered es) place (told_door command (get_or (doors_of_numbered es) place d))
+  told-at es place door new d command at told = doors-changed es place door new (told_door command) d at (λ name. ap (door_named name) told)
+
+  pub doors-same : (es : List (Numbered A)) (place : ℕ) (door new : KeptDoor)
+      → slice_get (kept_doors es) place ≡ Some door → new ≡ door
+      → doors_of_numbered (with_door es place new) ≡ doors_of_numbered es
+  doors-same [] place door new at same = refl
+  doors-same (e ∷ es) zero door new at same =
+      let here : e.1.1 ≡ door = cc in
+      ap (λ (t : KeptDoor). door_named (string_bytes e.1.0) t ∷ doors_of_numbered es) (same ∙ sym here)
+  doors-same (e ∷ es) (suc place) door new at same =
+      ap (λ t. door_of_entry e.1 ∷ t) (doors-same es place door new at same)
+
+  pub number-changed : (es : List (Numbered A)) (place : ℕ) (new : KeptDoor) (name : List ℕ) → number_of name (with_door es place new) ≡ number_of name es
+  number-changed [] place new name = refl
+  number-changed (e ∷ es) zero new name = refl
+  number-changed (e ∷ es) (suc place) new name =
+      ap (λ (rest : Option ℕ). if bytes_eq name (string_bytes e.1.0) then Some e.0 else rest) (number-changed es place new name)
+
+  pub numbered-changed : (from : ℕ) (es : List (Numbered A)) (next place : ℕ) (new : KeptDoor) → AreNumbered from es next → AreNumbered from (with_door es place new) next
+  numbered-changed from [] next place new are = are
+  numbered-changed from (e ∷ es) next zero new are = are
+  numbered-changed from (e ∷ es) next (suc place) new are =
+      (are.0, number-changed es place new (string_bytes e.1.0) ∙ are.1, numbered-changed (suc e.0) es next place new are.2)

@@ -11,10 +11,10 @@ ghost use Rattle.st_door.specs.Traces.{trace_of_door};
 
 use crate::answers::{DoorAnswer, count_in};
 use crate::door_cell::DoorCell;
+use crate::door_table::DoorTable;
 use crate::numbers::Numbers;
 use crate::printing::{ended_status, status};
 use crate::{DoorContent, ScriptFault, Sink};
-use indexmap::IndexMap;
 use st_core::Command;
 use st_events::MachineId;
 use std::alloc::{AllocError, Global};
@@ -27,7 +27,7 @@ use std::marker::Model;
 #[derive(Drop)]
 pub(crate) struct Doors {
     alloc: Global,
-    entries: IndexMap<u64, (String, DoorCell)>,
+    entries: DoorTable,
     numbers: Numbers,
     next: u64,
 }
@@ -39,9 +39,9 @@ impl Model for Doors {
 
     ghost Value = { List NamedDoor };
 
-    ghost view = { λ doors. doors_of_numbered doors.entries.entries };
+    ghost view = { λ doors. doors_of_numbered doors.entries };
 
-    ghost invariant = { λ doors. HasNumbers doors.numbers.numbers doors.entries.entries × AreNumbered 0 doors.entries.entries doors.next };
+    ghost invariant = { λ doors. HasNumbers doors.numbers.numbers doors.entries × AreNumbered 0 doors.entries doors.next };
 }
 
 impl Doors {
@@ -51,7 +51,7 @@ impl Doors {
     {
         Doors {
             alloc,
-            entries: IndexMap::new(alloc),
+            entries: DoorTable::new(alloc),
             numbers: Numbers::new(alloc),
             next: 0,
         }
@@ -71,7 +71,7 @@ impl Doors {
         ensures missing { IfNone result (door_of name.now self.now ≡ None) }
     {
         let number = self.numbers.get(name)?;
-        self.entries.get_index_of(&number)
+        self.entries.place_of(number)
     }
 
     /// Registers a door under a name that is not taken.
@@ -87,7 +87,7 @@ impl Doors {
             return Err(AllocError);
         };
         let key = String::from_str(self.alloc, name.as_str())?;
-        self.entries.insert(number, (name, door))?;
+        self.entries.push(self.alloc, number, name, door)?;
         if let Err(error) = self.numbers.insert(key, number) {
             self.entries.truncate(place);
             return Err(error);
@@ -101,7 +101,7 @@ impl Doors {
         ensures { self.new ≡ without_door name.now self.old }
     {
         if let Some(number) = self.numbers.remove(name) {
-            drop(self.entries.shift_remove(&number));
+            self.entries.remove(number);
         }
     }
 
@@ -110,8 +110,7 @@ impl Doors {
         requires { place < length self.now }
         ensures { (d : NamedDoor) → door_named (string_bytes result.0.now) result.1.now ≡ slice_index_or self.now place d }
     {
-        let (_, entry) = self.entries.get_index(place).unwrap();
-        (&entry.0, &entry.1)
+        self.entries.entry_at(place)
     }
 
     /// The id of the door at a place.
@@ -152,8 +151,7 @@ impl Doors {
 
         ensures unchanged { OnErr result (self.new ≡ self.old) }
     {
-        let (_, entry) = self.entries.pair_mut(place);
-        entry.1.tell(command)
+        self.entries.door_mut(place).tell(command)
     }
 
     /// Gives the door at a place, which is ready, a turn. Where memory is wanted and there is none, the doors stay.
@@ -164,8 +162,7 @@ impl Doors {
 
         ensures unchanged { OnErr result (self.new ≡ self.old) }
     {
-        let (_, entry) = self.entries.pair_mut(place);
-        entry.1.turn(moment)
+        self.entries.door_mut(place).turn(moment)
     }
 
     /// Ticks each door, in order of registration, and answers how many time-outs expire.

@@ -12,6 +12,7 @@ mod door_content;
 mod door_data;
 mod door_state;
 mod door_states;
+mod door_table;
 mod doors;
 mod effect;
 mod failed;

@@ -1,25 +1,29 @@
-use Rattle.std.proofs.Common.{◌≡◌, ◌∙◌, sym, map, nat_eq, None, Some}
+use Rattle.std.proofs.Common.{◌≡◌, ◌∙◌, sym, None, Some}
 use Rattle.st_door.specs.Numbers.{number_of}
-use Rattle.st_door.proofs.DoorLemmas.{if_some, if_none, IsFirst-some, find-none}
-use Rattle.st_door.proofs.NumberLemmas.{numbered-place, number-missing, number-present}
+use Rattle.st_door.proofs.DoorLemmas.{if_some, if_none, when_some, when_none}
+use Rattle.st_door.proofs.NumberLemmas.{numbers-rise, numbered-place, number-missing, number-present}
 use Rattle.st_door.proofs.doors.Doors.place_of.Goals as goal
 
 pub returns-in_err-number-clause-missing : goal.returns-in_err-number-clause-missing
 returns-in_err-number-clause-missing c =
-    let none : number_of c.args.name.now c.self.inside.entries.entries ≡ None = sym (c.self.invariant.0 c.args.name.now) ∙ sym c.in_err-number.ensures in
-    if_none _ c.from_residual.result (λ _. rw (← c.self.view_is) (number-missing c.args.name.now c.self.inside.entries.entries none))
+    let none : number_of c.args.name.now c.self.inside.entries ≡ None = sym (c.self.invariant.0 c.args.name.now) ∙ sym c.in_err-number.ensures in
+    if_none _ c.from_residual.result (λ _. rw (← c.self.view_is) (number-missing c.args.name.now c.self.inside.entries none))
 
 pub returns-clause-place : goal.returns-clause-place
 returns-clause-place c =
-    let entries = c.self.inside.entries.entries in
+    let entries = c.self.inside.entries in
     let found : number_of c.args.name.now entries ≡ Some c.in_ok-number.number = sym (c.self.invariant.0 c.args.name.now) ∙ sym c.in_ok-number.ensures in
-    if_some _ c.get_index_of.result (λ place is.
+    if_some _ c.place_of.result (λ place is.
     rw (← c.self.view_is) (numbered-place 0 entries c.self.inside.next c.args.name.now c.in_ok-number.number place c.self.invariant.1 found
-    (IsFirst-some _ _ place (sym c.get_index_of.ensures.index ∙ is))))
+    (when_some _ c.place_of.result place is c.place_of.ensures.place)))
 
 pub returns-clause-missing : goal.returns-clause-missing
 returns-clause-missing c =
-    let entries = c.self.inside.entries.entries in
+    let entries = c.self.inside.entries in
     let found : number_of c.args.name.now entries ≡ Some c.in_ok-number.number = sym (c.self.invariant.0 c.args.name.now) ∙ sym c.in_ok-number.ensures in
-    if_none _ c.get_index_of.result (λ missing.
-    absurd (number-present c.args.name.now entries c.in_ok-number.number found (find-none (λ key. nat_eq c.in_ok-number.number key) (map (λ e. e.0) entries) (sym c.get_index_of.ensures.index ∙ missing))))
+    if_none _ c.place_of.result (λ missing.
+    absurd (number-present c.args.name.now entries c.in_ok-number.number found (when_none _ c.place_of.result missing c.place_of.ensures.missing)))
+
+-- the numbers of the table rise
+pub place_of-requires : goal.place_of-requires
+place_of-requires c = numbers-rise 0 c.self.inside.entries c.self.inside.next c.self.invariant.1

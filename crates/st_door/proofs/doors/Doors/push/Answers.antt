@@ -3,18 +3,18 @@ use Rattle.std.proofs.Math.Seq.{take-append_seam}
 use Rattle.std.specs.BTreeMap.{get_by_text}
 use Rattle.st_door.specs.Doors.{NamedDoor, door_named}
 use Rattle.st_door.specs.Numbers.{doors_of_numbered, number_of}
-use Rattle.st_door.proofs.NumberLemmas.{number-free, inserted-last, doors-last, number-last, numbered-last}
+use Rattle.st_door.proofs.NumberLemmas.{number-free, doors-last, number-last, numbered-last}
 use Rattle.st_door.proofs.doors.Doors.push.Goals as goal
 
 -- the entry that was put last is gone again
-back : (c : goal.After-truncate) → c.truncate.new.self.entries ≡ c.self.inside.entries.entries
+back : (c : goal.After-truncate) → c.truncate.new.self ≡ c.self.inside.entries
 back c =
-    let entries = c.self.inside.entries.entries in
-    let last : c.insert.new.self.entries ≡ entries ++ (c.self.inside.next, (c.args.name, c.args.door)) ∷ [] =
-    c.in_ok-insert.ensures.entries ∙ inserted-last 0 entries c.self.inside.next (c.args.name, c.args.door) c.self.invariant.1 in
-    c.truncate.ensures.entries
+    let entries = c.self.inside.entries in
+    let last : c.push.new.self ≡ entries ++ (c.self.inside.next, (c.args.name, c.args.door)) ∷ [] =
+    c.in_ok-push.ensures.pushed in
+    c.truncate.ensures
     ∙ (ap (take c.len-place.result) last
-    ∙ (ap (λ (n : ℕ). take n (entries ++ (c.self.inside.next, (c.args.name, c.args.door)) ∷ [])) c.len-place.ensures.len
+    ∙ (ap (λ (n : ℕ). take n (entries ++ (c.self.inside.next, (c.args.name, c.args.door)) ∷ [])) c.len-place.ensures
     ∙ take-append_seam entries ((c.self.inside.next, (c.args.name, c.args.door)) ∷ [])))
 
 pub invariant_of-self-in-Err : goal.invariant_of-self-in-Err
@@ -29,12 +29,12 @@ returns-in-Err-clause-unchanged c = ap doors_of_numbered (back c) ∙ c.self.vie
 -- the door stands last, and its name has its number
 pub invariant_of-self-2 : goal.invariant_of-self-2
 invariant_of-self-2 c =
-    let entries = c.self.inside.entries.entries in
+    let entries = c.self.inside.entries in
     let name : List ℕ = string_bytes c.args.name in
     let next : ℕ = c.self.inside.next in
     let free : number_of (string_bytes c.args.name) entries ≡ None = number-free (string_bytes c.args.name) entries (rw c.self.view_is c.requires) in
-    let last : c.insert.new.self.entries ≡ entries ++ (c.self.inside.next, (c.args.name, c.args.door)) ∷ [] =
-    c.in_ok-insert.ensures.entries ∙ inserted-last 0 entries c.self.inside.next (c.args.name, c.args.door) c.self.invariant.1 in
+    let last : c.push.new.self ≡ entries ++ (c.self.inside.next, (c.args.name, c.args.door)) ∷ [] =
+    c.in_ok-push.ensures.pushed in
     let key : string_bytes c.in_ok-key.key ≡ string_bytes c.args.name = c.in_ok-key.ensures.ok ∙ c.as_str.ensures.value in
     let counted : c.in-Some.next ≡ c.self.inside.next + 1 = search rules in (
       λ other. c.in_default-insert.ensures.inserted other
@@ -46,9 +46,9 @@ invariant_of-self-2 c =
 
 pub returns-clause-pushed : goal.returns-clause-pushed
 returns-clause-pushed c =
-    let entries = c.self.inside.entries.entries in
-    let last : c.insert.new.self.entries ≡ entries ++ (c.self.inside.next, (c.args.name, c.args.door)) ∷ [] =
-    c.in_ok-insert.ensures.entries ∙ inserted-last 0 entries c.self.inside.next (c.args.name, c.args.door) c.self.invariant.1 in
+    let entries = c.self.inside.entries in
+    let last : c.push.new.self ≡ entries ++ (c.self.inside.next, (c.args.name, c.args.door)) ∷ [] =
+    c.in_ok-push.ensures.pushed in
     ap doors_of_numbered last
     ∙ (doors-last entries c.self.inside.next c.args.name c.args.door
     ∙ ap (λ (doors : List NamedDoor). doors ++ door_named (string_bytes c.args.name) c.args.door ∷ []) c.self.view_is)
