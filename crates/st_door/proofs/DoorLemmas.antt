@@ -54,6 +54,10 @@ pub ok_always : {T E : Type 0} (P : Type 0) (r : Result T E) → P → OnOk r P
 ok_always P (Ok x) h = h
 ok_always P (Err e) h = tt
 
+pub err_always : {T E : Type 0} (P : Type 0) (r : Result T E) → P → OnErr r P
+err_always P (Ok x) h = tt
+err_always P (Err e) h = h
+
 pub when_none : {T : Type 0} (P : Type 0) (o : Option T) → o ≡ None → IfNone o P → P
 when_none P o none h = rw none at h
 

@@ -10,7 +10,9 @@ pub mod ToldLemmas
 pub mod CellLemmas
 pub mod PrintingLemmas
 pub mod ScriptStateLemmas
+pub mod LateLemmas
 pub mod IdleLemmas
+pub mod LateDoorsLemmas
 pub mod TickingLemmas
 pub mod ScriptLemmas
 pub mod ForgettingLemmas

@@ -5,6 +5,7 @@ pub mod Entries
 pub mod Numbers
 pub mod Lending
 pub mod Grammar
+pub mod Late
 pub mod Lines
 pub mod Printing
 pub mod Script

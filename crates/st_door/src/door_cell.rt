@@ -1,11 +1,12 @@
 //! A door of a script: its machine in a cell of its own.
-ghost use Rattle.std.specs.Prelude.{◌≡◌, true, false, IfOk, IfErr, OnOk, OnErr, MatchResult};
+ghost use Rattle.std.specs.Prelude.{◌≡◌, ◌≤◌, ◌^◌, true, false, IfOk, IfErr, OnOk, OnErr, MatchResult};
 ghost use Rattle.std.specs.Io.KnownBytes.{Appends};
 ghost use Rattle.st_core.specs.Choice.{is_ready_of};
 ghost use Rattle.st_core.specs.Run.{step_of};
 ghost use Rattle.st_core.specs.declared.command.Command.TheVariants as command;
 ghost use Rattle.st_scheduled.specs.Serving.{is_turn};
 ghost use Rattle.st_door.specs.Doors.{door_at_first, door_callbacks, told_kept};
+ghost use Rattle.st_door.specs.Late.{IsQuietUntil, is_late};
 ghost use Rattle.st_door.specs.ScriptFault.{IsOfInput, write_failures_after};
 ghost use Rattle.st_door.specs.Streams.{AppendsFront};
 ghost use Rattle.st_door.specs.Traces.{trace_by};
@@ -15,7 +16,7 @@ use crate::cells::{collect, make_ready, post, reply, stop, tick, turn};
 use crate::tracing::write_trace;
 use crate::{Door, DoorContent, ScriptFault, Sink};
 use st_cell::Cell;
-use st_core::{Command, Core};
+use st_core::{Command, Core, MOMENT_LIMIT};
 use std::alloc::{AllocError, Global};
 use std::marker::Model;
 
@@ -60,6 +61,39 @@ impl DoorCell {
         ensures { result.now.machine ≡ self.now.machine }
     {
         self.cell.core()
+    }
+
+    /// Says whether the door has still to see a moment. One that has ended sees none, and one whose history is kept has seen
+    /// each.
+    pub(crate) fn is_late(&self, moment: u64) -> bool
+        ensures { result ≡ is_late moment self.now }
+    {
+        let core = self.cell.core();
+        !self.keeps && core.ended().is_none() && core.latest() < moment
+    }
+
+    /// A moment before which nothing of the door is due. It is 0 where the history is kept, for there each tick counts.
+    pub(crate) fn quiet_until(&self) -> u64
+        ensures bounded { result ≤ 2 ^ 63 }
+        ensures quiet { IsQuietUntil result self.now }
+    {
+        if self.keeps {
+            return 0;
+        }
+        let core = self.cell.core();
+        if core.ended().is_some() {
+            return MOMENT_LIMIT;
+        }
+        match core.next_due() {
+            None => MOMENT_LIMIT,
+            Some(due) => {
+                if core.latest() < due {
+                    due.min(MOMENT_LIMIT)
+                } else {
+                    0
+                }
+            }
+        }
     }
 
     /// Tells the door a command that is no turn, and answers its answer. Where memory is wanted and there is none, the

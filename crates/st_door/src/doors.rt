@@ -1,15 +1,16 @@
 //! The doors of a script, by name, in order of registration.
-ghost use Rattle.std.specs.Prelude.{◌≡◌, ◌<◌, ◌≤◌, true, false, [], ◌∷◌, ◌++◌, None, is_some, IfOk, IfErr, OnOk, OnErr, MatchResult, IfSome, IfNone, length, slice_set, slice_index_or, string_bytes};
+ghost use Rattle.std.specs.Prelude.{◌≡◌, ◌<◌, ◌≤◌, ◌^◌, true, false, [], ◌∷◌, ◌++◌, None, is_some, IfOk, IfErr, OnOk, OnErr, MatchResult, IfSome, IfNone, length, slice_set, slice_index_or, string_bytes};
 ghost use Rattle.std.specs.Io.KnownBytes.{Appends};
 ghost use Rattle.st_core.specs.declared.command.Command.TheVariants as command;
 ghost use Rattle.st_scheduled.specs.Serving.{is_turn};
-ghost use Rattle.st_door.specs.Doors.{NamedDoor, door_named, IsFirst, has_name, door_of, without_door, is_ready_door, told_of, told_door, all_expired_of, ticked_doors, SameLabels, door_limit};
+ghost use Rattle.st_door.specs.Doors.{NamedDoor, door_named, IsFirst, has_name, door_of, without_door, is_ready_door, kept_of, told_of, told_door};
+ghost use Rattle.st_door.specs.Late.{IsQuietUntil, is_late};
 ghost use Rattle.st_door.specs.Printing.{status_of, names_text};
 ghost use Rattle.st_door.specs.ScriptFault.{IsOfInput, write_failures_after};
 ghost use Rattle.st_door.specs.Streams.{AppendsFront};
 ghost use Rattle.st_door.specs.Traces.{trace_of_door};
 
-use crate::answers::{DoorAnswer, count_in};
+use crate::answers::DoorAnswer;
 use crate::door_cell::DoorCell;
 use crate::door_table::DoorTable;
 use crate::numbers::Numbers;
@@ -137,6 +138,23 @@ impl Doors {
         self.entry_at(place).1.core().ended().is_some()
     }
 
+    /// Says whether the door at a place has still to see a moment.
+    pub(crate) fn is_late_at(&self, place: usize, moment: u64) -> bool
+        requires { place < length self.now }
+        ensures { (d : NamedDoor) → result ≡ is_late moment (kept_of (slice_index_or self.now place d)) }
+    {
+        self.entry_at(place).1.is_late(moment)
+    }
+
+    /// A moment before which nothing of the door at a place is due.
+    pub(crate) fn quiet_until_at(&self, place: usize) -> u64
+        requires { place < length self.now }
+        ensures bounded { result ≤ 2 ^ 63 }
+        ensures quiet { (d : NamedDoor) → IsQuietUntil result (kept_of (slice_index_or self.now place d)) }
+    {
+        self.entry_at(place).1.quiet_until()
+    }
+
     /// Tells the door at a place a command that is no turn, and answers its answer. Where memory is wanted and there is
     /// none, the doors stay.
     pub(crate) fn tell_at(
@@ -163,23 +181,6 @@ impl Doors {
         ensures unchanged { OnErr result (self.new ≡ self.old) }
     {
         self.entries.door_mut(place).turn(moment)
-    }
-
-    /// Ticks each door, in order of registration, and answers how many time-outs expire.
-    pub(crate) fn tick(&mut self, moment: u64) -> Result<u128, AllocError>
-        requires { length self.old ≤ door_limit }
-        ensures expired { IfOk result (λ expired. expired ≡ all_expired_of moment self.old) }
-        ensures ticked { OnOk result (self.new ≡ ticked_doors moment self.old) }
-
-        // Whatever the answer is.
-        ensures same_labels { SameLabels self.old self.new }
-    {
-        let mut expired = 0;
-        for place in 0..self.len() {
-            let answer = self.tell_at(place, Command::Tick(moment))?;
-            expired += u128::from(count_in(&answer));
-        }
-        Ok(expired)
     }
 
     /// The line of the names, in order of registration.

@@ -19,6 +19,7 @@ mod failed;
 mod failures;
 mod in_memory;
 mod input;
+mod late_doors;
 mod laws;
 mod line;
 mod lines;

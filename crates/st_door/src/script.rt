@@ -13,8 +13,8 @@ ghost use Rattle.st_door.specs.declared.line.Line.TheVariants as line;
 
 use crate::answers::{DoorAnswer, length_in, refusal_in};
 use crate::door_cell::DoorCell;
-use crate::doors::Doors;
 use crate::effect::Effect;
+use crate::late_doors::LateDoors;
 use crate::line::Line;
 use crate::printing::{code_length, expired, removed};
 use crate::slots::Slots;
@@ -36,7 +36,7 @@ const DOOR_LIMIT: usize = 65_536;
 pub(crate) struct Script {
     alloc: Global,
     traced: bool,
-    doors: Doors,
+    doors: LateDoors,
     slots: Slots,
     moment: u64,
     started: u64,
@@ -63,7 +63,7 @@ impl Script {
         Script {
             alloc,
             traced: is_traced(mode),
-            doors: Doors::new(alloc),
+            doors: LateDoors::new(alloc),
             slots: Slots::new(alloc),
             moment: 0,
             started: 0,
@@ -273,16 +273,21 @@ impl Script {
         Ok(answer)
     }
 
-    /// Goes to a moment and ticks each door at it, and answers how many time-outs expire. From then on any
-    /// door may be ready.
+    /// Goes to a moment and ticks each door at it, and answers how many time-outs expire. Where any
+    /// does, each door may be ready from then on.
     fn tick(&mut self, moment: u64) -> Result<u128, AllocError>
         ensures expired { IfOk result (λ expired. expired ≡ all_expired_of moment self.old.doors) }
         ensures ticked { OnOk result (self.new ≡ ticked_script self.old moment) }
     {
+        let (from, until) = (self.from, self.until);
         self.from = 0;
         self.until = self.doors.len();
         let expired = self.doors.tick(moment)?;
         self.moment = moment;
+        if expired == 0 {
+            self.from = from;
+            self.until = until;
+        }
         Ok(expired)
     }
 

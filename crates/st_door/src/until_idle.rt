@@ -3,7 +3,7 @@ ghost use Rattle.std.specs.Prelude.{◌≡◌, ◌≤◌, length, IfOk, OnOk};
 ghost use Rattle.st_door.specs.Doors.{RestsOutside, SameLabels, run_until_idle};
 ghost use Rattle.st_door.specs.Script.{turn_limit};
 
-use crate::doors::Doors;
+use crate::late_doors::LateDoors;
 use std::alloc::AllocError;
 
 /// How many turns are made for one line.
@@ -13,7 +13,7 @@ const TURN_LIMIT: u32 = 1_000_000;
 /// turns. Only the doors from one place up to another may be ready. It answers from which place on
 /// some still may be.
 pub(crate) fn run_until_idle(
-    doors: &mut Doors,
+    doors: &mut LateDoors,
     from: usize,
     until: usize,
     moment: u64,

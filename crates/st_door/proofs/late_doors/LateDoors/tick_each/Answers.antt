@@ -2,7 +2,7 @@ use Rattle.std.proofs.Common.{◌≡◌, ◌<◌, ◌^◌, length, ap, ◌∙◌
 use Rattle.st_door.specs.Doors.{count_in}
 use Rattle.st_door.proofs.IdleLemmas.{no_door}
 use Rattle.st_door.proofs.TickingLemmas.{labels-so_far, within-so_far, ticked-more, expired-more, ticked-all, expired-all}
-use Rattle.st_door.proofs.doors.Doors.tick.Goals as goal
+use Rattle.st_door.proofs.late_doors.LateDoors.tick_each.Goals as goal
 
 pub tell_at-requires-clause-place : goal.tell_at-requires-clause-place
 tell_at-requires-clause-place c = within-so_far c.args.moment c.loop-place.place c.args.self.now c.loop-place.self c.loop-place.invariant.ticked (omega arith)

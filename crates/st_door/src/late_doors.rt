@@ -1,0 +1,249 @@
+//! The doors of a script, which are ticked late.
+ghost use Rattle.std.specs.Prelude.{◌≡◌, ◌<◌, ◌≤◌, ◌^◌, ℕ, true, false, [], ◌∷◌, ◌++◌, None, is_some, IfOk, IfErr, OnOk, OnErr, MatchResult, IfSome, IfNone, length, slice_set, slice_index_or, string_bytes};
+ghost use Rattle.std.specs.Io.KnownBytes.{Appends};
+ghost use Rattle.st_core.specs.declared.command.Command.TheVariants as command;
+ghost use Rattle.st_scheduled.specs.Serving.{is_turn};
+ghost use Rattle.st_door.specs.Doors.{NamedDoor, door_named, IsFirst, has_name, door_of, kept_of, without_door, is_ready_door, told_of, told_door, all_expired_of, ticked_doors, SameLabels, door_limit};
+ghost use Rattle.st_door.specs.Late.{IsInTime, IsQuietUntil, caught_up};
+ghost use Rattle.st_door.specs.Printing.{status_of, names_text};
+ghost use Rattle.st_door.specs.ScriptFault.{IsOfInput, write_failures_after};
+ghost use Rattle.st_door.specs.Streams.{AppendsFront};
+ghost use Rattle.st_door.specs.Traces.{trace_of_door};
+
+use crate::answers::{DoorAnswer, count_in};
+use crate::door_cell::DoorCell;
+use crate::doors::Doors;
+use crate::{DoorContent, ScriptFault, Sink};
+use st_core::{Command, MOMENT_LIMIT};
+use st_events::MachineId;
+use std::alloc::{AllocError, Global};
+use std::marker::Model;
+
+/// The doors of a script, which are ticked late. Contracts see them as if each tick were made at once.
+///
+/// A tick at which nothing is due only brings a later moment. It goes to no door: the moment is kept here, and made up for
+/// at a door's next command, before anything of the door is looked at. From the late moment on nothing is due before
+/// `due`.
+#[derive(Drop)]
+pub(crate) struct LateDoors {
+    doors: Doors,
+    late: u64,
+    due: u64,
+}
+
+impl Model for LateDoors {
+    ghost use Rattle.std.specs.Prelude.{◌≤◌, ◌^◌, List, map};
+    ghost use Rattle.st_door.specs.Doors.{NamedDoor};
+    ghost use Rattle.st_door.specs.Late.{AreInTime, caught_up};
+
+    ghost Value = { List NamedDoor };
+
+    ghost view = { λ doors. map (caught_up doors.late) doors.doors };
+
+    ghost invariant = { λ doors. AreInTime doors.late doors.due doors.doors × (doors.due ≤ 2 ^ 63) };
+}
+
+impl LateDoors {
+    /// No doors.
+    pub(crate) fn new(alloc: Global) -> LateDoors
+        ensures { result ≡ [] }
+    {
+        LateDoors {
+            doors: Doors::new(alloc),
+            late: 0,
+            due: MOMENT_LIMIT,
+        }
+    }
+
+    /// How many doors there are.
+    pub(crate) fn len(&self) -> usize
+        ensures { result ≡ length self.now }
+    {
+        self.doors.len()
+    }
+
+    /// The place of the door of a name.
+    pub(crate) fn place_of(&self, name: &str) -> Option<usize>
+        ensures place { IfSome result (IsFirst (has_name name.now) self.now) }
+
+        ensures missing { IfNone result (door_of name.now self.now ≡ None) }
+    {
+        self.doors.place_of(name)
+    }
+
+    /// Registers a door under a name that is not taken. No door comes that has still to see the late moment: each starts at
+    /// the script's moment, which is no earlier.
+    pub(crate) fn push(&mut self, name: String, door: DoorCell) -> Result<(), AllocError>
+        requires { door_of (string_bytes name) self.old ≡ None }
+        ensures pushed { OnOk result (self.new ≡ self.old ++ door_named (string_bytes name) door ∷ []) }
+
+        ensures unchanged { OnErr result (self.new ≡ self.old) }
+    {
+        if door.is_late(self.late) {
+            return Err(AllocError);
+        }
+        let due = door.quiet_until();
+        self.doors.push(name, door)?;
+        self.due = self.due.min(due);
+        Ok(())
+    }
+
+    /// Takes out the door of a name. The others keep their order.
+    pub(crate) fn remove(&mut self, name: &str)
+        ensures { self.new ≡ without_door name.now self.old }
+    {
+        self.doors.remove(name);
+    }
+
+    /// The id of the door at a place.
+    pub(crate) fn id_at(&self, place: usize) -> MachineId
+        requires { place < length self.now }
+        ensures { (d : NamedDoor) → result ≡ (slice_index_or self.now place d).machine.id }
+    {
+        self.doors.id_at(place)
+    }
+
+    /// Says whether the door at a place is ready.
+    pub(crate) fn is_ready_at(&self, place: usize) -> bool
+        requires { place < length self.now }
+        ensures { (d : NamedDoor) → result ≡ is_ready_door (slice_index_or self.now place d) }
+    {
+        self.doors.is_ready_at(place)
+    }
+
+    /// Says whether the door at a place has ended.
+    pub(crate) fn has_ended_at(&self, place: usize) -> bool
+        requires { place < length self.now }
+        ensures { (d : NamedDoor) → result ≡ is_some (slice_index_or self.now place d).machine.ended }
+    {
+        self.doors.has_ended_at(place)
+    }
+
+    /// Tells the door at a place a command that is no turn, and answers its answer. Where memory is wanted and there is
+    /// none, the doors stay.
+    pub(crate) fn tell_at(
+        &mut self,
+        place: usize,
+        command: Command<DoorContent>,
+    ) -> Result<DoorAnswer, AllocError>
+        requires place { place < length self.old }
+        requires no_turn { is_turn command ≡ false }
+        ensures answer { IfOk result (λ answer. (d : NamedDoor) → answer ≡ (told_of command (slice_index_or self.old place d)).0) }
+        ensures told { OnOk result ((d : NamedDoor) → self.new ≡ slice_set self.old place (told_door command (slice_index_or self.old place d))) }
+
+        ensures unchanged { OnErr result (self.new ≡ self.old) }
+    {
+        catch_up(&mut self.doors, place, self.late)?;
+        let answer = self.doors.tell_at(place, command)?;
+        self.due = self.due.min(self.doors.quiet_until_at(place));
+        Ok(answer)
+    }
+
+    /// Gives the door at a place, which is ready, a turn. Where memory is wanted and there is none, the doors stay.
+    pub(crate) fn turn_at(&mut self, place: usize, moment: u64) -> Result<(), AllocError>
+        requires place { place < length self.old }
+        requires work { (d : NamedDoor) → is_ready_door (slice_index_or self.old place d) ≡ true }
+        ensures told { OnOk result ((d : NamedDoor) → self.new ≡ slice_set self.old place (told_door (command.Turn moment) (slice_index_or self.old place d))) }
+
+        ensures unchanged { OnErr result (self.new ≡ self.old) }
+    {
+        catch_up(&mut self.doors, place, self.late)?;
+        self.doors.turn_at(place, moment)?;
+        self.due = self.due.min(self.doors.quiet_until_at(place));
+        Ok(())
+    }
+
+    /// Ticks the doors, and answers how many time-outs expire. Where nothing is due no door is looked at.
+    pub(crate) fn tick(&mut self, moment: u64) -> Result<u128, AllocError>
+        requires { length self.old ≤ door_limit }
+        ensures expired { IfOk result (λ expired. expired ≡ all_expired_of moment self.old) }
+        ensures ticked { OnOk result (self.new ≡ ticked_doors moment self.old) }
+
+        // Whatever the answer is.
+        ensures same_labels { SameLabels self.old self.new }
+    {
+        if self.late <= moment && moment < self.due {
+            self.late = moment;
+            return Ok(0);
+        }
+        let expired = self.tick_each(moment)?;
+        self.due = quiet_until(&self.doors);
+        Ok(expired)
+    }
+
+    /// Ticks each door, in order of registration, and answers how many time-outs expire.
+    fn tick_each(&mut self, moment: u64) -> Result<u128, AllocError>
+        requires { length self.old ≤ door_limit }
+        ensures expired { IfOk result (λ expired. expired ≡ all_expired_of moment self.old) }
+        ensures ticked { OnOk result (self.new ≡ ticked_doors moment self.old) }
+
+        // Whatever the answer is.
+        ensures same_labels { SameLabels self.old self.new }
+    {
+        let mut expired = 0;
+        for place in 0..self.len() {
+            let answer = self.tell_at(place, Command::Tick(moment))?;
+            expired += u128::from(count_in(&answer));
+        }
+        Ok(expired)
+    }
+
+    /// The line of the names, in order of registration.
+    pub(crate) fn names(&self, alloc: Global) -> Result<String, AllocError>
+        ensures { IfOk result (λ text. string_bytes text ≡ names_text self.now) }
+    {
+        self.doors.names(alloc)
+    }
+
+    /// The status of the door at a place.
+    pub(crate) fn status_at(&self, alloc: Global, place: usize) -> Result<String, AllocError>
+        requires { place < length self.now }
+        ensures { IfOk result (λ text. (d : NamedDoor) → string_bytes text ≡ status_of (slice_index_or self.now place d)) }
+    {
+        self.doors.status_at(alloc, place)
+    }
+
+    /// Writes the trace of the door at a place.
+    pub(crate) fn write_trace_at<W: Sink>(
+        &self,
+        alloc: Global,
+        place: usize,
+        writer: &mut W,
+    ) -> Result<(), ScriptFault>
+        requires { place < length self.now }
+        ensures written { OnOk result ((d : NamedDoor) → Appends (W.held writer.old) (W.held writer.new) (trace_of_door (slice_index_or self.now place d))) }
+
+        ensures faults { IfErr result (λ fault. IsOfInput fault → ⊥) }
+        ensures failures { MatchResult result (λ _. W.failures writer.new ≡ W.failures writer.old)
+            (λ fault. W.failures writer.new ≡ write_failures_after fault (W.failures writer.old)) }
+        ensures front { OnErr result ((d : NamedDoor) → AppendsFront (W.held writer.old) (W.held writer.new) (trace_of_door (slice_index_or self.now place d))) }
+    {
+        self.doors.write_trace_at(alloc, place, writer)
+    }
+}
+
+/// Makes up for a late tick at the door at a place. Where memory is wanted and there is none, the doors stay.
+fn catch_up(doors: &mut Doors, place: usize, moment: u64) -> Result<(), AllocError>
+    requires place { place < length doors.old }
+    requires late { (d : NamedDoor) → (due : ℕ) × IsInTime moment due (kept_of (slice_index_or doors.old place d)) }
+    ensures caught { OnOk result ((d : NamedDoor) → doors.new ≡ slice_set doors.old place (caught_up moment (slice_index_or doors.old place d))) }
+
+    ensures unchanged { OnErr result (doors.new ≡ doors.old) }
+{
+    if doors.is_late_at(place, moment) {
+        doors.tell_at(place, Command::Tick(moment))?;
+    }
+    Ok(())
+}
+
+/// A moment before which nothing of any door is due.
+fn quiet_until(doors: &Doors) -> u64
+    ensures bounded { result ≤ 2 ^ 63 }
+    ensures quiet { (place : ℕ) (d : NamedDoor) → place < length doors.now → IsQuietUntil result (kept_of (slice_index_or doors.now place d)) }
+{
+    let mut due = MOMENT_LIMIT;
+    for place in 0..doors.len() {
+        due = due.min(doors.quiet_until_at(place));
+    }
+    due
+}
