@@ -21,7 +21,7 @@ use std::alloc::{AllocError, Global};
 use std::marker::Model;
 
 /// A door of a script: its machine in a cell, with one port. Contracts see the machine, and the history where it is kept.
-/// The cell lies in a box, since doors move up where one before them is removed.
+/// The cell lies in a box, so that a door is small to hand on.
 #[derive(Drop)]
 pub(crate) struct DoorCell {
     cell: Box<Cell<Door>>,

@@ -9,6 +9,7 @@ pub enum Timer {
     Event,
     /// That of the state: a state change cancels it. Manual: `state_timeout()`.
     State,
-    /// One of this name: nothing but a setting of it cancels it. Manual: `generic_timeout()`.
+    /// One of this name: nothing but a setting of it cancels it. Where many run they are found by a hash whose seed is
+    /// known, so a module takes no names from strangers. Manual: `generic_timeout()`.
     Named(u32),
 }
