@@ -42,6 +42,7 @@ actions_of asked content state = elim content as (λ w. List (Action Work)) [
   | work.InsertMany count ↦ inserts_of count
   | work.Set number after ↦ action.Set (timer.Named number) (time.After after) work.Keep ∷ []
   | work.Cancel number ↦ action.Set (timer.Named number) time.Infinity work.Keep ∷ []
+  | work.Update number ↦ action.Update (timer.Named number) work.Keep ∷ []
 ]
 
 -- whether a piece of work leads to another state
@@ -55,6 +56,7 @@ leads_on content state = elim content as (λ w. Bool) [
   | work.InsertMany count ↦ false
   | work.Set number after ↦ false
   | work.Cancel number ↦ false
+  | work.Update number ↦ false
 ]
 
 -- the outcome: the next state, or both are kept

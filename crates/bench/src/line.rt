@@ -53,6 +53,8 @@ pub enum Line {
     DueInOrder,
     /// A timer is set and stopped, while so many other time-outs run.
     SetAndCancel,
+    /// A time-out is updated, while so many run, of which it is one.
+    Updates,
     /// Timers that are set in one list.
     Settings,
     /// Events that are inserted in one list.
@@ -99,7 +101,7 @@ pub enum Line {
 }
 
 /// Each line by its name.
-pub const LINES: [(&str, Line); 33] = [
+pub const LINES: [(&str, Line); 34] = [
     ("casts", Line::Casts),
     ("casts-beside", Line::CastsBeside),
     ("casts-with-ticks", Line::CastsWithTicks),
@@ -113,6 +115,7 @@ pub const LINES: [(&str, Line); 33] = [
     ("expiries", Line::Expiries),
     ("due-in-order", Line::DueInOrder),
     ("set-and-cancel", Line::SetAndCancel),
+    ("updates", Line::Updates),
     ("settings", Line::Settings),
     ("inserts", Line::Inserts),
     ("insert-lists", Line::InsertLists),
@@ -299,7 +302,7 @@ impl Line {
             return Ok(0);
         };
         match self {
-            Line::CastsBeside | Line::Expiries | Line::SetAndCancel => {
+            Line::CastsBeside | Line::Expiries | Line::SetAndCancel | Line::Updates => {
                 post_and_turn(&mut load, Work::SetMany(more), 0)?;
                 self.done_beside(&mut load, count, more)
             }
@@ -318,6 +321,7 @@ impl Line {
             Line::SetAndCancel => {
                 cycle(core, &[Work::Set(more, 1_000), Work::Cancel(more)], count)
             }
+            Line::Updates => cycle(core, &[Work::Update(more / 2)], count),
             _ => post_and_turn_each(core, Work::Keep, count),
         }
     }

@@ -32,6 +32,8 @@ pub enum Work {
     Set(u32, u32),
     /// The timer of this name is stopped.
     Cancel(u32),
+    /// The time-out of the timer of this name has another content.
+    Update(u32),
 }
 
 /// A machine that does what it is told. Its states are numbers from 0 on; its data is 0.
@@ -102,6 +104,7 @@ fn actions(
             let stop = Action::Set(Timer::Named(number), Time::Infinity, Work::Keep);
             one(alloc, stop)
         }
+        Work::Update(number) => one(alloc, Action::Update(Timer::Named(number), Work::Keep)),
     }
 }
 

@@ -1,18 +1,20 @@
 -- Settings that later ones override leave a list, from its end on.
-use Rattle.std.proofs.Common.{◌≡◌, ◌≤◌, ℕ, zero, suc, Bool, true, false, Option, Some, None, List, [], ◌∷◌, refl, sym, ap, ◌∙◌, take, drop, set, length, arith}
+use Rattle.std.proofs.Common.{◌≡◌, ◌≤◌, ℕ, zero, suc, ◌+◌, Bool, true, false, Option, Some, None, List, [], ◌∷◌, refl, sym, ap, ◌∙◌, take, drop, set, length, is_some, arith}
 use Rattle.std.specs.Prelude.{slice_get, ◌||◌, if◌then◌else◌}
 use Rattle.std.specs.List.{filter_map}
-use Rattle.std.specs.Option.{option_to_list}
+use Rattle.std.specs.Option.{option_and_then, option_to_list}
 use Rattle.std.proofs.lemmas.List.{take-set, length-set, nil_from_length}
 use Rattle.st_events.specs.declared.action.Action.{Action}
-use Rattle.st_events.specs.declared.action.Action.TheVariants.{Reply, Postpone, NextEvent, Set, Hibernate}
+use Rattle.st_events.specs.declared.action.Action.TheVariants.{Reply, Postpone, NextEvent, Set, Cancel, Update, Send, Hibernate}
+use Rattle.st_events.specs.declared.asked.Asked.{Asked}
+use Rattle.st_events.specs.declared.asked.Asked.TheVariants as asked
 use Rattle.st_events.specs.declared.setting.Setting.{Setting}
-use Rattle.st_events.specs.declared.time.Time.{Time}
 use Rattle.st_events.specs.declared.timer.Timer.{Timer}
+use Rattle.st_events.specs.Timers.{same_timer}
 use Rattle.st_actions.specs.declared.noted_timers.NotedTimers.{NotedTimers}
 use Rattle.st_actions.specs.Noted.{is_noted}
-use Rattle.st_actions.specs.Plan.{postpone_or, settings_of, sets, is_set}
-use Rattle.st_actions.specs.Taking.{all_settings_of}
+use Rattle.st_actions.specs.Plan.{postpone_or, asked_unless, settings_of, sets, is_set}
+use Rattle.st_actions.specs.Taking.{all_settings_of, as_setting, timer_set}
 use Rattle.st_actions.specs.Once.{overrides}
 use Rattle.st_actions.proofs.TakingLemmas.{other_out}
 
@@ -25,12 +27,37 @@ module _ {C : Type 0} where
   abbrev pub kept : NotedTimers → List (Action C) → ℕ → List (Action C)
   kept noted now j = if overrides noted (slice_get now j) then set now j Hibernate else now
 
+  -- ---- the action at an index
+  -- what it asks of a timer is overridden where this timer was noted
+  pub overrides_is : (o : Option (Action C)) (timer : Timer) (noted : NotedTimers) → option_and_then timer_set o ≡ Some timer → overrides noted o ≡ is_noted timer noted
+  overrides_is None timer noted of_it = cc
+  overrides_is (Some (Reply tag content)) timer noted of_it = cc
+  overrides_is (Some (Postpone last)) timer noted of_it = cc
+  overrides_is (Some (NextEvent kind content)) timer noted of_it = cc
+  overrides_is (Some (Set other time content)) timer noted of_it = let same : other ≡ timer = cc in rw same refl
+  overrides_is (Some (Cancel other)) timer noted of_it = let same : other ≡ timer = cc in rw same refl
+  overrides_is (Some (Update other content)) timer noted of_it = let same : other ≡ timer = cc in rw same refl
+  overrides_is (Some (Send target content)) timer noted of_it = cc
+  overrides_is (Some Hibernate) timer noted of_it = cc
+
+  -- this timer alone is one of which it asks something
+  pub sets_is : (o : Option (Action C)) (timer other : Timer) → option_and_then timer_set o ≡ Some timer → sets other (option_to_list o) ≡ same_timer other timer
+  sets_is None timer other of_it = cc
+  sets_is (Some (Reply tag content)) timer other of_it = cc
+  sets_is (Some (Postpone last)) timer other of_it = cc
+  sets_is (Some (NextEvent kind content)) timer other of_it = cc
+  sets_is (Some (Set one time content)) timer other of_it = let same : one ≡ timer = cc in rw same (or_none (same_timer other timer))
+  sets_is (Some (Cancel one)) timer other of_it = let same : one ≡ timer = cc in rw same (or_none (same_timer other timer))
+  sets_is (Some (Update one content)) timer other of_it = let same : one ≡ timer = cc in rw same (or_none (same_timer other timer))
+  sets_is (Some (Send target content)) timer other of_it = cc
+  sets_is (Some Hibernate) timer other of_it = cc
+
   -- ---- settings
-  by_test : (test : Bool) (timer : Timer) (time : Time) (content : C) (now : List (Action C)) (rest : List (Setting C)) → all_settings_of now ≡ rest
-      → all_settings_of (if test then Hibernate ∷ now else Set timer time content ∷ now)
-      ≡ (if test then rest else record { timer = timer; time = time; content = content } ∷ rest)
-  by_test true timer time content now rest same = same
-  by_test false timer time content now rest same = ap (λ (rest : List (Setting C)). record { timer = timer; time = time; content = content } ∷ rest) same
+  by_test : (test : Bool) (timer : Timer) (wanted : Asked C) (action : Action C) (now : List (Action C)) (rest : List (Setting C)) → all_settings_of now ≡ rest
+      → all_settings_of (action ∷ now) ≡ record { timer = timer; asked = wanted } ∷ all_settings_of now
+      → all_settings_of (if test then Hibernate ∷ now else action ∷ now) ≡ asked_unless test timer wanted rest
+  by_test true timer wanted action now rest same first = same
+  by_test false timer wanted action now rest same first = first ∙ ap (λ (rest : List (Setting C)). record { timer = timer; asked = wanted } ∷ rest) same
 
   first_kept : (a : Action C) (whole now : List (Action C)) (noted : NotedTimers) → all_settings_of now ≡ settings_of whole
       → ((timer : Timer) → is_noted timer noted ≡ sets timer whole)
@@ -38,7 +65,12 @@ module _ {C : Type 0} where
   first_kept (Reply tag content) whole now noted same known = same
   first_kept (Postpone last) whole now noted same known = same
   first_kept (NextEvent kind content) whole now noted same known = same
-  first_kept (Set timer time content) whole now noted same known = rw (known timer) (by_test (sets timer whole) timer time content now (settings_of whole) same)
+  first_kept (Set timer time content) whole now noted same known =
+      rw (known timer) (by_test (sets timer whole) timer (asked.Set time content) (Set timer time content) now (settings_of whole) same refl)
+  first_kept (Cancel timer) whole now noted same known = rw (known timer) (by_test (sets timer whole) timer asked.Cancel (Cancel timer) now (settings_of whole) same refl)
+  first_kept (Update timer content) whole now noted same known =
+      rw (known timer) (by_test (sets timer whole) timer (asked.Update content) (Update timer content) now (settings_of whole) same refl)
+  first_kept (Send target content) whole now noted same known = same
   first_kept Hibernate whole now noted same known = same
 
   drop_choice : (test : Bool) (b : Action C) (now : List (Action C)) (j : ℕ)
@@ -108,12 +140,11 @@ module _ {C : Type 0} where
 
   -- ---- all else
   module _ {X : Type 0} (f : Action C → Option X) (of : List (Action C) → List X) (of_is : (xs : List (Action C)) → of xs ≡ filter_map f xs)
-      (no_blank : f Hibernate ≡ None) (no_setting : (timer : Timer) (time : Time) (content : C) → f (Set timer time content) ≡ None) where
-    by_choice : (test : Bool) (now : List (Action C)) (j : ℕ) (timer : Timer) (time : Time) (content : C) → slice_get now j ≡ Some (Set timer time content)
+      (no_blank : f Hibernate ≡ None) (no_setting : (action : Action C) → is_some (as_setting action) ≡ true → f action ≡ None) where
+    by_choice : (test : Bool) (now : List (Action C)) (j : ℕ) (action : Action C) → is_some (as_setting action) ≡ true → slice_get now j ≡ Some action
         → of (if test then set now j Hibernate else now) ≡ of now
-    by_choice true now j timer time content there =
-        other_out f Hibernate no_blank of of_is now j (Set timer time content) there (no_setting timer time content)
-    by_choice false now j timer time content there = refl
+    by_choice true now j action setting there = other_out f Hibernate no_blank of of_is now j action there (no_setting action setting)
+    by_choice false now j action setting there = refl
 
     by_action : (o : Option (Action C)) (noted : NotedTimers) (now : List (Action C)) (j : ℕ) → slice_get now j ≡ o
         → of (if overrides noted o then set now j Hibernate else now) ≡ of now
@@ -121,26 +152,36 @@ module _ {C : Type 0} where
     by_action (Some (Reply tag content)) noted now j there = refl
     by_action (Some (Postpone last)) noted now j there = refl
     by_action (Some (NextEvent kind content)) noted now j there = refl
-    by_action (Some (Set timer time content)) noted now j there = by_choice (is_noted timer noted) now j timer time content there
+    by_action (Some (Set timer time content)) noted now j there = by_choice (is_noted timer noted) now j (Set timer time content) refl there
+    by_action (Some (Cancel timer)) noted now j there = by_choice (is_noted timer noted) now j (Cancel timer) refl there
+    by_action (Some (Update timer content)) noted now j there = by_choice (is_noted timer noted) now j (Update timer content) refl there
+    by_action (Some (Send target content)) noted now j there = refl
     by_action (Some Hibernate) noted now j there = refl
 
     pub others_kept : (noted : NotedTimers) (now : List (Action C)) (j : ℕ) → of (kept noted now j) ≡ of now
     others_kept noted now j = by_action (slice_get now j) noted now j refl
 
-  postpone_out : (given : Bool) (now : List (Action C)) (j : ℕ) (timer : Timer) (time : Time) (content : C) → slice_get now j ≡ Some (Set timer time content)
-      → postpone_or given (set now j Hibernate) ≡ postpone_or given now
-  postpone_out given [] j timer time content there = cc
-  postpone_out given (b ∷ now) zero timer time content there = let equal : b ≡ Set timer time content = cc in rw equal refl
-  postpone_out given (Reply tag reply ∷ now) (suc j) timer time content there = postpone_out given now j timer time content there
-  postpone_out given (Postpone last ∷ now) (suc j) timer time content there = postpone_out last now j timer time content there
-  postpone_out given (NextEvent kind event ∷ now) (suc j) timer time content there = postpone_out given now j timer time content there
-  postpone_out given (Set other at held ∷ now) (suc j) timer time content there = postpone_out given now j timer time content there
-  postpone_out given (Hibernate ∷ now) (suc j) timer time content there = postpone_out given now j timer time content there
+  -- an action that says nothing on postponing
+  abbrev Silent : Action C → Type 0
+  Silent action = (given : Bool) (actions : List (Action C)) → postpone_or given (action ∷ actions) ≡ postpone_or given actions
 
-  postpone_choice : (test given : Bool) (now : List (Action C)) (j : ℕ) (timer : Timer) (time : Time) (content : C) → slice_get now j ≡ Some (Set timer time content)
+  postpone_out : (given : Bool) (now : List (Action C)) (j : ℕ) (action : Action C) → Silent action → slice_get now j ≡ Some action
+      → postpone_or given (set now j Hibernate) ≡ postpone_or given now
+  postpone_out given [] j action silent there = cc
+  postpone_out given (b ∷ now) zero action silent there = let equal : b ≡ action = cc in rw equal (sym (silent given now))
+  postpone_out given (Reply tag reply ∷ now) (suc j) action silent there = postpone_out given now j action silent there
+  postpone_out given (Postpone last ∷ now) (suc j) action silent there = postpone_out last now j action silent there
+  postpone_out given (NextEvent kind event ∷ now) (suc j) action silent there = postpone_out given now j action silent there
+  postpone_out given (Set other at held ∷ now) (suc j) action silent there = postpone_out given now j action silent there
+  postpone_out given (Cancel other ∷ now) (suc j) action silent there = postpone_out given now j action silent there
+  postpone_out given (Update other held ∷ now) (suc j) action silent there = postpone_out given now j action silent there
+  postpone_out given (Send target held ∷ now) (suc j) action silent there = postpone_out given now j action silent there
+  postpone_out given (Hibernate ∷ now) (suc j) action silent there = postpone_out given now j action silent there
+
+  postpone_choice : (test given : Bool) (now : List (Action C)) (j : ℕ) (action : Action C) → Silent action → slice_get now j ≡ Some action
       → postpone_or given (if test then set now j Hibernate else now) ≡ postpone_or given now
-  postpone_choice true given now j timer time content there = postpone_out given now j timer time content there
-  postpone_choice false given now j timer time content there = refl
+  postpone_choice true given now j action silent there = postpone_out given now j action silent there
+  postpone_choice false given now j action silent there = refl
 
   postpone_action : (o : Option (Action C)) (given : Bool) (noted : NotedTimers) (now : List (Action C)) (j : ℕ) → slice_get now j ≡ o
       → postpone_or given (if overrides noted o then set now j Hibernate else now) ≡ postpone_or given now
@@ -148,7 +189,12 @@ module _ {C : Type 0} where
   postpone_action (Some (Reply tag content)) given noted now j there = refl
   postpone_action (Some (Postpone last)) given noted now j there = refl
   postpone_action (Some (NextEvent kind content)) given noted now j there = refl
-  postpone_action (Some (Set timer time content)) given noted now j there = postpone_choice (is_noted timer noted) given now j timer time content there
+  postpone_action (Some (Set timer time content)) given noted now j there =
+      postpone_choice (is_noted timer noted) given now j (Set timer time content) (λ given actions. refl) there
+  postpone_action (Some (Cancel timer)) given noted now j there = postpone_choice (is_noted timer noted) given now j (Cancel timer) (λ given actions. refl) there
+  postpone_action (Some (Update timer content)) given noted now j there =
+      postpone_choice (is_noted timer noted) given now j (Update timer content) (λ given actions. refl) there
+  postpone_action (Some (Send target content)) given noted now j there = refl
   postpone_action (Some Hibernate) given noted now j there = refl
 
   pub postpone_kept : (given : Bool) (noted : NotedTimers) (now : List (Action C)) (j : ℕ) → postpone_or given (kept noted now j) ≡ postpone_or given now
@@ -168,7 +214,16 @@ module _ {C : Type 0} where
   none_set timer (Postpone last ∷ actions) none = none_set timer actions none
   none_set timer (NextEvent kind content ∷ actions) none = none_set timer actions none
   none_set timer (Set other time content ∷ actions) none = cc
+  none_set timer (Cancel other ∷ actions) none = cc
+  none_set timer (Update other content ∷ actions) none = cc
+  none_set timer (Send target content ∷ actions) none = none_set timer actions none
   none_set timer (Hibernate ∷ actions) none = none_set timer actions none
+
+  alone_is_last : (timer : Timer) (wanted : Asked C) (rest : List (Setting C)) (actions : List (Action C)) → length rest + 1 ≤ 1 → rest ≡ all_settings_of actions
+      → rest ≡ settings_of actions → record { timer = timer; asked = wanted } ∷ rest ≡ asked_unless (sets timer actions) timer wanted (settings_of actions)
+  alone_is_last timer wanted rest actions few all last =
+      let none = nil_from_length rest (omega (arith, few)) in
+      rw (none_set timer actions (sym all ∙ none)) (ap (λ (rest : List (Setting C)). record { timer = timer; asked = wanted } ∷ rest) last)
 
   pub one_is_last : (actions : List (Action C)) → length (all_settings_of actions) ≤ 1 → all_settings_of actions ≡ settings_of actions
   one_is_last [] few = refl
@@ -176,8 +231,10 @@ module _ {C : Type 0} where
   one_is_last (Postpone last ∷ actions) few = one_is_last actions few
   one_is_last (NextEvent kind content ∷ actions) few = one_is_last actions few
   one_is_last (Set timer time content ∷ actions) few =
-      let none : length (all_settings_of actions) ≡ 0 = omega (arith, few) in
-      let alone : length (all_settings_of actions) ≤ 1 = omega (arith, none) in
-      rw (none_set timer actions (nil_from_length (all_settings_of actions) none))
-      (ap (λ (rest : List (Setting C)). record { timer = timer; time = time; content = content } ∷ rest) (one_is_last actions alone))
+      alone_is_last timer (asked.Set time content) (all_settings_of actions) actions (omega (arith, few)) refl (one_is_last actions (omega (arith, few)))
+  one_is_last (Cancel timer ∷ actions) few =
+      alone_is_last timer asked.Cancel (all_settings_of actions) actions (omega (arith, few)) refl (one_is_last actions (omega (arith, few)))
+  one_is_last (Update timer content ∷ actions) few =
+      alone_is_last timer (asked.Update content) (all_settings_of actions) actions (omega (arith, few)) refl (one_is_last actions (omega (arith, few)))
+  one_is_last (Send target content ∷ actions) few = one_is_last actions few
   one_is_last (Hibernate ∷ actions) few = one_is_last actions few

@@ -1,14 +1,15 @@
 -- Actions of one kind that leave a list one after another, and settings that later ones override.
-use Rattle.std.proofs.Common.{◌≡◌, ℕ, zero, suc, ◌+◌, false, Option, Some, None, List, [], ◌∷◌, ◌++◌, refl, sym, ap, ◌∙◌, take, drop, set, is_some, arith}
+use Rattle.std.proofs.Common.{◌≡◌, ℕ, zero, suc, ◌+◌, true, false, Option, Some, None, List, [], ◌∷◌, ◌++◌, refl, sym, ap, ◌∙◌, take, drop, set, is_some, arith}
 use Rattle.std.specs.Prelude.{slice_get}
 use Rattle.std.specs.List.{filter_map, cons_option}
-use Rattle.std.specs.Option.{option_and_then}
+use Rattle.std.specs.Option.{option_and_then, option_to_list}
 use Rattle.st_events.specs.declared.action.Action.{Action}
-use Rattle.st_events.specs.declared.action.Action.TheVariants.{Reply, Postpone, NextEvent, Set, Hibernate}
+use Rattle.st_events.specs.declared.action.Action.TheVariants.{Reply, Postpone, NextEvent, Set, Cancel, Update, Send, Hibernate}
+use Rattle.st_events.specs.declared.asked.Asked.TheVariants as asked
 use Rattle.st_events.specs.declared.insert.Insert.{Insert}
 use Rattle.st_events.specs.declared.setting.Setting.{Setting}
-use Rattle.st_actions.specs.Plan.{replies_of, inserts_of}
-use Rattle.st_actions.specs.Taking.{all_settings_of, as_reply, as_insert, as_setting}
+use Rattle.st_actions.specs.Plan.{replies_of, inserts_of, sends_of}
+use Rattle.st_actions.specs.Taking.{all_settings_of, as_reply, as_insert, as_setting, as_send}
 
 cons_none : {X : Type 0} (o : Option X) (xs : List X) → cons_option o xs ≡ [] → (o ≡ None) × (xs ≡ [])
 cons_none None xs h = (refl, h)
@@ -81,13 +82,19 @@ module _ {A X : Type 0} (f : A → Option X) (blank : A) (no_blank : f blank ≡
   first_out xs index a x there is none =
       of_is xs ∙ (out_first xs index a x there is (sym (of_is (take index xs)) ∙ none) ∙ ap (λ (ys : List X). x ∷ ys) (sym (of_is (set xs index blank))))
 
+  pub other_out : (xs : List A) (index : ℕ) (a : A) → slice_get xs index ≡ Some a → f a ≡ None → of (set xs index blank) ≡ of xs
+  other_out xs index a there is = of_is (set xs index blank) ∙ (out_other xs index a there is ∙ sym (of_is xs))
+
+  -- what the element at an index is of this kind, if it is
+  pub first_taken : (xs : List A) (index : ℕ) (a : A) (o : Option X) → slice_get xs index ≡ Some a → o ≡ f a
+      → of (take index xs) ≡ [] → of xs ≡ option_to_list o ++ of (set xs index blank)
+  first_taken xs index a None there is none = sym (other_out xs index a there (sym is))
+  first_taken xs index a (Some x) there is none = first_out xs index a x there (sym is) none
+
   pub last_out : (xs : List A) (index : ℕ) (a : A) (x : X) → slice_get xs index ≡ Some a → f a ≡ Some x
       → of (drop (index + 1) xs) ≡ [] → of xs ≡ of (set xs index blank) ++ x ∷ []
   last_out xs index a x there is none =
       of_is xs ∙ (out_last xs index a x there is (after_drop xs index none) ∙ ap (λ (ys : List X). ys ++ x ∷ []) (sym (of_is (set xs index blank))))
-
-  pub other_out : (xs : List A) (index : ℕ) (a : A) → slice_get xs index ≡ Some a → f a ≡ None → of (set xs index blank) ≡ of xs
-  other_out xs index a there is = of_is (set xs index blank) ∙ (out_other xs index a there is ∙ sym (of_is xs))
 
   pub none_in_front : (xs : List A) (index : ℕ) → of (take index xs) ≡ []
       → ((a : A) → slice_get xs index ≡ Some a → f a ≡ None) → of (take (index + 1) xs) ≡ []
@@ -103,7 +110,7 @@ module _ {A X : Type 0} (f : A → Option X) (blank : A) (no_blank : f blank ≡
   pub none_behind_out : (xs : List A) (index : ℕ) → of (drop (index + 1) xs) ≡ [] → of (drop index (set xs index blank)) ≡ []
   none_behind_out xs index none = of_is (drop index (set xs index blank)) ∙ behind_out xs index (after_drop xs index none)
 
--- ---- the three kinds
+-- ---- the four kinds
 module _ {C : Type 0} where
   pub replies_are : (actions : List (Action C)) → replies_of actions ≡ filter_map as_reply actions
   replies_are [] = refl
@@ -111,6 +118,9 @@ module _ {C : Type 0} where
   replies_are (Postpone last ∷ actions) = replies_are actions
   replies_are (NextEvent kind content ∷ actions) = replies_are actions
   replies_are (Set timer time content ∷ actions) = replies_are actions
+  replies_are (Cancel timer ∷ actions) = replies_are actions
+  replies_are (Update timer content ∷ actions) = replies_are actions
+  replies_are (Send target content ∷ actions) = replies_are actions
   replies_are (Hibernate ∷ actions) = replies_are actions
 
   pub inserts_are : (actions : List (Action C)) → inserts_of actions ≡ filter_map as_insert actions
@@ -119,6 +129,9 @@ module _ {C : Type 0} where
   inserts_are (Postpone last ∷ actions) = inserts_are actions
   inserts_are (NextEvent kind content ∷ actions) = ap (λ (inserts : List (Insert C)). record { kind = kind; content = content } ∷ inserts) (inserts_are actions)
   inserts_are (Set timer time content ∷ actions) = inserts_are actions
+  inserts_are (Cancel timer ∷ actions) = inserts_are actions
+  inserts_are (Update timer content ∷ actions) = inserts_are actions
+  inserts_are (Send target content ∷ actions) = inserts_are actions
   inserts_are (Hibernate ∷ actions) = inserts_are actions
 
   pub settings_are : (actions : List (Action C)) → all_settings_of actions ≡ filter_map as_setting actions
@@ -126,10 +139,61 @@ module _ {C : Type 0} where
   settings_are (Reply tag content ∷ actions) = settings_are actions
   settings_are (Postpone last ∷ actions) = settings_are actions
   settings_are (NextEvent kind content ∷ actions) = settings_are actions
-  settings_are (Set timer time content ∷ actions) = ap (λ (settings : List (Setting C)). record { timer = timer; time = time; content = content } ∷ settings) (settings_are actions)
+  settings_are (Set timer time content ∷ actions) =
+      ap (λ (settings : List (Setting C)). record { timer = timer; asked = asked.Set time content } ∷ settings) (settings_are actions)
+  settings_are (Cancel timer ∷ actions) = ap (λ (settings : List (Setting C)). record { timer = timer; asked = asked.Cancel } ∷ settings) (settings_are actions)
+  settings_are (Update timer content ∷ actions) =
+      ap (λ (settings : List (Setting C)). record { timer = timer; asked = asked.Update content } ∷ settings) (settings_are actions)
+  settings_are (Send target content ∷ actions) = settings_are actions
   settings_are (Hibernate ∷ actions) = settings_are actions
+
+  pub sends_are : (actions : List (Action C)) → sends_of actions ≡ filter_map as_send actions
+  sends_are [] = refl
+  sends_are (Reply tag content ∷ actions) = sends_are actions
+  sends_are (Postpone last ∷ actions) = sends_are actions
+  sends_are (NextEvent kind content ∷ actions) = sends_are actions
+  sends_are (Set timer time content ∷ actions) = sends_are actions
+  sends_are (Cancel timer ∷ actions) = sends_are actions
+  sends_are (Update timer content ∷ actions) = sends_are actions
+  sends_are (Send target content ∷ actions) = ap (λ sends. (target, content) ∷ sends) (sends_are actions)
+  sends_are (Hibernate ∷ actions) = sends_are actions
+
+  -- what asks something of a timer is of no other kind
+  pub setting_is_no_reply : (action : Action C) → is_some (as_setting action) ≡ true → as_reply action ≡ None
+  setting_is_no_reply (Reply tag content) setting = cc
+  setting_is_no_reply (Postpone last) setting = refl
+  setting_is_no_reply (NextEvent kind content) setting = refl
+  setting_is_no_reply (Set other time content) setting = refl
+  setting_is_no_reply (Cancel other) setting = refl
+  setting_is_no_reply (Update other content) setting = refl
+  setting_is_no_reply (Send target content) setting = refl
+  setting_is_no_reply Hibernate setting = refl
+
+  pub setting_is_no_insert : (action : Action C) → is_some (as_setting action) ≡ true → as_insert action ≡ None
+  setting_is_no_insert (Reply tag content) setting = refl
+  setting_is_no_insert (Postpone last) setting = refl
+  setting_is_no_insert (NextEvent kind content) setting = cc
+  setting_is_no_insert (Set other time content) setting = refl
+  setting_is_no_insert (Cancel other) setting = refl
+  setting_is_no_insert (Update other content) setting = refl
+  setting_is_no_insert (Send target content) setting = refl
+  setting_is_no_insert Hibernate setting = refl
+
+  pub setting_is_no_send : (action : Action C) → is_some (as_setting action) ≡ true → as_send action ≡ None
+  setting_is_no_send (Reply tag content) setting = refl
+  setting_is_no_send (Postpone last) setting = refl
+  setting_is_no_send (NextEvent kind content) setting = refl
+  setting_is_no_send (Set other time content) setting = refl
+  setting_is_no_send (Cancel other) setting = refl
+  setting_is_no_send (Update other content) setting = refl
+  setting_is_no_send (Send target content) setting = cc
+  setting_is_no_send Hibernate setting = refl
 
 -- ---- what stands at an index
 pub none_at : {A X : Type 0} (f : A → Option X) (xs : List A) (index : ℕ) → is_some (option_and_then f (slice_get xs index)) ≡ false
     → (a : A) → slice_get xs index ≡ Some a → f a ≡ None
 none_at f xs index none a there = not_some (f a) (rw there at none)
+
+pub some_at : {A X : Type 0} (f : A → Option X) (xs : List A) (index : ℕ) (a : A) → is_some (option_and_then f (slice_get xs index)) ≡ true
+    → slice_get xs index ≡ Some a → is_some (f a) ≡ true
+some_at f xs index a some there = rw there at some

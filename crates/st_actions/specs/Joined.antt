@@ -17,6 +17,8 @@ use Rattle.st_actions.specs.Plan.{plan_of}
 abbrev pub as_action : {C : Type 0} → EnterAction C → Action C
 as_action (enter.Reply tag content) = action.Reply tag content
 as_action (enter.Set timer time content) = action.Set timer time content
+as_action (enter.Cancel timer) = action.Cancel timer
+as_action (enter.Update timer content) = action.Update timer content
 as_action enter.Hibernate = action.Hibernate
 
 -- the actions that an enter call's actions are
@@ -27,11 +29,11 @@ as_actions {C} actions = map (λ (action : EnterAction C). as_action action) act
 abbrev pub enter_plan_of : {C : Type 0} → List (EnterAction C) → Planned C
 enter_plan_of actions = plan_of (as_actions actions)
 
--- whether a setting sets a timer
+-- whether a setting asks something of a timer
 abbrev pub is_setting_of : {C : Type 0} → Timer → Setting C → Bool
 is_setting_of timer setting = same_timer timer setting.timer
 
--- whether a timer is set by one of the settings
+-- whether one of the settings asks something of a timer
 abbrev pub is_set_by : {C : Type 0} → Timer → List (Setting C) → Bool
 is_set_by {C} timer settings = list_any (λ (setting : Setting C). is_setting_of timer setting) settings
 
@@ -43,7 +45,7 @@ remaining_of (setting ∷ settings) later =
     then remaining_of settings later
     else setting ∷ remaining_of settings later
 
--- all that two lists ask for: the first decides whether the event is postponed, and of a timer's settings
+-- all that two lists ask for: the first decides whether the event is postponed, and of what is asked of one timer
 -- the second list's
 abbrev pub joined_of : {C : Type 0} → Planned C → Planned C → Planned C
 joined_of first second = record {
@@ -51,12 +53,14 @@ joined_of first second = record {
   postpone = first.postpone;
   inserts = first.inserts ++ second.inserts;
   requests = remaining_of first.requests second.requests ++ second.requests;
+  sends = first.sends ++ second.sends;
 }
 
 -- two lists ask for so little that none of what they ask for together is longer than four
 abbrev pub AreShort : {C : Type 0} → Planned C → Planned C → Type 0
 AreShort first second =
     (length first.replies + length second.replies ≤ 4) × (length first.inserts + length second.inserts ≤ 4) × (length first.requests + length second.requests ≤ 4)
+    × (length first.sends + length second.sends ≤ 4)
 
 -- a list in the making with more elements at its end, and reserved for so many fewer
 abbrev pub with_elements : {T : Type 0} → Building T → List T → Building T

@@ -1,7 +1,7 @@
 //! What two lists of actions ask for, put together.
 ghost use Rattle.std.specs.Prelude.{◌≡◌, ◌+◌, ◌≤◌, List, [], ◌++◌, length, max, filter, not, IsOk, IfOk, IfErr};
 ghost use Rattle.std.specs.Mem.{FitsInMemory};
-ghost use Rattle.st_events.specs.Rows.{RepliesFit, InsertsFit, SettingsFit};
+ghost use Rattle.st_events.specs.Rows.{RepliesFit, InsertsFit, SettingsFit, SendsFit};
 ghost use Rattle.st_events.specs.contracts.small_list.SmallList.{the_row as list_row};
 ghost use Rattle.st_events.specs.declared.action.Action.{Action};
 ghost use Rattle.st_events.specs.declared.enter_action.EnterAction.{EnterAction};
@@ -19,7 +19,7 @@ use std::alloc::{AllocError, AllocFailed, Global};
 /// enter call that follows it. The first alone says whether the event is postponed. So what comes of the plans
 /// of two lists is the plan of both as one list. Where both together
 /// have at most four of each kind it takes no memory. Where memory is wanted and there is none, both
-/// come back. Each setting is looked at once, and the timers of the second list's are noted.
+/// come back. Each setting is looked at once, and the timers of which the second list asks something are noted.
 ///
 /// Manual: `state_enter()`; `action()`, on the last one that decides.
 pub fn join<C: Drop>(
@@ -30,6 +30,7 @@ pub fn join<C: Drop>(
     requires replies_fit { RepliesFit C.row }
     requires inserts_fit { InsertsFit C.row }
     requires settings_fit { SettingsFit C.row }
+    requires sends_fit { SendsFit C.row }
     ensures joined { IfOk result (λ planned. planned ≡ joined_of first second) }
     ensures plan_of_both { (actions : List (Action C)) (enter : List (EnterAction C))
         → first ≡ plan_of actions → second ≡ enter_plan_of enter → IfOk result (λ planned. planned ≡ plan_of (actions ++ as_actions enter)) }
@@ -52,6 +53,11 @@ pub fn join<C: Drop>(
             value: (first, second),
         });
     };
+    let Ok(mut sends) = reserved_for(alloc, &first.sends, &second.sends) else {
+        return Err(AllocFailed {
+            value: (first, second),
+        });
+    };
     let Ok(later) = timers_of(alloc, &second.requests) else {
         return Err(AllocFailed {
             value: (first, second),
@@ -64,14 +70,18 @@ pub fn join<C: Drop>(
     move_all(second.inserts, &mut inserts);
     move_remaining(first.requests, &later, &mut settings);
     move_all(second.requests, &mut settings);
+    move_all(first.sends, &mut sends);
+    move_all(second.sends, &mut sends);
     let replies = replies.finish();
     let inserts = inserts.finish();
     let settings = settings.finish();
+    let sends = sends.finish();
     Ok(Planned {
         replies,
         postpone,
         inserts,
         requests: settings,
+        sends,
     })
 }
 
@@ -104,7 +114,7 @@ fn move_all<T: Drop>(elements: SmallList<T>, onto: &mut SmallListBuilder<T>)
     }
 }
 
-/// The timers that settings set. For up to four settings this takes no memory.
+/// The timers of which settings ask something. For up to four settings this takes no memory.
 fn timers_of<C>(alloc: Global, settings: &Settings<C>) -> Result<NotedTimers, AllocError>
     ensures noted { IfOk result (λ noted. (timer : Timer) → is_noted timer noted ≡ is_set_by timer settings.now) }
 
@@ -120,7 +130,7 @@ fn timers_of<C>(alloc: Global, settings: &Settings<C>) -> Result<NotedTimers, Al
     Ok(noted)
 }
 
-/// Moves the settings whose timers no later one sets to the end of a list in the making, in their order.
+/// Moves the settings whose timers the later ones leave alone to the end of a list in the making, in their order.
 fn move_remaining<C: Drop>(
     settings: Settings<C>,
     later: &NotedTimers,

@@ -1,6 +1,7 @@
 //! What a list of actions asks for. It knows nothing of the machine that asks.
 #![tactic(auto)]
 
+mod asking;
 mod counts;
 mod enter_planning;
 mod in_order;
@@ -17,5 +18,5 @@ pub use joining::join;
 pub use once::count_last;
 pub use planned::Planned;
 pub use planning::plan;
-pub use st_events::{Actions, EnterActions, Inserts, Replies, Settings};
-pub use taking::{take_insert, take_reply, take_setting};
+pub use st_events::{Actions, EnterActions, Inserts, Replies, Sends, Settings};
+pub use taking::{take_insert, take_reply, take_send, take_setting};

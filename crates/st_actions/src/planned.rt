@@ -1,9 +1,9 @@
 //! What a list of actions asks for.
 
-use st_events::{Inserts, Replies, Settings};
+use st_events::{Inserts, Replies, Sends, Settings};
 
 /// What a list of actions asks for, by kinds: the replies, whether the event is postponed, the events to
-/// be inserted, and the timers to be set.
+/// be inserted, what is asked of timers, and what is to be sent.
 ///
 /// Manual: `action()`.
 #[derive(Drop)]
@@ -14,6 +14,8 @@ pub struct Planned<C> {
     pub postpone: bool,
     /// In the order in which they are handled.
     pub inserts: Inserts<C>,
-    /// Of each timer its last setting, in the order of these.
+    /// Of each timer the last that is asked of it, in the order of these.
     pub requests: Settings<C>,
+    /// In the order in which they are sent.
+    pub sends: Sends<C>,
 }

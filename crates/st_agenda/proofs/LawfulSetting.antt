@@ -1,8 +1,10 @@
 -- A schedule that can come about is followed by one that can, whatever is posted, inserted, set, cancelled or
 -- retried, or expires; and the numbers that then stand in it.
 use Rattle.std.proofs.Common.{◌≡◌, ℕ, ◌+◌, ◌<◌, ◌≤◌, ◌^◌, Bool, true, false, not, ◌&&◌, ◌||◌, ◌==◌, if◌then◌else◌, List, [], ◌∷◌, ◌++◌, Option, Some, None, map, filter, length, refl, ◌∙◌, ap, arith, ◌⊎◌, inl, inr}
-use Rattle.std.specs.Prelude.{nat_le}
-use Rattle.std.proofs.lemmas.Bool.{cases_lt}
+use Rattle.std.specs.Prelude.{nat_le, is_some}
+use Rattle.std.proofs.lemmas.Bool.{cases_Bool, cases_lt}
+use Rattle.st_events.specs.declared.asked.Asked.{Asked}
+use Rattle.st_events.specs.declared.asked.Asked.TheVariants as asked
 use Rattle.st_events.specs.declared.event.Event.{Event}
 use Rattle.st_events.specs.declared.insert.Insert.{Insert}
 use Rattle.st_events.specs.declared.setting.Setting.{Setting}
@@ -10,20 +12,20 @@ use Rattle.st_events.specs.declared.time.Time.{Time}
 use Rattle.st_events.specs.declared.time.Time.TheVariants.{After, Infinity}
 use Rattle.st_events.specs.declared.timer.Timer.{Timer}
 use Rattle.st_events.specs.declared.timer.Timer.TheVariants as timer
-use Rattle.st_events.specs.Timers.{same_timer}
+use Rattle.st_events.specs.Timers.{same_timer, is_asked, AskedOnce}
 use Rattle.st_events.proofs.ComparedLemmas.{same_number, same_timer_self, timers_same, same_timer_flips}
 use Rattle.st_timeouts.specs.declared.due.Due.{Due}
 use Rattle.st_timeouts.specs.declared.due.Due.TheVariants.{Zero, At}
 use Rattle.st_timeouts.specs.declared.running.Running.{Running}
-use Rattle.st_timeouts.specs.Running.{OneEach, due_after, running_of, runs_for, without_running, is_due_by, is_before, put_in_order, in_order}
+use Rattle.st_timeouts.specs.Running.{OneEach, due_after, running_of, runs_for, without_running, with_content, is_due_by, is_before, put_in_order, in_order}
 use Rattle.st_timeouts.proofs.OrderLemmas.{not_first, gone, one_each_more, put_none, ordered_none}
 use Rattle.st_agenda.specs.declared.item.Item.{Item}
 use Rattle.st_agenda.specs.declared.item.Item.TheVariants.{Received, Posted, Expiry}
 use Rattle.st_agenda.specs.Items.{has, first_received, is_postponed, numbers_of, placed, numbered}
-use Rattle.st_actions.specs.Counted.{number_taken, numbers_taken}
-use Rattle.st_agenda.specs.Timing.{is_expiry, without_expiry, expiry_waits, expiring_by}
+use Rattle.st_actions.specs.Counted.{number_taken}
+use Rattle.st_agenda.specs.Timing.{is_expiry, without_expiry, expiry_waits, taken_by, numbers_taken, expiring_by}
 use Rattle.st_agenda.specs.declared.schedule.Schedule.{Schedule}
-use Rattle.st_agenda.specs.Agenda.{with_all_expired, cancelled_in, retried_in, inserted_in, begun_in, set_in, all_set_in}
+use Rattle.st_agenda.specs.Agenda.{with_all_expired, cancelled_in, retried_in, inserted_in, begun_in, restarted_in, updated_in, asked_in, set_in, all_set_in}
 use Rattle.st_agenda.specs.Lawful.{times, waiting_numbers, running_numbers, live_numbers, NoneReceived, ReceivedFirst, PostponedFirst, IsDueBy, ExpiriesDue, IsLawfulSchedule}
 use Rattle.st_agenda.proofs.PendingLemmas.{eq_flips}
 use Rattle.st_agenda.proofs.ItemsLemmas.{first_cancelled}
@@ -79,6 +81,11 @@ moment_later moment latest later h d = grind (arith, h, d)
 due_later : (latest later : ℕ) (due : Due) → latest ≤ later → is_due_by latest due ≡ true → is_due_by later due ≡ true
 due_later latest later Zero h d = cc
 due_later latest later (At moment) h d = moment_later moment latest later h d
+
+-- neither of two holds
+both_false : (one other : Bool) → one || other ≡ false → (one ≡ false) × (other ≡ false)
+both_false true other h = cc
+both_false false other h = (refl, h)
 
 module _ {C : Type 0} where
   -- ---- the numbers that inserts get: none below the first, none from the last on, and each once at most
@@ -603,49 +610,234 @@ module _ {C : Type 0} where
       let one : Running C = record { timer = timer; number = s.next_number; due = due_after time now; content = content } in
       begun_live s one n ∙ same_more n s.next_number (times n (live_numbers s)) (λ e. omega (arith, e, less))
 
-  -- ---- a timer is set or stopped
-  lawful_set : (latest now : ℕ) (s : Schedule C) (setting : Setting C) → s.next_number + number_taken setting.time ≤ 2 ^ 63 → IsLawfulSchedule latest s
-      → IsLawfulSchedule latest (set_in now s setting)
-  lawful_set latest now s setting reserved law =
-      lawful_begun latest now (cancelled_in s setting.timer) setting.timer setting.time setting.content (stopped s setting.timer) reserved
-      (lawful_cancelled latest s setting.timer law)
+  -- ---- a time-out that runs has another content
+  numbers_by : (same : Bool) (one : Running C) (content : C) (rest others : List (Running C)) → running_numbers rest ≡ running_numbers others
+      → running_numbers (if same then record one { content = content } ∷ rest else one ∷ rest) ≡ one.number ∷ running_numbers others
+  numbers_by true one content rest others h = ap (λ (numbers : List ℕ). one.number ∷ numbers) h
+  numbers_by false one content rest others h = ap (λ (numbers : List ℕ). one.number ∷ numbers) h
 
-  set_waiting : (now : ℕ) (s : Schedule C) (setting : Setting C) → waiting_numbers (set_in now s setting).pending ≡ waiting_numbers s.pending
-  set_waiting now s setting =
-      ap waiting_numbers (begun_waiting now (cancelled_in s setting.timer) setting.timer setting.time setting.content) ∙ waiting_without setting.timer s.pending
+  updated_numbers : (timer : Timer) (content : C) (running : List (Running C)) → running_numbers (with_content timer content running) ≡ running_numbers running
+  updated_numbers timer content [] = refl
+  updated_numbers timer content (one ∷ others) =
+      numbers_by (runs_for timer one) one content (with_content timer content others) others (updated_numbers timer content others)
 
-  pub set_next : (now : ℕ) (s : Schedule C) (setting : Setting C) → (set_in now s setting).next_number ≡ s.next_number + number_taken setting.time
-  set_next now s setting = begun_next now (cancelled_in s setting.timer) setting.timer setting.time setting.content
+  found_by : (same : Bool) (other : Timer) (one : Running C) (content : C) (rest : List (Running C))
+      → is_some (running_of other (if same then record one { content = content } ∷ rest else one ∷ rest)) ≡ is_some (running_of other (one ∷ rest))
+  found_by true other one content rest = elim (cases_Bool (runs_for other one)) [ inl mine ↦ rw mine refl | inr apart ↦ rw apart refl ]
+  found_by false other one content rest = refl
 
-  set_live : (now : ℕ) (s : Schedule C) (setting : Setting C) (n : ℕ) → n < s.next_number → times n (live_numbers (set_in now s setting)) ≤ times n (live_numbers s)
-  set_live now s setting n less =
-      rw (begun_old now (cancelled_in s setting.timer) setting.timer setting.time setting.content n less) (cancelled_live s setting.timer n)
+  rest_by : (mine : Bool) (one : Running C) (few more : Option (Running C)) → is_some few ≡ is_some more
+      → is_some (if mine then Some one else few) ≡ is_some (if mine then Some one else more)
+  rest_by true one few more h = refl
+  rest_by false one few more h = h
 
-  -- ---- timers are set or stopped, in the order of the settings
+  -- the same timers run
+  pub updated_runs : (timer other : Timer) (content : C) (running : List (Running C)) → is_some (running_of other (with_content timer content running)) ≡ is_some (running_of other running)
+  updated_runs timer other content [] = refl
+  updated_runs timer other content (one ∷ others) =
+      found_by (runs_for timer one) other one content (with_content timer content others)
+      ∙ rest_by (runs_for other one) one (running_of other (with_content timer content others)) (running_of other others) (updated_runs timer other content others)
+
+  none_is : (found : Option (Running C)) → is_some found ≡ false → found ≡ None
+  none_is None h = refl
+  none_is (Some one) h = cc
+
+  updated_none : (timer other : Timer) (content : C) (running : List (Running C)) → running_of other running ≡ None → running_of other (with_content timer content running) ≡ None
+  updated_none timer other content running none = none_is _ (updated_runs timer other content running ∙ ap is_some none)
+
+  each_by : (same : Bool) (one : Running C) (content : C) (rest : List (Running C)) → running_of one.timer rest ≡ None → OneEach rest
+      → OneEach (if same then record one { content = content } ∷ rest else one ∷ rest)
+  each_by true one content rest h k = (h, k)
+  each_by false one content rest h k = (h, k)
+
+  updated_each : (timer : Timer) (content : C) (running : List (Running C)) → OneEach running → OneEach (with_content timer content running)
+  updated_each timer content [] each = tt
+  updated_each timer content (one ∷ others) each =
+      each_by (runs_for timer one) one content (with_content timer content others) (updated_none timer one.timer content others each.0) (updated_each timer content others each.1)
+
+  due_by : (mine : Bool) (latest : ℕ) (one other : Running C) (few more : Option (Running C)) → other.due ≡ one.due → (IsDueBy latest few → IsDueBy latest more)
+      → IsDueBy latest (if mine then Some one else few) → IsDueBy latest (if mine then Some other else more)
+  due_by true latest one other few more same f d = rw same d
+  due_by false latest one other few more same f d = f d
+
+  due_either : (same : Bool) (latest : ℕ) (other : Timer) (one : Running C) (content : C) (rest others : List (Running C))
+      → (IsDueBy latest (running_of other others) → IsDueBy latest (running_of other rest)) → IsDueBy latest (running_of other (one ∷ others))
+      → IsDueBy latest (running_of other (if same then record one { content = content } ∷ rest else one ∷ rest))
+  due_either true latest other one content rest others f d =
+      due_by (runs_for other one) latest one (record one { content = content }) (running_of other others) (running_of other rest) refl f d
+  due_either false latest other one content rest others f d =
+      due_by (runs_for other one) latest one one (running_of other others) (running_of other rest) refl f d
+
+  updated_due : (latest : ℕ) (timer other : Timer) (content : C) (running : List (Running C)) → IsDueBy latest (running_of other running)
+      → IsDueBy latest (running_of other (with_content timer content running))
+  updated_due latest timer other content [] d = d
+  updated_due latest timer other content (one ∷ others) d =
+      due_either (runs_for timer one) latest other one content (with_content timer content others) others (updated_due latest timer other content others) d
+
+  updated_expiries : (latest : ℕ) (timer : Timer) (content : C) (running : List (Running C)) (items : List (Item C)) → ExpiriesDue latest running items
+      → ExpiriesDue latest (with_content timer content running) items
+  updated_expiries latest timer content running [] e = tt
+  updated_expiries latest timer content running (Received event ∷ items) e = updated_expiries latest timer content running items e
+  updated_expiries latest timer content running (Posted event ∷ items) e = updated_expiries latest timer content running items e
+  updated_expiries latest timer content running (Expiry other ∷ items) e =
+      (updated_due latest timer other content running e.0, e.1, updated_expiries latest timer content running items e.2)
+
+  updated_live : (s : Schedule C) (timer : Timer) (content : C) (n : ℕ) → times n (live_numbers (updated_in s timer content)) ≡ times n (live_numbers s)
+  updated_live s timer content n = ap (λ (numbers : List ℕ). times n (waiting_numbers s.pending ++ numbers)) (updated_numbers timer content s.running)
+
+  lawful_updated : (latest : ℕ) (s : Schedule C) (timer : Timer) (content : C) → IsLawfulSchedule latest s → IsLawfulSchedule latest (updated_in s timer content)
+  lawful_updated latest s timer content law = record {
+    received_first = law.received_first;
+    postponed_first = law.postponed_first;
+    one_each = updated_each timer content s.running law.one_each;
+    distinct = λ n. rw (updated_live s timer content n) (law.distinct n);
+    below = λ n more. rw (updated_live s timer content n) (law.below n more);
+    expiries = updated_expiries latest timer content s.running s.pending law.expiries;
+    bounded = law.bounded;
+  }
+
+  -- ---- what is asked of a timer is done
+  lawful_restarted : (latest now : ℕ) (s : Schedule C) (timer : Timer) (time : Time) (content : C) → s.next_number + number_taken time ≤ 2 ^ 63 → IsLawfulSchedule latest s
+      → IsLawfulSchedule latest (restarted_in now s timer time content)
+  lawful_restarted latest now s timer time content reserved law =
+      lawful_begun latest now (cancelled_in s timer) timer time content (stopped s timer) reserved (lawful_cancelled latest s timer law)
+
+  restarted_waiting : (now : ℕ) (s : Schedule C) (timer : Timer) (time : Time) (content : C) → waiting_numbers (restarted_in now s timer time content).pending ≡ waiting_numbers s.pending
+  restarted_waiting now s timer time content = ap waiting_numbers (begun_waiting now (cancelled_in s timer) timer time content) ∙ waiting_without timer s.pending
+
+  restarted_live : (now : ℕ) (s : Schedule C) (timer : Timer) (time : Time) (content : C) (n : ℕ) → n < s.next_number
+      → times n (live_numbers (restarted_in now s timer time content)) ≤ times n (live_numbers s)
+  restarted_live now s timer time content n less = rw (begun_old now (cancelled_in s timer) timer time content n less) (cancelled_live s timer n)
+
+  -- an update of a timer that runs, or not
+  lawful_update : (runs : Bool) (latest now : ℕ) (s : Schedule C) (timer : Timer) (content : C) → s.next_number + (if runs then 0 else 1) ≤ 2 ^ 63 → IsLawfulSchedule latest s
+      → IsLawfulSchedule latest (if runs then updated_in s timer content else restarted_in now s timer (After 0) content)
+  lawful_update true latest now s timer content reserved law = lawful_updated latest s timer content law
+  lawful_update false latest now s timer content reserved law = lawful_restarted latest now s timer (After 0) content reserved law
+
+  lawful_asked : (latest now : ℕ) (s : Schedule C) (timer : Timer) (wanted : Asked C) → s.next_number + taken_by s.running timer wanted ≤ 2 ^ 63 → IsLawfulSchedule latest s
+      → IsLawfulSchedule latest (asked_in now s timer wanted)
+  lawful_asked latest now s timer (asked.Set time content) reserved law = lawful_restarted latest now s timer time content reserved law
+  lawful_asked latest now s timer asked.Cancel reserved law = lawful_cancelled latest s timer law
+  lawful_asked latest now s timer (asked.Update content) reserved law = lawful_update (is_some (running_of timer s.running)) latest now s timer content reserved law
+
+  update_waiting : (runs : Bool) (now : ℕ) (s : Schedule C) (timer : Timer) (content : C)
+      → waiting_numbers (if runs then updated_in s timer content else restarted_in now s timer (After 0) content).pending ≡ waiting_numbers s.pending
+  update_waiting true now s timer content = refl
+  update_waiting false now s timer content = restarted_waiting now s timer (After 0) content
+
+  asked_waiting : (now : ℕ) (s : Schedule C) (timer : Timer) (wanted : Asked C) → waiting_numbers (asked_in now s timer wanted).pending ≡ waiting_numbers s.pending
+  asked_waiting now s timer (asked.Set time content) = restarted_waiting now s timer time content
+  asked_waiting now s timer asked.Cancel = waiting_without timer s.pending
+  asked_waiting now s timer (asked.Update content) = update_waiting (is_some (running_of timer s.running)) now s timer content
+
+  update_next : (runs : Bool) (now : ℕ) (s : Schedule C) (timer : Timer) (content : C)
+      → (if runs then updated_in s timer content else restarted_in now s timer (After 0) content).next_number ≡ s.next_number + (if runs then 0 else 1)
+  update_next true now s timer content = omega arith
+  update_next false now s timer content = refl
+
+  pub asked_next : (now : ℕ) (s : Schedule C) (timer : Timer) (wanted : Asked C) → (asked_in now s timer wanted).next_number ≡ s.next_number + taken_by s.running timer wanted
+  asked_next now s timer (asked.Set time content) = begun_next now (cancelled_in s timer) timer time content
+  asked_next now s timer asked.Cancel = omega arith
+  asked_next now s timer (asked.Update content) = update_next (is_some (running_of timer s.running)) now s timer content
+
+  update_live : (runs : Bool) (now : ℕ) (s : Schedule C) (timer : Timer) (content : C) (n : ℕ) → n < s.next_number
+      → times n (live_numbers (if runs then updated_in s timer content else restarted_in now s timer (After 0) content)) ≤ times n (live_numbers s)
+  update_live true now s timer content n less = rw (updated_live s timer content n) (omega arith)
+  update_live false now s timer content n less = restarted_live now s timer (After 0) content n less
+
+  asked_live : (now : ℕ) (s : Schedule C) (timer : Timer) (wanted : Asked C) (n : ℕ) → n < s.next_number → times n (live_numbers (asked_in now s timer wanted)) ≤ times n (live_numbers s)
+  asked_live now s timer (asked.Set time content) n less = restarted_live now s timer time content n less
+  asked_live now s timer asked.Cancel n less = cancelled_live s timer n
+  asked_live now s timer (asked.Update content) n less = update_live (is_some (running_of timer s.running)) now s timer content n less
+
+  -- ---- another timer runs as it did
+  without_by : (gone mine : Bool) (other : Timer) (one : Running C) (rest : List (Running C)) (more : Option (Running C)) → runs_for other one ≡ mine → (gone ≡ true → mine ≡ false)
+      → is_some (running_of other rest) ≡ is_some more → is_some (running_of other (if not gone then one ∷ rest else rest)) ≡ is_some (if mine then Some one else more)
+  without_by true true other one rest more is apart h = let same : true ≡ false = apart refl in cc
+  without_by true false other one rest more is apart h = h
+  without_by false true other one rest more is apart h = rw is refl
+  without_by false false other one rest more is apart h = rw is h
+
+  apart_timers : (timer other : Timer) (one : Running C) → same_timer other timer ≡ false → runs_for timer one ≡ true → runs_for other one ≡ false
+  apart_timers timer other one apart mine = let same : timer ≡ one.timer = timers_same timer one.timer mine in rw (← same) apart
+
+  pub cancelled_runs : (timer other : Timer) → same_timer other timer ≡ false → (running : List (Running C)) → is_some (running_of other (without_running timer running)) ≡ is_some (running_of other running)
+  cancelled_runs timer other apart [] = refl
+  cancelled_runs timer other apart (one ∷ others) =
+      without_by (runs_for timer one) (runs_for other one) other one (without_running timer others) (running_of other others) refl (apart_timers timer other one apart)
+      (cancelled_runs timer other apart others)
+
+  more_runs : (other : Timer) (one : Running C) → runs_for other one ≡ false → (running : List (Running C)) → is_some (running_of other (running ++ one ∷ [])) ≡ is_some (running_of other running)
+  more_runs other one apart [] = rw apart refl
+  more_runs other one apart (first ∷ running) =
+      rest_by (runs_for other first) first (running_of other (running ++ one ∷ [])) (running_of other running) (more_runs other one apart running)
+
+  begun_runs : (now : ℕ) (s : Schedule C) (timer other : Timer) (time : Time) (content : C) → same_timer other timer ≡ false
+      → is_some (running_of other (begun_in now s timer time content).running) ≡ is_some (running_of other s.running)
+  begun_runs now s timer other Infinity content apart = refl
+  begun_runs now s timer other (After time) content apart =
+      more_runs other (record { timer = timer; number = s.next_number; due = due_after time now; content = content }) apart s.running
+
+  restarted_runs : (now : ℕ) (s : Schedule C) (timer other : Timer) (time : Time) (content : C) → same_timer other timer ≡ false
+      → is_some (running_of other (restarted_in now s timer time content).running) ≡ is_some (running_of other s.running)
+  restarted_runs now s timer other time content apart =
+      begun_runs now (cancelled_in s timer) timer other time content apart ∙ cancelled_runs timer other apart s.running
+
+  update_runs : (runs : Bool) (now : ℕ) (s : Schedule C) (timer other : Timer) (content : C) → same_timer other timer ≡ false
+      → is_some (running_of other (if runs then updated_in s timer content else restarted_in now s timer (After 0) content).running) ≡ is_some (running_of other s.running)
+  update_runs true now s timer other content apart = updated_runs timer other content s.running
+  update_runs false now s timer other content apart = restarted_runs now s timer other (After 0) content apart
+
+  asked_runs : (now : ℕ) (s : Schedule C) (timer other : Timer) (wanted : Asked C) → same_timer other timer ≡ false
+      → is_some (running_of other (asked_in now s timer wanted).running) ≡ is_some (running_of other s.running)
+  asked_runs now s timer other (asked.Set time content) apart = restarted_runs now s timer other time content apart
+  asked_runs now s timer other asked.Cancel apart = cancelled_runs timer other apart s.running
+  asked_runs now s timer other (asked.Update content) apart = update_runs (is_some (running_of timer s.running)) now s timer other content apart
+
+  -- so what others take is the same
+  taken_same : (one other : List (Running C)) (timer : Timer) (wanted : Asked C) → is_some (running_of timer one) ≡ is_some (running_of timer other)
+      → taken_by one timer wanted ≡ taken_by other timer wanted
+  taken_same one other timer (asked.Set time content) same = refl
+  taken_same one other timer asked.Cancel same = refl
+  taken_same one other timer (asked.Update content) same = ap (λ (runs : Bool). if runs then 0 else 1) same
+
+  pub numbers_same : (now : ℕ) (s : Schedule C) (timer : Timer) (wanted : Asked C) (settings : List (Setting C)) → is_asked timer settings ≡ false
+      → numbers_taken (asked_in now s timer wanted).running settings ≡ numbers_taken s.running settings
+  numbers_same now s timer wanted [] none = refl
+  numbers_same now s timer wanted (setting ∷ settings) none =
+      let parts = both_false (same_timer timer setting.timer) (is_asked timer settings) none in
+      let apart : same_timer setting.timer timer ≡ false = same_timer_flips setting.timer timer ∙ parts.0 in
+      let first = taken_same (asked_in now s timer wanted).running s.running setting.timer setting.asked (asked_runs now s timer setting.timer wanted apart) in
+      let rest = numbers_same now s timer wanted settings parts.1 in
+      omega (arith, first, rest)
+
+  -- ---- settings are done, in their order
   pub set_all_waiting : (now : ℕ) (s : Schedule C) (settings : List (Setting C)) → waiting_numbers (all_set_in now s settings).pending ≡ waiting_numbers s.pending
   set_all_waiting now s [] = refl
-  set_all_waiting now s (setting ∷ settings) = set_all_waiting now (set_in now s setting) settings ∙ set_waiting now s setting
+  set_all_waiting now s (setting ∷ settings) = set_all_waiting now (set_in now s setting) settings ∙ asked_waiting now s setting.timer setting.asked
 
   pub set_all_next : (now : ℕ) (s : Schedule C) (settings : List (Setting C)) → s.next_number ≤ (all_set_in now s settings).next_number
   set_all_next now s [] = omega arith
   set_all_next now s (setting ∷ settings) =
-      let first = set_next now s setting in let rest = set_all_next now (set_in now s setting) settings in omega (arith, first, rest)
+      let first = asked_next now s setting.timer setting.asked in let rest = set_all_next now (set_in now s setting) settings in omega (arith, first, rest)
 
   pub set_all_live : (now : ℕ) (s : Schedule C) (settings : List (Setting C)) (n : ℕ) → n < s.next_number
       → times n (live_numbers (all_set_in now s settings)) ≤ times n (live_numbers s)
   set_all_live now s [] n less = omega arith
   set_all_live now s (setting ∷ settings) n less =
-      let below_next : n < (set_in now s setting).next_number = omega (arith, set_next now s setting, less) in
-      let first = set_live now s setting n less in
+      let below_next : n < (set_in now s setting).next_number = omega (arith, asked_next now s setting.timer setting.asked, less) in
+      let first = asked_live now s setting.timer setting.asked n less in
       let rest = set_all_live now (set_in now s setting) settings n below_next in
       omega (arith, first, rest)
 
-  pub lawful_set_all : (now : ℕ) (s : Schedule C) (settings : List (Setting C)) → s.next_number + numbers_taken settings ≤ 2 ^ 63 → IsLawfulSchedule now s
-      → IsLawfulSchedule now (all_set_in now s settings)
-  lawful_set_all now s [] reserved law = law
-  lawful_set_all now s (setting ∷ settings) reserved law =
-      lawful_set_all now (set_in now s setting) settings (omega (arith, set_next now s setting, reserved))
-      (lawful_set now now s setting (omega (arith, reserved)) law)
+  pub lawful_set_all : (now : ℕ) (s : Schedule C) (settings : List (Setting C)) → AskedOnce settings → s.next_number + numbers_taken s.running settings ≤ 2 ^ 63
+      → IsLawfulSchedule now s → IsLawfulSchedule now (all_set_in now s settings)
+  lawful_set_all now s [] once reserved law = law
+  lawful_set_all now s (setting ∷ settings) once reserved law =
+      let same = numbers_same now s setting.timer setting.asked settings once.0 in
+      lawful_set_all now (set_in now s setting) settings once.1 (omega (arith, asked_next now s setting.timer setting.asked, same, reserved))
+      (lawful_asked now now s setting.timer setting.asked (omega (arith, reserved)) law)
 
   -- ---- in the order in which they are due the time-outs are the same
   one_each_put_by : (one other : Running C) (others rest : List (Running C)) (before : Bool) → running_of one.timer (other ∷ others) ≡ None

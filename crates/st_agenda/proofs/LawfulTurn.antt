@@ -8,11 +8,14 @@ use Rattle.st_events.specs.declared.event.Event.{Event}
 use Rattle.st_events.specs.declared.insert.Insert.{Insert}
 use Rattle.st_events.specs.declared.setting.Setting.{Setting}
 use Rattle.st_events.specs.declared.timer.Timer.TheVariants as timer
+use Rattle.st_events.specs.Timers.{AskedOnce}
 use Rattle.st_events.proofs.ComparedLemmas.{same_number}
+use Rattle.st_timeouts.specs.declared.running.Running.{Running}
+use Rattle.st_timeouts.specs.Running.{without_running}
 use Rattle.st_agenda.specs.Items.{has, first_received, numbers_of, numbered}
-use Rattle.st_actions.specs.Counted.{numbers_taken}
+use Rattle.st_agenda.specs.Timing.{numbers_taken}
 use Rattle.st_agenda.specs.declared.schedule.Schedule.{Schedule}
-use Rattle.st_agenda.specs.Agenda.{next_in, received_in, cancelled_in, disposed_in, retried_in, inserted_in, settled_in}
+use Rattle.st_agenda.specs.Agenda.{next_in, received_in, cancelled_in, disposed_in, retried_in, inserted_in, settled_in, received_and_retried_in, running_on}
 use Rattle.st_agenda.specs.Lawful.{times, waiting_numbers, running_numbers, live_numbers, IsLawfulSchedule}
 use Rattle.st_agenda.proofs.LawfulReceiving.{received_lawful, received_is_first, received_live, received_waiting, next_is_live, disposed_lawful, disposed_waiting, disposed_live}
 use Rattle.st_agenda.proofs.LawfulSetting.{times-append, numbered_times, numbered_times_once, cancelled_waiting, cancelled_live, cancelled_first, lawful_cancelled, lawful_retried, retried_waiting, retried_live, retried_next, inserted_waiting, inserted_live, lawful_inserted, set_all_waiting, set_all_next, set_all_live, lawful_set_all}
@@ -54,6 +57,15 @@ finished_once true number e = cc
 finished_once false number e = rw (same_number number) refl
 
 module _ {C : Type 0} where
+  -- at a state change the state time-out runs no more
+  retried_runs : (changed : Bool) (s : Schedule C) → (retried_in s changed).running ≡ (if changed then without_running timer.State s.running else s.running)
+  retried_runs true s = refl
+  retried_runs false s = refl
+
+  -- when settings come to be done, those run that run on
+  pub still_running : (s : Schedule C) (number : ℕ) (postpone changed : Bool) → (received_and_retried_in s number postpone changed).running ≡ running_on changed s
+  still_running s number postpone changed = retried_runs changed (disposed_in (cancelled_in (received_in s) timer.Event) number postpone)
+
   -- ---- the next event
   below_by : (now : ℕ) (s : Schedule C) (number : ℕ) → IsLawfulSchedule now s → times number (live_numbers s) ≡ 1
       → (number < s.next_number) ⊎ (s.next_number ≤ number) → number < s.next_number
@@ -107,7 +119,7 @@ module _ {C : Type 0} where
     new_times n = ap (λ first. times n (numbers_of (numbered first inserts))) same_next
 
     module _ (law : IsLawfulSchedule now s) (next : option_map (λ (event : Event C). event.number) (next_in s) ≡ Some number)
-        (reserved : s.next_number + (length inserts + numbers_taken settings) ≤ 2 ^ 63) where
+        (once : AskedOnce settings) (reserved : s.next_number + (length inserts + numbers_taken (running_on changed s) settings) ≤ 2 ^ 63) where
       cancelled_lawful : IsLawfulSchedule now cancelled
       cancelled_lawful = lawful_cancelled now received timer.Event (received_lawful now s number law next)
 
@@ -118,10 +130,14 @@ module _ {C : Type 0} where
       retried_lawful : IsLawfulSchedule now retried
       retried_lawful = lawful_retried now disposed changed (disposed_lawful now cancelled number postpone cancelled_lawful cancelled_is_first)
 
+      -- so settings take as many numbers
+      same_taken : numbers_taken inserted.running settings ≡ numbers_taken (running_on changed s) settings
+      same_taken = ap (λ (running : List (Running C)). numbers_taken running settings) (still_running s number postpone changed)
+
       -- the schedule can still come about
       pub settled_lawful : IsLawfulSchedule now (settled_in now s number postpone changed inserts settings)
       settled_lawful =
-          lawful_set_all now inserted settings (omega (arith, reserved, same_next))
+          lawful_set_all now inserted settings once (omega (arith, reserved, same_next, same_taken))
           (lawful_inserted now retried inserts (omega (arith, reserved, same_next)) retried_lawful)
 
       settled_waiting_sum : (n : ℕ)

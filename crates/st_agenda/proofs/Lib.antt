@@ -12,4 +12,5 @@ pub mod LoopLemmas
 pub mod LawfulSetting
 pub mod LawfulReceiving
 pub mod LawfulTurn
+pub mod UpdateLemmas
 pub mod WorkedSchedules

@@ -7,12 +7,13 @@ use Rattle.std.proofs.lemmas.List.{take_all}
 use Rattle.std.proofs.lemmas.Option.{slice_get_cases}
 use Rattle.st_events.specs.declared.action.Action.{Action}
 use Rattle.st_events.specs.declared.setting.Setting.{Setting}
+use Rattle.st_events.specs.Timers.{AskedOnce}
 use Rattle.st_timeouts.specs.declared.running.Running.{Running}
-use Rattle.st_actions.specs.Counted.{number_taken, numbers_taken}
 use Rattle.st_actions.specs.Taking.{all_settings_of}
-use Rattle.st_agenda.specs.Timing.{expiring_by}
+use Rattle.st_agenda.specs.Timing.{numbers_taken, expiring_by}
 use Rattle.st_agenda.specs.declared.schedule.Schedule.{Schedule}
 use Rattle.st_agenda.specs.Agenda.{Agenda, with_all_expired, set_in, all_set_in}
+use Rattle.st_agenda.proofs.LawfulSetting.{asked_next, numbers_same}
 
 module _ {C : Type 0} where
   -- what expires of a schedule
@@ -37,8 +38,9 @@ module _ {C : Type 0} where
   -- some settings are done; those that are left are to be done
   pub record SetSoFar (now : ℕ) (old : Schedule C) (settings : List (Setting C)) (agenda : Agenda C) (left : List (Setting C)) : Type 0 where
     pub all : all_set_in now agenda.schedule left ≡ all_set_in now old settings
+    pub once : AskedOnce left
     pub reserved : length left ≤ agenda.reserved
-    pub numbers : agenda.schedule.next_number + numbers_taken left ≤ 2 ^ 63
+    pub numbers : agenda.schedule.next_number + numbers_taken agenda.schedule.running left ≤ 2 ^ 63
 
   module _ (now : ℕ) (old : Schedule C) (settings : List (Setting C)) (agenda : Agenda C) (left rest : List (Setting C)) (found : Option (Setting C))
       (taken : left ≡ option_to_list found ++ rest) (kept : SetSoFar now old settings agenda left) where
@@ -52,16 +54,19 @@ module _ {C : Type 0} where
       split : left ≡ setting ∷ rest
       split = taken ∙ ap (λ (o : Option (Setting C)). option_to_list o ++ rest) one
 
-      pub set_one_more : (after : Agenda C) → after.schedule ≡ set_in now agenda.schedule setting
-          → after.schedule.next_number ≡ agenda.schedule.next_number + number_taken setting.time → agenda.reserved ≤ after.reserved + 1
+      pub set_one_more : (after : Agenda C) → after.schedule ≡ set_in now agenda.schedule setting → agenda.reserved ≤ after.reserved + 1
           → SetSoFar now old settings after rest
-      set_one_more after set next reserved =
-          let numbers = ap numbers_taken split in
+      set_one_more after set reserved =
+          let once : AskedOnce (setting ∷ rest) = rw split at kept.once in
+          let next = ap (λ (schedule : Schedule C). schedule.next_number) set ∙ asked_next now agenda.schedule setting.timer setting.asked in
+          let others = ap (λ (schedule : Schedule C). numbers_taken schedule.running rest) set ∙ numbers_same now agenda.schedule setting.timer setting.asked rest once.0 in
+          let numbers = ap (numbers_taken agenda.schedule.running) split in
           let all : all_set_in now agenda.schedule left ≡ all_set_in now (set_in now agenda.schedule setting) rest = ap (λ (some : List (Setting C)). all_set_in now agenda.schedule some) split in
           record {
             all = ap (λ (schedule : Schedule C). all_set_in now schedule rest) set ∙ (sym all ∙ kept.all);
+            once = once.1;
             reserved = omega (arith, ap length split, kept.reserved, reserved);
-            numbers = omega (arith, next, numbers, kept.numbers);
+            numbers = omega (arith, next, others, numbers, kept.numbers);
           }
 
   -- where none is before the end, none is left

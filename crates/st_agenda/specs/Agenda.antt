@@ -1,6 +1,8 @@
 -- What waits and the time-outs that run, as one; and how queue and time-outs are read as it.
 use Rattle.std.specs.Prelude.{◌≡◌, ℕ, ◌⊎◌, ◌+◌, Bool, true, false, if◌then◌else◌, Option, Some, None, is_some, List, [], ◌∷◌, ◌++◌, map, length}
 use Rattle.std.specs.Option.{option_map}
+use Rattle.st_events.specs.declared.asked.Asked.{Asked}
+use Rattle.st_events.specs.declared.asked.Asked.TheVariants as asked
 use Rattle.st_events.specs.declared.event.Event.{Event}
 use Rattle.st_events.specs.declared.insert.Insert.{Insert}
 use Rattle.st_events.specs.declared.setting.Setting.{Setting}
@@ -10,7 +12,7 @@ use Rattle.st_events.specs.declared.timer.Timer.{Timer}
 use Rattle.st_events.specs.declared.timer.Timer.TheVariants as timer
 use Rattle.st_timeouts.specs.declared.due.Due.{Due}
 use Rattle.st_timeouts.specs.declared.running.Running.{Running}
-use Rattle.st_timeouts.specs.Running.{OneEach, due_after, is_zero, without_running, first_zero_of}
+use Rattle.st_timeouts.specs.Running.{OneEach, due_after, is_zero, running_of, without_running, with_content, first_zero_of}
 use Rattle.st_timeouts.specs.Timeouts.{Listed, all_of, live}
 use Rattle.st_agenda.specs.declared.schedule.Schedule.{Schedule}
 use Rattle.st_agenda.specs.declared.slot.Slot.{Slot}
@@ -194,11 +196,27 @@ module _ {C : Type 0} where
     next_number = schedule.next_number + 1;
   }
 
-  -- a timer is set or stopped at a moment
-  abbrev pub set_in : ℕ → Schedule C → Setting C → Schedule C
-  set_in now schedule setting = begun_in now (cancelled_in schedule setting.timer) setting.timer setting.time setting.content
+  -- a timer is set for a time at a moment: what ran of it is cancelled
+  abbrev pub restarted_in : ℕ → Schedule C → Timer → Time → C → Schedule C
+  restarted_in now schedule timer time content = begun_in now (cancelled_in schedule timer) timer time content
 
-  -- timers are set or stopped, in the order of the settings
+  -- the time-out of a timer that runs has another content
+  abbrev pub updated_in : Schedule C → Timer → C → Schedule C
+  updated_in schedule timer content = record schedule { running = with_content timer content schedule.running }
+
+  -- what is asked of a timer is done, at a moment; an update of one that does not run sets it for no time
+  abbrev pub asked_in : ℕ → Schedule C → Timer → Asked C → Schedule C
+  asked_in now schedule timer (asked.Set time content) = restarted_in now schedule timer time content
+  asked_in now schedule timer asked.Cancel = cancelled_in schedule timer
+  asked_in now schedule timer (asked.Update content) =
+      if is_some (running_of timer schedule.running) then updated_in schedule timer content
+      else restarted_in now schedule timer (After 0) content
+
+  -- one setting is done
+  abbrev pub set_in : ℕ → Schedule C → Setting C → Schedule C
+  set_in now schedule setting = asked_in now schedule setting.timer setting.asked
+
+  -- settings are done, in their order
   abbrev pub all_set_in : ℕ → Schedule C → List (Setting C) → Schedule C
   all_set_in now schedule [] = schedule
   all_set_in now schedule (setting ∷ settings) = all_set_in now (set_in now schedule setting) settings
@@ -223,3 +241,10 @@ module _ {C : Type 0} where
       let cancelled = cancelled_in received timer.Event in
       let disposed = disposed_in cancelled number postpone in
       retried_in disposed changed
+
+  -- the time-outs that run still when timers come to be set: not the one that is taken up, nor that of the event,
+  -- nor, at a state change, that of the state
+  abbrev pub running_on : Bool → Schedule C → List (Running C)
+  running_on changed schedule =
+      let running = without_running timer.Event (running_with (choice_in schedule) schedule.running) in
+      if changed then without_running timer.State running else running

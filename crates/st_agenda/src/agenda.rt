@@ -1,25 +1,31 @@
 //! What waits and the time-outs that run, as one: which event comes next, and what a transition makes
 //! of them.
-ghost use Rattle.std.specs.Prelude.{◌≡◌, ◌+◌, ◌-◌, ◌<◌, ◌≤◌, ◌^◌, [], ◌∷◌, ◌++◌, Some, IfOk, IfErr, OnOk, OnErr, IsOk, ℕ, length, max, is_some};
-ghost use Rattle.std.specs.Option.{option_map};
-ghost use Rattle.st_actions.specs.Counted.{number_taken, numbers_taken};
+ghost use Rattle.std.specs.Prelude.{◌≡◌, ◌+◌, ◌-◌, ◌<◌, ◌≤◌, ◌^◌, [], ◌∷◌, ◌++◌, true, false, slice_get, Some, IfOk, IfErr, OnOk, OnErr, IsOk, ℕ, length, max, is_some};
+ghost use Rattle.std.specs.Option.{option_map, unwrap_or};
+ghost use Rattle.st_actions.specs.Counted.{starts_in};
 ghost use Rattle.st_actions.specs.Plan.{inserts_of};
 ghost use Rattle.st_actions.specs.Taking.{all_settings_of};
+ghost use Rattle.st_timeouts.specs.Running.{running_of};
 ghost use Rattle.st_timeouts.specs.Timeouts.{name_of, live};
 ghost use Rattle.st_agenda.specs.Choice as choice;
+ghost use Rattle.st_agenda.specs.Choice.{timer_taken};
 ghost use Rattle.st_agenda.specs.Items.{events_in, first_received};
 ghost use Rattle.st_agenda.specs.declared.item.Item.TheVariants.{Posted};
+ghost use Rattle.st_events.specs.Timers.{AskedOnce};
+ghost use Rattle.st_events.specs.declared.asked.Asked.TheVariants.{Update};
 ghost use Rattle.st_events.specs.declared.kind.Kind.TheVariants.{Timeout};
 ghost use Rattle.st_events.specs.declared.time.Time.TheVariants.{After};
-ghost use Rattle.st_agenda.specs.Timing.{expiring_by, next_due_among};
+ghost use Rattle.st_agenda.specs.Timing.{taken_by, numbers_taken, begins_anew, is_cancelled, is_taken, expiring_by, next_due_among};
 ghost use Rattle.st_agenda.specs.Waiting.{next_of};
-ghost use Rattle.st_agenda.specs.Agenda.{Agrees, IsAlive, items_in, next_in, zero_in, received_in, cancelled_in, disposed_in, retried_in, received_and_retried_in, inserted_in, begun_in, set_in, all_set_in, shown_timers, dead_at, with_first_expiry, all_but_first, with_all_expired};
+ghost use Rattle.st_agenda.specs.Agenda.{Agrees, IsAlive, items_in, choice_in, next_in, zero_in, received_in, cancelled_in, disposed_in, retried_in, received_and_retried_in, inserted_in, restarted_in, updated_in, asked_in, set_in, all_set_in, shown_timers, dead_at, with_first_expiry, all_but_first, with_all_expired, running_on};
 
 use crate::Schedule;
 use crate::pending::Pending;
 use crate::slot::Slot;
 use st_actions::take_setting;
-use st_events::{Actions, CopyContent, Event, Kind, PlainList, Setting, Time, Timer};
+use st_events::{
+    Action, Actions, Asked, CopyContent, Event, Kind, PlainList, Setting, Time, Timer,
+};
 use st_steps::Steps;
 use st_timeouts::{Due, Timeouts};
 use std::alloc::{AllocError, AllocFailed, Global};
@@ -132,6 +138,66 @@ impl<C> Agenda<C> {
         ensures bounded { result ≤ 2 ^ 63 }
     {
         self.pending.next_number()
+    }
+
+    /// How many numbers of events the updates among the settings of a list of actions take, where the machine's state
+    /// changes or not: one each, where its timer does not run when the settings come to be done. That which is taken up
+    /// runs no more then, nor that of the event, nor, at a state change, that of the state. It takes no memory.
+    ///
+    /// Manual: `timeout_update_action()`.
+    pub fn numbers_of_updates(&self, actions: &Actions<C>, changed: bool) -> u64
+        ensures { starts_in (all_settings_of actions.now) + result ≡ numbers_taken (running_on changed self.now.schedule) (all_settings_of actions.now) }
+    {
+        let taken = self.taken_up();
+        let mut numbers = 0;
+        let mut index = actions.len();
+        while index > 0 {
+            index -= 1;
+            if self.begins_anew(actions, index, taken, changed) {
+                numbers += 1;
+            }
+        }
+        numbers
+    }
+
+    /// Says whether there is an update at an index whose timer does not run when settings come to be done, where this
+    /// timer's time-out is taken up.
+    fn begins_anew(
+        &self,
+        actions: &Actions<C>,
+        index: usize,
+        taken: Option<Timer>,
+        changed: bool,
+    ) -> bool
+        requires { taken ≡ timer_taken (choice_in self.now.schedule) }
+        ensures { result ≡ unwrap_or (option_map (begins_anew (running_on changed self.now.schedule)) (slice_get actions.now index)) false }
+    {
+        match actions.get(index) {
+            Some(Action::Update(timer, _)) => !self.runs_on(*timer, taken, changed),
+            _ => false,
+        }
+    }
+
+    /// Says whether a timer still runs when settings come to be done, where this timer's time-out is taken up.
+    fn runs_on(&self, timer: Timer, taken: Option<Timer>, changed: bool) -> bool
+        requires { taken ≡ timer_taken (choice_in self.now.schedule) }
+        ensures { result ≡ is_some (running_of timer (running_on changed self.now.schedule)) }
+    {
+        !is_cancelled(timer, changed) && !is_taken(timer, taken) && self.timeouts.runs(timer)
+    }
+
+    /// The timer whose time-out a turn takes up, if it takes one up.
+    fn taken_up(&self) -> Option<Timer>
+        ensures { result ≡ timer_taken (choice_in self.now.schedule) }
+    {
+        if let Some((timer, _)) = self.next_zero() {
+            return Some(timer);
+        }
+        match self.pending.peek() {
+            None => None,
+            Some(Slot::Event(_)) => None,
+            Some(Slot::Expiry(timer, _)) => Some(*timer),
+        }
     }
 
     /// The running time-outs in the order in which they were set: timer, number of the event, when it is due.
@@ -394,14 +460,15 @@ impl<C: Drop> Agenda<C> {
         self.pending.in_order();
     }
 
-    /// Takes the settings out of a list of actions, and sets or stops their timers at a moment, in milliseconds, in
-    /// their order. It takes no memory.
+    /// Takes the settings out of a list of actions, of no timer two, and does them at a moment, in milliseconds, in their
+    /// order. It takes no memory.
     ///
-    /// Manual: `timeout_action()`.
+    /// Manual: `timeout_action()`, `timeout_cancel_action()`, `timeout_update_action()`.
     pub fn set_all(&mut self, now: u64, actions: &mut Actions<C>)
         requires moment { now < 2 ^ 63 }
+        requires once { AskedOnce (all_settings_of actions.old) }
         requires reserved { length (all_settings_of actions.old) ≤ self.old.reserved }
-        requires numbers { self.old.schedule.next_number + numbers_taken (all_settings_of actions.old) ≤ 2 ^ 63 }
+        requires numbers { self.old.schedule.next_number + numbers_taken self.old.schedule.running (all_settings_of actions.old) ≤ 2 ^ 63 }
         ensures { self.new.schedule ≡ all_set_in now self.old.schedule (all_settings_of actions.old) }
     {
         for index in 0..actions.len() {
@@ -411,25 +478,47 @@ impl<C: Drop> Agenda<C> {
         }
     }
 
-    /// Sets or stops a timer at a moment, in milliseconds: what ran of it is cancelled first. It takes no memory.
+    /// Does at a moment, in milliseconds, what is asked of a timer: it is set, and what ran of it is cancelled first; it
+    /// is stopped; or its time-out gets another content. It takes no memory.
     ///
-    /// Manual: `timeout_action()`.
+    /// Manual: `timeout_action()`, `timeout_cancel_action()`, `timeout_update_action()`.
     pub fn set(&mut self, now: u64, setting: Setting<C>)
         requires moment { now < 2 ^ 63 }
         requires reserved { 0 < self.old.reserved }
-        requires numbers { self.old.schedule.next_number + number_taken setting.time ≤ 2 ^ 63 }
+        requires numbers { self.old.schedule.next_number + taken_by self.old.schedule.running setting.timer setting.asked ≤ 2 ^ 63 }
         ensures schedule { self.new.schedule ≡ set_in now self.old.schedule setting }
         ensures reserved { self.old.reserved ≤ self.new.reserved + 1 }
     {
-        let Setting {
-            timer,
-            time,
-            content,
-        } = setting;
-        match time {
-            Time::Infinity => self.cancel(timer),
-            Time::After(time) => self.begin(now, timer, time, content),
+        let Setting { timer, asked } = setting;
+        match asked {
+            Asked::Set(Time::After(time), content) => self.begin(now, timer, time, content),
+            Asked::Set(Time::Infinity, _) | Asked::Cancel => self.cancel(timer),
+            Asked::Update(content) => self.update_or_begin(now, timer, content),
         }
+    }
+
+    /// The time-out of a timer gets another content; where none runs, one begins at a moment, in milliseconds, for no
+    /// time.
+    fn update_or_begin(&mut self, now: u64, timer: Timer, content: C)
+        requires moment { now < 2 ^ 63 }
+        requires reserved { 0 < self.old.reserved }
+        requires numbers { self.old.schedule.next_number + taken_by self.old.schedule.running timer (Update content) ≤ 2 ^ 63 }
+        ensures schedule { self.new.schedule ≡ asked_in now self.old.schedule timer (Update content) }
+        ensures reserved { self.old.reserved ≤ self.new.reserved + 1 }
+    {
+        if self.timeouts.runs(timer) {
+            self.update(timer, content);
+        } else {
+            self.begin(now, timer, 0, content);
+        }
+    }
+
+    /// The time-out of a timer that runs gets another content.
+    fn update(&mut self, timer: Timer, content: C)
+        requires { is_some (running_of timer self.old.schedule.running) ≡ true }
+        ensures { self.new ≡ record self.old { schedule = updated_in self.old.schedule timer content } }
+    {
+        let _old = self.timeouts.update(timer, content);
     }
 
     /// A time-out of a timer begins at a moment, in milliseconds: what ran of it runs no more.
@@ -437,7 +526,7 @@ impl<C: Drop> Agenda<C> {
         requires moment { now < 2 ^ 63 }
         requires reserved { 0 < self.old.reserved }
         requires numbers { self.old.schedule.next_number < 2 ^ 63 }
-        ensures schedule { self.new.schedule ≡ begun_in now (cancelled_in self.old.schedule timer) timer (After time) content }
+        ensures schedule { self.new.schedule ≡ restarted_in now self.old.schedule timer (After time) content }
         ensures reserved { self.old.reserved ≤ self.new.reserved + 1 }
     {
         let number = self.pending.take_number();
@@ -445,6 +534,28 @@ impl<C: Drop> Agenda<C> {
         let _old = self.timeouts.set(timer, time, content, number, now);
         // What ran may have expired: its expiry may stand in front.
         self.expiries = pass_dead(&mut self.pending, &self.timeouts, self.expiries);
+    }
+}
+
+/// Says whether a transition cancels the time-out of a timer: that of the event, and, at a state change, that of the
+/// state.
+fn is_cancelled(timer: Timer, changed: bool) -> bool
+    ensures { result ≡ is_cancelled changed timer }
+{
+    match timer {
+        Timer::Event => true,
+        Timer::State => changed,
+        Timer::Named(_) => false,
+    }
+}
+
+/// Says whether the time-out that is taken up is that of a timer.
+fn is_taken(timer: Timer, taken: Option<Timer>) -> bool
+    ensures { result ≡ is_taken taken timer }
+{
+    match taken {
+        None => false,
+        Some(taken) => timer == taken,
     }
 }
 

@@ -11,7 +11,10 @@ use Rattle.st_timeouts.specs.declared.running.Running.{Running}
 use Rattle.st_actions.specs.Plan.{inserts_of, postpone_of, settings_of}
 use Rattle.st_agenda.specs.declared.item.Item.TheVariants.{Posted}
 use Rattle.st_agenda.specs.Items.{has, numbered, numbers_of}
-use Rattle.st_actions.specs.Counted.{numbers_taken}
+use Rattle.st_events.specs.Timers.{AskedOnce}
+use Rattle.st_actions.proofs.OnceLemmas.{settings_once}
+use Rattle.st_agenda.specs.Agenda.{running_on}
+use Rattle.st_agenda.specs.Timing.{numbers_taken}
 use Rattle.st_agenda.specs.declared.schedule.Schedule.{Schedule}
 use Rattle.st_agenda.specs.Agenda.{next_in, with_all_expired, settled_in}
 use Rattle.st_agenda.specs.Lawful.{times, waiting_numbers, running_numbers, live_numbers, IsLawfulSchedule}
@@ -138,23 +141,23 @@ module _ {C : Type 0} where
 
   module _ (now : ℕ) (s : Schedule C) (number : ℕ) (postpone changed : Bool) (inserts : List (Insert C)) (settings : List (Setting C)) where
     accounts_settled : IsLawfulSchedule now s → option_map (λ (e : Event C). e.number) (next_in s) ≡ Some number
-        → s.next_number + (length inserts + numbers_taken settings) ≤ 2 ^ 63
+        → AskedOnce settings → s.next_number + (length inserts + numbers_taken (running_on changed s) settings) ≤ 2 ^ 63
         → Accounts s (settled_in now s number postpone changed inserts settings) (number ∷ numbers_of (numbered s.next_number inserts)) (if postpone then [] else number ∷ [])
-    accounts_settled law next reserved =
+    accounts_settled law next once reserved =
         let below = next_below now s number law next in
-        let more = settled_next now s number postpone changed inserts settings law next reserved in
+        let more = settled_next now s number postpone changed inserts settings law next once reserved in
         record {
-          moved = λ n. settled_waiting now s number postpone changed inserts settings law next reserved n
+          moved = λ n. settled_waiting now s number postpone changed inserts settings law next once reserved n
               ∙ marked_behind n (waiting_numbers s.pending) (number ∷ numbers_of (numbered s.next_number inserts));
           stays_gone = λ n is_gone. (
             omega (arith, is_gone.0, more),
-            settled_gone now s number postpone changed inserts settings law next reserved n is_gone.0 is_gone.1,
+            settled_gone now s number postpone changed inserts settings law next once reserved n is_gone.0 is_gone.1,
           );
           not_again = λ n is_gone.
               let other : times n (number ∷ []) ≡ 0 = not_alone n number (λ e. omega (arith, ap (λ m. times m (live_numbers s)) e, next_is_live now s number law next, is_gone.1)) in
               omega (arith, other, numbered_times n s.next_number inserts is_gone.0);
           leaves = λ n one. leaves_by postpone number n (settled_in now s number postpone changed inserts settings) (omega (arith, below, more))
-              (finished_gone now s number postpone changed inserts settings law next reserved) one;
+              (finished_gone now s number postpone changed inserts settings law next once reserved) one;
         }
 
 -- ---- what a step accepts and finishes
@@ -196,7 +199,7 @@ module _ {S D C : Type 0} where
     -- a turn
     module _ (callbacks : Callbacks S D C) (now : ℕ) (law_at : IsLawful (with_moment machine now)) where
       went_on_accounts : (number : ℕ) (called : Called S D C) → option_map (λ (e : Event C). e.number) (next_in machine.schedule) ≡ Some number
-          → (enough : Bool) → has_numbers (with_moment machine now) called.actions ≡ enough
+          → (enough : Bool) → has_numbers (with_moment machine now) called ≡ enough
           → AccountsFor answer.Turn machine (unless_refused machine
           (if enough
           then (Ok (Reported (report_of (with_moment machine now) number called)), with_settled (with_called (with_moment machine now) called) number called)
@@ -204,14 +207,14 @@ module _ {S D C : Type 0} where
       went_on_accounts number called next true e =
           finished_same (finished_by_done (postpone_of called.actions) number)
           (accounts_settled (with_moment machine now).latest machine.schedule number (postpone_of called.actions) called.changed
-          (inserts_of called.actions) (settings_of called.actions) law_at.scheduled next
-          (enough_for_all machine.schedule.next_number (length (inserts_of called.actions)) (numbers_taken (settings_of called.actions)) e))
+          (inserts_of called.actions) (settings_of called.actions) law_at.scheduled next (settings_once called.actions)
+          (enough_for_all machine.schedule.next_number (length (inserts_of called.actions)) (numbers_taken (running_on called.changed machine.schedule) (settings_of called.actions)) e))
       went_on_accounts number called next false e = accounts_unchanged
 
       concluded_accounts : (number : ℕ) (called : Called S D C) → option_map (λ (e : Event C). e.number) (next_in machine.schedule) ≡ Some number
           → (reason : Option ℕ) → (unless_refused machine (concluded callbacks (with_moment machine now) number called reason)).1.ended ≡ None
           → AccountsFor answer.Turn machine (unless_refused machine (concluded callbacks (with_moment machine now) number called reason))
-      concluded_accounts number called next None still = went_on_accounts number called next (has_numbers (with_moment machine now) called.actions) refl
+      concluded_accounts number called next None still = went_on_accounts number called next (has_numbers (with_moment machine now) called) refl
       concluded_accounts number called next (Some reason) still = cc
 
       transition_accounts : (event : Option (Event C)) → next_in machine.schedule ≡ event

@@ -2,7 +2,7 @@
 use Rattle.std.proofs.Common.{◌≡◌, ℕ, ◌≤◌, true, false, Some, None, Option, List, [], ◌∷◌, ◌++◌, refl, sym, ap, ◌∙◌, length, length-append, append_assoc, arith}
 use Rattle.std.specs.Option.{option_to_list}
 use Rattle.st_events.specs.declared.action.Action.{Action}
-use Rattle.st_events.specs.declared.action.Action.TheVariants.{Reply, Postpone, NextEvent, Set, Hibernate}
+use Rattle.st_events.specs.declared.action.Action.TheVariants.{Reply, Postpone, NextEvent, Set, Cancel, Update, Send, Hibernate}
 use Rattle.st_events.specs.declared.tag.Tag.{Tag}
 use Rattle.st_actions.specs.Plan.{replies_of}
 use Rattle.st_requests.specs.declared.request.Request.{Request}
@@ -56,4 +56,7 @@ replies_within (Reply tag content ∷ actions) = let rest = replies_within actio
 replies_within (Postpone last ∷ actions) = let rest = replies_within actions in omega (arith, rest)
 replies_within (NextEvent kind content ∷ actions) = let rest = replies_within actions in omega (arith, rest)
 replies_within (Set timer time content ∷ actions) = let rest = replies_within actions in omega (arith, rest)
+replies_within (Cancel timer ∷ actions) = let rest = replies_within actions in omega (arith, rest)
+replies_within (Update timer content ∷ actions) = let rest = replies_within actions in omega (arith, rest)
+replies_within (Send target content ∷ actions) = let rest = replies_within actions in omega (arith, rest)
 replies_within (Hibernate ∷ actions) = let rest = replies_within actions in omega (arith, rest)

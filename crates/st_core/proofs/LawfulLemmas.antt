@@ -17,9 +17,11 @@ use Rattle.st_requests.specs.declared.request.Request.{Request}
 use Rattle.st_requests.specs.Requests.{OneEach, AreOf, with_answer, with_answers, without_kept}
 use Rattle.st_requests.proofs.RequestLemmas.{one_each_opened, one_each_answer, one_each_kept, one_each_closed}
 use Rattle.st_requests.proofs.LawfulRequests.{are_of_later, are_of_opened, are_of_answer, are_of_answers, are_of_closed, are_of_kept, fresh, one_each_answers, none_open_closed, none_open_answer, none_open_answers, none_open_kept}
-use Rattle.st_actions.specs.Counted.{numbers_taken}
+use Rattle.st_actions.proofs.OnceLemmas.{settings_once}
+use Rattle.st_timeouts.specs.declared.running.Running.{Running as RunningTimeout}
 use Rattle.st_agenda.specs.declared.schedule.Schedule.{Schedule}
-use Rattle.st_agenda.specs.Agenda.{inserted_in}
+use Rattle.st_agenda.specs.Agenda.{inserted_in, running_on}
+use Rattle.st_agenda.specs.Timing.{numbers_taken}
 use Rattle.st_agenda.proofs.LawfulSetting as schedule
 use Rattle.st_agenda.proofs.LawfulTurn.{settled_lawful, settled_next}
 use Rattle.st_core.specs.declared.answer.Answer.{Answer}
@@ -92,6 +94,11 @@ module _ {C : Type 0} where
   none_own id next [] none = tt
   none_own id next (request ∷ others) none = cc
 
+  -- where nothing waits and nothing runs, nothing runs on
+  pub none_runs : (changed : Bool) (next : ℕ) → running_on {C = C} changed (record { pending = []; postponed = []; running = []; next_number = next }) ≡ []
+  none_runs true next = refl
+  none_runs false next = refl
+
 module _ {S D C : Type 0} where
   -- ---- the parts of what commands do
   -- a moment comes
@@ -117,18 +124,19 @@ module _ {S D C : Type 0} where
 
   -- what waits and what runs is settled
   pub lawful_settled : (machine : MachineState S D C) (number : ℕ) (called : Called S D C) → machine.ended ≡ None
-      → option_map (λ (event : Event C). event.number) (next_event_of machine) ≡ Some number → has_numbers machine called.actions ≡ true
+      → option_map (λ (event : Event C). event.number) (next_event_of machine) ≡ Some number → has_numbers machine called ≡ true
       → IsLawful machine → IsLawful (with_settled machine number called)
   lawful_settled machine number called runs next numbers law =
       let postpone = postpone_of called.actions in
       let inserts = inserts_of called.actions in
       let settings = settings_of called.actions in
-      let reserved = leb-true (machine.schedule.next_number + (length inserts + numbers_taken settings)) (2 ^ 63) numbers in
+      let reserved = leb-true (machine.schedule.next_number + (length inserts + numbers_taken (running_on called.changed machine.schedule) settings)) (2 ^ 63) numbers in
+      let once = settings_once called.actions in
       let after = with_settled machine number called in record {
-        scheduled = settled_lawful machine.latest machine.schedule number postpone called.changed inserts settings law.scheduled next reserved;
+        scheduled = settled_lawful machine.latest machine.schedule number postpone called.changed inserts settings law.scheduled next once reserved;
         one_each = law.one_each;
         own = are_of_later machine.id machine.schedule.next_number after.schedule.next_number machine.requests
-            (settled_next machine.latest machine.schedule number postpone called.changed inserts settings law.scheduled next reserved) law.own;
+            (settled_next machine.latest machine.schedule number postpone called.changed inserts settings law.scheduled next once reserved) law.own;
         moment = law.moment;
         over = not_over after.schedule machine.requests machine.ended runs;
       }
@@ -232,7 +240,7 @@ module _ {S D C : Type 0} where
       → option_map (λ (event : Event C). event.number) (next_event_of machine) ≡ Some number → IsLawful machine
       → IsLawful (unless_refused machine (went_on (with_moment machine now) number called)).1
   went_on_lawful machine now number called runs early next law =
-      either_kept machine (has_numbers (with_moment machine now) called.actions) _ _
+      either_kept machine (has_numbers (with_moment machine now) called) _ _
       (λ numbers. lawful_settled (with_called (with_moment machine now) called) number called runs next numbers
       (lawful_called (with_moment machine now) called (lawful_moment machine now early law))) law
 
@@ -296,15 +304,18 @@ module _ {S D C : Type 0} where
     over = tt;
   }
 
-  -- events are inserted and timers are set
-  pub with_begun_lawful : (machine : MachineState S D C) (actions : List (Action C)) → machine.ended ≡ None → machine.requests ≡ []
-      → has_numbers machine actions ≡ true → IsLawful machine → IsLawful (with_begun machine actions)
-  with_begun_lawful machine actions runs none numbers law =
-      let inserts = inserts_of actions in
-      let settings = settings_of actions in
-      let reserved = leb-true (machine.schedule.next_number + (length inserts + numbers_taken settings)) (2 ^ 63) numbers in
-      let after = with_begun machine actions in record {
-        scheduled = schedule.lawful_set_all machine.latest (inserted_in machine.schedule inserts) settings (omega (arith, reserved))
+  -- events are inserted, and what is asked of timers is done
+  pub with_begun_lawful : (machine : MachineState S D C) (called : Called S D C) → machine.ended ≡ None → machine.requests ≡ []
+      → running_on called.changed machine.schedule ≡ machine.schedule.running
+      → has_numbers machine called ≡ true → IsLawful machine → IsLawful (with_begun machine called.actions)
+  with_begun_lawful machine called runs none running numbers law =
+      let inserts = inserts_of called.actions in
+      let settings = settings_of called.actions in
+      let reserved = leb-true (machine.schedule.next_number + (length inserts + numbers_taken (running_on called.changed machine.schedule) settings)) (2 ^ 63) numbers in
+      let same : numbers_taken (running_on called.changed machine.schedule) settings ≡ numbers_taken machine.schedule.running settings =
+      ap (λ (one : List (RunningTimeout C)). numbers_taken one settings) running in
+      let after = with_begun machine called.actions in record {
+        scheduled = schedule.lawful_set_all machine.latest (inserted_in machine.schedule inserts) settings (settings_once called.actions) (omega (arith, reserved, same))
             (schedule.lawful_inserted machine.latest machine.schedule inserts (omega (arith, reserved)) law.scheduled);
         one_each = law.one_each;
         own = none_own machine.id after.schedule.next_number machine.requests none;
@@ -350,8 +361,8 @@ module _ (A : Type 0) {M S D C : Type 0} where
       → StartsLawful (started_with {A = A} module_ (first_state id called.state called.data now first) called)
   started_starts module_ id called now first early reserved =
       let machine : MachineState S D C = first_state id called.state called.data now first in
-      either_starts (has_numbers machine called.actions) _ _
-      (λ numbers. with_begun_lawful machine called.actions refl refl numbers (begun_lawful id called.state called.data now first early reserved)) tt
+      either_starts (has_numbers machine called) _ _
+      (λ numbers. with_begun_lawful machine called refl refl (none_runs called.changed first) numbers (begun_lawful id called.state called.data now first early reserved)) tt
 
   begun_starts : (callbacks : Callbacks S D C) (module_ : M) (id : MachineId) (called : Called S D C) (now first : ℕ) (reason : Option ℕ)
       → now < 2 ^ 63 → first < 2 ^ 63

@@ -4,7 +4,8 @@ pub mod StartLemmas
 pub mod TransitionLemmas
 pub mod AddedLemmas
 pub mod AnsweringLemmas
-pub mod TimesLemmas
+pub mod DecisionLemmas
+pub mod NumberLemmas
 pub mod LawfulLemmas
 pub mod StateLemmas
 pub mod AccountingLemmas

@@ -13,7 +13,7 @@ use Rattle.st_core.specs.declared.start.Start.TheVariants.{Running}
 use Rattle.st_core.specs.declared.machine_state.MachineState.{MachineState}
 use Rattle.st_core.specs.Callbacks.{Callbacks, Called}
 use Rattle.st_core.specs.Start.{first_state, started_with, ended_with, begun_on, begun_as, with_begun, start_takes_memory, start_refused, start_report_of, Starts}
-use Rattle.st_core.specs.Transition.{has_numbers, inserted_by, times_of}
+use Rattle.st_core.specs.Transition.{has_numbers, inserted_by, decisions_of}
 
 module _ (A : Type 0) {M S D C : Type 0} where
   of_both : (enough : Bool) (a b : Result (Start M S D C A) (Refused M)) → start_takes_memory a ≡ true → start_takes_memory b ≡ true
@@ -24,7 +24,7 @@ module _ (A : Type 0) {M S D C : Type 0} where
   -- what comes of the callbacks of a start takes memory
   pub started_takes_memory : (module_ : M) (machine : MachineState S D C) (called : Called S D C)
       → start_takes_memory (started_with {A = A} module_ machine called) ≡ true
-  started_takes_memory module_ machine called = of_both (has_numbers machine called.actions) _ _ refl refl
+  started_takes_memory module_ machine called = of_both (has_numbers machine called) _ _ refl refl
 
   pub begun_takes_memory : (callbacks : Callbacks S D C) (module_ : M) (machine : MachineState S D C) (called : Called S D C) (reason : Option ℕ)
       → start_takes_memory (begun_on {A = A} callbacks module_ machine called reason) ≡ true
@@ -55,21 +55,21 @@ module _ (A : Type 0) {M S D C : Type 0} where
 
   module _ (module_ : M) (machine : MachineState S D C) (called : Called S D C) where
     -- too few numbers are left
-    pub started_exhausted : has_numbers machine called.actions ≡ false
+    pub started_exhausted : has_numbers machine called ≡ false
         → {answer : Result (Start M S D C A) (Refused M)} → answer ≡ start_refused module_ Exhausted
         → Starts module_ answer (started_with module_ machine called)
     started_exhausted h same = rw h (inl same)
 
     -- the machine runs
-    pub started_is : has_numbers machine called.actions ≡ true
+    pub started_is : has_numbers machine called ≡ true
         → {after : MachineState S D C} {report : Report S} → after ≡ with_begun machine called.actions
-        → report ≡ start_report_of Started called.calls machine.state (inserted_by machine called.actions) (times_of (settings_of called.actions))
+        → report ≡ start_report_of Started called.calls machine.state (inserted_by machine called.actions) (decisions_of (settings_of called.actions))
         → Starts {A = A} module_ (Ok (Running (record { module_ = module_; machine = after }) report)) (started_with module_ machine called)
     started_is h same_after same_report =
         rw (h, same_after, same_report) (inl refl)
 
     -- it was refused, for want of memory or of numbers
-    pub started_refused : (refusal : Refusal) → ((refusal ≡ NoMemory) ⊎ ((refusal ≡ Exhausted) × (has_numbers machine called.actions ≡ false)))
+    pub started_refused : (refusal : Refusal) → ((refusal ≡ NoMemory) ⊎ ((refusal ≡ Exhausted) × (has_numbers machine called ≡ false)))
         → {answer : Result (Start M S D C A) (Refused M)} → answer ≡ start_refused module_ refusal
         → Starts module_ answer (started_with module_ machine called)
     started_refused refusal (inl memory) same = inr (started_takes_memory module_ machine called, same ∙ ap (start_refused module_) memory)

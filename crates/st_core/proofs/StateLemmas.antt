@@ -6,14 +6,15 @@ use Rattle.st_events.specs.declared.insert.Insert.{Insert}
 use Rattle.st_events.specs.declared.machine_id.MachineId.{MachineId}
 use Rattle.st_events.specs.declared.setting.Setting.{Setting}
 use Rattle.st_events.specs.declared.tag.Tag.{Tag}
+use Rattle.st_events.specs.Timers.{AskedOnce}
 use Rattle.st_requests.specs.declared.request.Request.{Request}
 use Rattle.st_requests.specs.Requests.{with_answers}
 use Rattle.st_requests.proofs.LawfulRequests.{are_of_later, are_of_answers, one_each_answers}
 use Rattle.st_timeouts.specs.declared.running.Running.{Running}
 use Rattle.st_agenda.specs.declared.item.Item.{Item}
 use Rattle.st_agenda.specs.declared.schedule.Schedule.{Schedule}
-use Rattle.st_agenda.specs.Agenda.{next_in, settled_in, inserted_in, all_set_in}
-use Rattle.st_actions.specs.Counted.{numbers_taken}
+use Rattle.st_agenda.specs.Agenda.{next_in, settled_in, inserted_in, all_set_in, running_on}
+use Rattle.st_agenda.specs.Timing.{numbers_taken}
 use Rattle.st_agenda.proofs.LoopLemmas.{none_not_some}
 use Rattle.st_agenda.proofs.LawfulSetting.{lawful_empty, lawful_later, lawful_inserted, lawful_set_all}
 use Rattle.st_agenda.proofs.LawfulTurn.{settled_lawful, settled_next}
@@ -53,16 +54,17 @@ module _ {C : Type 0} where
     -- the next event was handled at a moment, and replies were sent
     pub settled_keeps : (number : ℕ) (postpone changed : Bool) (inserts : List (Insert C)) (settings : List (Setting C)) (replies : List (Tag × C))
         → now < 2 ^ 63 → option_map (λ (event : Event C). event.number) (next_in schedule) ≡ Some number
-        → schedule.next_number + (length inserts + numbers_taken settings) ≤ 2 ^ 63 → IsLawfulOf id schedule requests latest ended
+        → AskedOnce settings → schedule.next_number + (length inserts + numbers_taken (running_on changed schedule) settings) ≤ 2 ^ 63
+        → IsLawfulOf id schedule requests latest ended
         → IsLawfulOf id (settled_in (max latest now) schedule number postpone changed inserts settings) (with_answers requests replies) (max latest now) ended
-    settled_keeps number postpone changed inserts settings replies below next enough lawful =
+    settled_keeps number postpone changed inserts settings replies below next once enough lawful =
         let scheduled = lawful_later latest (max latest now) schedule lawful.scheduled (omega arith) in
         let running = has_not_ended schedule requests ended number lawful.over next in
         record {
-          scheduled = settled_lawful (max latest now) schedule number postpone changed inserts settings scheduled next enough;
+          scheduled = settled_lawful (max latest now) schedule number postpone changed inserts settings scheduled next once enough;
           one_each = one_each_answers requests replies lawful.one_each;
           own = are_of_later id schedule.next_number (settled_in (max latest now) schedule number postpone changed inserts settings).next_number (with_answers requests replies)
-              (settled_next (max latest now) schedule number postpone changed inserts settings scheduled next enough)
+              (settled_next (max latest now) schedule number postpone changed inserts settings scheduled next once enough)
               (are_of_answers id schedule.next_number requests replies lawful.own);
           moment = early below lawful.moment;
           over = not_over (settled_in (max latest now) schedule number postpone changed inserts settings) (with_answers requests replies) ended running;
@@ -74,13 +76,13 @@ module _ {C : Type 0} where
 
     -- a machine has begun
     pub begun_keeps : (inserts : List (Insert C)) (settings : List (Setting C)) → now < 2 ^ 63
-        → first + (length inserts + numbers_taken settings) ≤ 2 ^ 63
+        → AskedOnce settings → first + (length inserts + numbers_taken [] settings) ≤ 2 ^ 63
         → IsLawfulOf id (all_set_in now (inserted_in nothing_yet inserts) settings) [] now None
-    begun_keeps inserts settings below enough =
+    begun_keeps inserts settings below once enough =
         let empty = lawful_empty {C = C} now first (omega (arith, enough)) in
         let inserted = lawful_inserted now nothing_yet inserts (omega (arith, enough)) empty in
         record {
-          scheduled = lawful_set_all now (inserted_in nothing_yet inserts) settings (omega (arith, enough)) inserted;
+          scheduled = lawful_set_all now (inserted_in nothing_yet inserts) settings once (omega (arith, enough)) inserted;
           one_each = tt;
           own = tt;
           moment = below;

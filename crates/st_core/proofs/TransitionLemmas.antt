@@ -66,7 +66,7 @@ module _ {S D C : Type 0} where
   of_both false a b h k = k
 
   pub went_on_takes_memory : (machine : MachineState S D C) (number : ℕ) (called : Called S D C) → turn_takes_memory (went_on machine number called).0 ≡ true
-  went_on_takes_memory machine number called = of_both (has_numbers machine called.actions) _ _ refl refl
+  went_on_takes_memory machine number called = of_both (has_numbers machine called) _ _ refl refl
 
   -- what comes of a callback takes memory
   pub concluded_takes_memory : (callbacks : Callbacks S D C) (machine : MachineState S D C) (number : ℕ) (called : Called S D C) (reason : Option ℕ)
@@ -88,19 +88,19 @@ module _ {S D C : Type 0} (callbacks : Callbacks S D C) (old machine : MachineSt
 
 module _ {S D C : Type 0} (old machine after : MachineState S D C) (number : ℕ) (called : Called S D C) where
   -- too few numbers are left
-  pub went_on_exhausted : has_numbers machine called.actions ≡ false
+  pub went_on_exhausted : has_numbers machine called ≡ false
       → Meets turn_takes_memory turn_without_memory (Err Exhausted) old old (unless_refused old (went_on machine number called))
   went_on_exhausted h = rw h (inl (refl, refl))
 
   -- it was refused, for want of memory or of numbers
   pub went_on_refused : (refusal : Refusal) → after ≡ old
-      → ((refusal ≡ NoMemory) ⊎ ((refusal ≡ Exhausted) × (has_numbers machine called.actions ≡ false)))
+      → ((refusal ≡ NoMemory) ⊎ ((refusal ≡ Exhausted) × (has_numbers machine called ≡ false)))
       → Meets turn_takes_memory turn_without_memory (Err refusal) old after (unless_refused old (went_on machine number called))
   went_on_refused refusal same (inl memory) = inr (went_on_takes_memory machine number called, ap Err memory, same)
   went_on_refused refusal same (inr numbers) = rw (numbers.0, same) (went_on_exhausted numbers.1)
 
   -- the machine went on
-  pub went_on_is : has_numbers machine called.actions ≡ true → {report : Report S} → report ≡ report_of machine number called
+  pub went_on_is : has_numbers machine called ≡ true → {report : Report S} → report ≡ report_of machine number called
       → after ≡ with_settled (with_called machine called) number called
       → Meets turn_takes_memory turn_without_memory (Ok (Reported report)) old after (unless_refused old (went_on machine number called))
   went_on_is h same_report same_after = rw (h, same_report, same_after) (inl (refl, refl))

@@ -1,5 +1,6 @@
 -- A machine starts.
 use Rattle.std.specs.Prelude.{◌≡◌, ℕ, ◌^◌, ◌⊎◌, Bool, true, Result, Ok, Err, Option, Some, None, List, [], ◌∷◌, ◌++◌, nat_lt, if◌then◌else◌}
+use Rattle.st_events.specs.declared.decision.Decision.{Decision}
 use Rattle.st_events.specs.declared.machine_id.MachineId.{MachineId}
 use Rattle.st_events.specs.declared.action.Action.{Action}
 use Rattle.st_events.specs.declared.init.Init.{Init}
@@ -7,7 +8,6 @@ use Rattle.st_events.specs.declared.init.Init.TheVariants as init
 use Rattle.st_events.specs.declared.refused.Refused.{Refused}
 use Rattle.st_events.specs.declared.refusal.Refusal.{Refusal}
 use Rattle.st_events.specs.declared.refusal.Refusal.TheVariants.{NoMemory, Exhausted, Moment}
-use Rattle.st_events.specs.declared.time.Time.{Time}
 use Rattle.st_events.specs.declared.timer.Timer.{Timer}
 use Rattle.st_actions.specs.Plan.{inserts_of, settings_of}
 use Rattle.st_agenda.specs.Agenda.{inserted_in, all_set_in}
@@ -21,11 +21,11 @@ use Rattle.st_core.specs.declared.start.Start.TheVariants.{Running, Ignored, Sto
 use Rattle.st_core.specs.declared.machine_state.MachineState.{MachineState}
 use Rattle.st_core.specs.Callbacks.{Callbacks, Called, begun_by}
 use Rattle.st_core.specs.Stop.{with_ended}
-use Rattle.st_core.specs.Transition.{has_numbers, inserted_by, times_of, comes_after_callbacks}
+use Rattle.st_core.specs.Transition.{has_numbers, inserted_by, decisions_of, comes_after_callbacks}
 
 -- what a start reports: no event, how it ended, the calls after `init`'s, `init`'s state before and after,
--- what was inserted, and the timers that were set; no request is open yet, so that no reply was taken
-abbrev pub start_report_of : {S : Type 0} → Done → List (Call S) → S → List ℕ → List (Timer × Time) → Report S
+-- what was inserted, and what was asked of timers; no request is open yet, so that no reply was taken
+abbrev pub start_report_of : {S : Type 0} → Done → List (Call S) → S → List ℕ → List (Timer × Decision) → Report S
 start_report_of done calls state inserted set = record {
   event = None;
   done = done;
@@ -49,7 +49,7 @@ first_state id state held now first = record {
   ended = None;
 }
 
--- what the actions of a start ask for is done: events are inserted, and then timers are set
+-- what the actions of a start ask for is done: events are inserted, and then what is asked of timers is done
 abbrev pub with_begun : {S D C : Type 0} → MachineState S D C → List (Action C) → MachineState S D C
 with_begun machine actions = record machine {
   schedule = all_set_in machine.latest (inserted_in machine.schedule (inserts_of actions)) (settings_of actions);
@@ -63,13 +63,13 @@ module _ {M S D C A : Type 0} where
   -- a machine runs that does what the actions of `init` and of the enter call ask for; a Postpone is ignored
   abbrev pub started_with : M → MachineState S D C → Called S D C → Result (Start M S D C A) (Refused M)
   started_with module_ machine called =
-      if has_numbers machine called.actions
+      if has_numbers machine called
       then Ok (Running
       (record { module_ = module_; machine = with_begun machine called.actions })
-      (start_report_of Started called.calls machine.state (inserted_by machine called.actions) (times_of (settings_of called.actions))))
+      (start_report_of Started called.calls machine.state (inserted_by machine called.actions) (decisions_of (settings_of called.actions))))
       else start_refused module_ Exhausted
 
-  -- the first enter call stops: there is a machine, which has ended, and nothing was inserted or set
+  -- the first enter call stops: there is a machine, which has ended, and nothing was inserted or asked of timers
   abbrev pub ended_with : Callbacks S D C → M → MachineState S D C → Called S D C → ℕ → Result (Start M S D C A) (Refused M)
   ended_with callbacks module_ machine called reason =
       let word = callbacks.terminate_is reason machine.state machine.data in

@@ -4,13 +4,16 @@ use Rattle.st_events.specs.declared.action.Action.{Action}
 use Rattle.st_events.specs.declared.event.Event.{Event}
 use Rattle.st_events.specs.declared.refusal.Refusal.{Refusal}
 use Rattle.st_events.specs.declared.refusal.Refusal.TheVariants.{Exhausted, Moment}
+use Rattle.st_events.specs.declared.asked.Asked.{Asked}
+use Rattle.st_events.specs.declared.asked.Asked.TheVariants as asked
+use Rattle.st_events.specs.declared.decision.Decision.{Decision}
+use Rattle.st_events.specs.declared.decision.Decision.TheVariants as decision
 use Rattle.st_events.specs.declared.setting.Setting.{Setting}
 use Rattle.st_events.specs.declared.tag.Tag.{Tag}
-use Rattle.st_events.specs.declared.time.Time.{Time}
 use Rattle.st_events.specs.declared.timer.Timer.{Timer}
 use Rattle.st_actions.specs.Plan.{replies_of, inserts_of, postpone_of, settings_of}
 use Rattle.st_requests.specs.Requests.{with_answers, taken_by}
-use Rattle.st_agenda.specs.Agenda.{settled_in}
+use Rattle.st_agenda.specs.Agenda.{settled_in, running_on}
 use Rattle.st_agenda.specs.Items.{numbered, numbers_of}
 use Rattle.st_agenda.specs.Timing as timing
 use Rattle.st_core.specs.declared.call.Call.TheVariants.{Terminate}
@@ -42,13 +45,19 @@ left_by (Err refusal) old new = old
 abbrev pub unless_refused : {A T : Type 0} → T → Result A Refusal × T → Result A Refusal × T
 unless_refused old done = (done.0, left_by done.0 old done.1)
 
--- the timer that was set or stopped, with its time
-abbrev pub time_of : {C : Type 0} → Setting C → Timer × Time
-time_of setting = (setting.timer, setting.time)
+-- what was asked of a timer, without the content
+abbrev pub decision_of : {C : Type 0} → Asked C → Decision
+decision_of (asked.Set time content) = decision.Set time
+decision_of asked.Cancel = decision.Cancel
+decision_of (asked.Update content) = decision.Update
 
--- the timers that were set or stopped, with their times
-abbrev pub times_of : {C : Type 0} → List (Setting C) → List (Timer × Time)
-times_of {C} settings = map (λ (setting : Setting C). time_of setting) settings
+-- the timer of which a setting asks something, with what it is
+abbrev pub decided_by : {C : Type 0} → Setting C → Timer × Decision
+decided_by setting = (setting.timer, decision_of setting.asked)
+
+-- the timers of which settings ask something, with what it is
+abbrev pub decisions_of : {C : Type 0} → List (Setting C) → List (Timer × Decision)
+decisions_of {C} settings = map (λ (setting : Setting C). decided_by setting) settings
 
 module _ {S D C : Type 0} where
   -- a moment before the latest one counts as the latest
@@ -70,16 +79,18 @@ module _ {S D C : Type 0} where
 
   -- what becomes of what waits and what runs, in the manual's order: the event is received, and the
   -- event time-out cancelled; by the actions the event is postponed or finished; at a state change none
-  -- is postponed any more, and the state time-out is cancelled; events are inserted; timers are set
+  -- is postponed any more, and the state time-out is cancelled; events are inserted; what is asked of
+  -- timers is done
   abbrev pub with_settled : MachineState S D C → ℕ → Called S D C → MachineState S D C
   with_settled machine number called = record machine {
     schedule = settled_in machine.latest machine.schedule number (postpone_of called.actions) called.changed
         (inserts_of called.actions) (settings_of called.actions);
   }
 
-  -- whether there are numbers enough for what actions insert and for the time-outs that they start
-  abbrev pub has_numbers : MachineState S D C → List (Action C) → Bool
-  has_numbers machine actions = timing.has_numbers machine.schedule.next_number (inserts_of actions) (settings_of actions)
+  -- whether there are numbers enough for what actions insert and for the time-outs that they start, where others run on
+  abbrev pub has_numbers : MachineState S D C → Called S D C → Bool
+  has_numbers machine called =
+      timing.has_numbers machine.schedule.next_number (running_on called.changed machine.schedule) (inserts_of called.actions) (settings_of called.actions)
 
   -- the numbers of the events that actions insert
   abbrev pub inserted_by : MachineState S D C → List (Action C) → List ℕ
@@ -95,7 +106,7 @@ module _ {S D C : Type 0} where
     after = called.state;
     replied = replied_by machine called.actions;
     inserted = inserted_by machine called.actions;
-    set = times_of (settings_of called.actions);
+    set = decisions_of (settings_of called.actions);
   }
 
   -- what a turn reports of an event at which the machine ends
@@ -114,7 +125,7 @@ module _ {S D C : Type 0} where
   -- the machine goes on; where too few numbers are left, the turn is refused
   abbrev pub went_on : MachineState S D C → ℕ → Called S D C → Result (Turned S) Refusal × MachineState S D C
   went_on machine number called =
-      if has_numbers machine called.actions
+      if has_numbers machine called
       then (Ok (Reported (report_of machine number called)), with_settled (with_called machine called) number called)
       else (Err Exhausted, machine)
 

@@ -84,6 +84,8 @@ fn as_action<C>(action: EnterAction<C>) -> Action<C>
     match action {
         EnterAction::Reply(tag, content) => Action::Reply(tag, content),
         EnterAction::Set(timer, time, content) => Action::Set(timer, time, content),
+        EnterAction::Cancel(timer) => Action::Cancel(timer),
+        EnterAction::Update(timer, content) => Action::Update(timer, content),
         EnterAction::Hibernate => Action::Hibernate,
     }
 }

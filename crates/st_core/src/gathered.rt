@@ -4,17 +4,17 @@ ghost use Rattle.st_core.specs.declared.call.Call.TheVariants.{Handle};
 ghost use Rattle.st_core.specs.Gathering.{IsEmpty, report_with};
 
 use crate::{Call, Calls, Done, OneInline, Report};
-use st_events::{Kind, PlainList, Tag, Time, Timer};
+use st_events::{Decision, Kind, PlainList, Tag, Timer};
 use std::alloc::Global;
 
 /// What a report will tell: the callbacks that were made, the tags of the replies that were taken, the numbers of the
-/// events that are inserted, and the timers that are set or stopped.
+/// events that are inserted, and what is asked of timers.
 #[derive(Drop)]
 pub(crate) struct Gathered<S> {
     pub(crate) calls: Calls<S>,
     pub(crate) replied: Vec<Tag>,
     pub(crate) inserted: PlainList<u64>,
-    pub(crate) set: PlainList<(Timer, Time)>,
+    pub(crate) set: PlainList<(Timer, Decision)>,
 }
 
 impl<S: Drop> Gathered<S> {

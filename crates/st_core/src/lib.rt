@@ -9,6 +9,7 @@ mod call;
 mod calls;
 mod command;
 mod course;
+mod decisions;
 mod done;
 mod engine;
 mod entry;
@@ -28,7 +29,6 @@ mod snapshot;
 mod start;
 mod stop;
 mod tick;
-mod times;
 mod turn;
 mod turned;
 mod turns;
@@ -53,9 +53,9 @@ pub use report::Report;
 pub use snapshot::Snapshot;
 pub use st_agenda::{Item, Schedule};
 pub use st_events::{
-    Action, Actions, EnterAction, EnterActions, EnterOutcome, Event, Init, Kind, MOMENT_LIMIT,
-    MachineId, Module, NUMBER_LIMIT, Outcome, PlainList, Reason, Refusal, Refused, Replies,
-    SmallList, Tag, Time, Timer,
+    Action, Actions, Decision, EnterAction, EnterActions, EnterOutcome, Event, Init, Kind,
+    MOMENT_LIMIT, MachineId, Module, NUMBER_LIMIT, Outcome, PlainList, Reason, Refusal, Refused,
+    Replies, SmallList, Tag, Time, Timer,
 };
 pub use st_requests::{Collected, Held, Request, RequestState};
 pub use st_timeouts::{Due, Running};

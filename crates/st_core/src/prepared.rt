@@ -6,24 +6,26 @@ ghost use Rattle.st_actions.specs.Counted.{IsCountOf};
 ghost use Rattle.st_actions.specs.Plan.{replies_of, inserts_of, postpone_of, settings_of};
 ghost use Rattle.st_actions.specs.Taking.{all_settings_of};
 ghost use Rattle.st_agenda.specs.Items.{numbered, numbers_of};
+ghost use Rattle.st_agenda.specs.Agenda.{running_on};
 ghost use Rattle.st_agenda.specs.Timing.{has_numbers};
 ghost use Rattle.st_core.specs.Gathering.{IsEmpty};
-ghost use Rattle.st_core.specs.Transition.{times_of};
+ghost use Rattle.st_core.specs.Transition.{decisions_of};
 
+use crate::decisions::note_decisions;
 use crate::gathered::Gathered;
 use crate::numbers::note_numbers;
-use crate::times::note_times;
 use st_actions::{Counts, count_last};
 use st_agenda::Agenda;
 use st_events::{Actions, NUMBER_LIMIT, Refusal};
 use std::alloc::Global;
 
 /// Sees that there are numbers enough for what actions ask for, and gets all memory for it: for what the report tells, and
-/// for the events and timers. Of each timer its last setting alone is left among the actions. Nothing that waits or runs
-/// changes, and after that what they ask for cannot fail.
+/// for the events and timers, where the state changes or not. Of all that is asked of one timer the last alone is left
+/// among the actions. Nothing that waits or runs changes, and after that what they ask for cannot fail.
 pub(crate) fn prepare<S: Drop, C: Drop>(
     alloc: Global,
     agenda: &mut Agenda<C>,
+    changed: bool,
     actions: &mut Actions<C>,
     gathered: &mut Gathered<S>,
 ) -> Result<Counts, Refusal>
@@ -33,26 +35,42 @@ pub(crate) fn prepare<S: Drop, C: Drop>(
     ensures last { OnOk result (all_settings_of actions.new ≡ settings_of actions.old) }
     ensures same_replies { replies_of actions.new ≡ replies_of actions.old }
     ensures same_inserts { inserts_of actions.new ≡ inserts_of actions.old }
-    ensures numbers { OnOk result (has_numbers agenda.old.schedule.next_number (inserts_of actions.old) (settings_of actions.old) ≡ true) }
+    ensures numbers { OnOk result (has_numbers agenda.old.schedule.next_number (running_on changed agenda.old.schedule) (inserts_of actions.old) (settings_of actions.old) ≡ true) }
     ensures replied { OnOk result (gathered.new.replied.items ≡ []) }
     ensures replies { OnOk result (length (replies_of actions.old) ≤ vec_capacity gathered.new.replied) }
     ensures inserted { OnOk result (gathered.new.inserted ≡ numbers_of (numbered agenda.old.schedule.next_number (inserts_of actions.old))) }
-    ensures set { OnOk result (gathered.new.set ≡ times_of (settings_of actions.old)) }
+    ensures set { OnOk result (gathered.new.set ≡ decisions_of (settings_of actions.old)) }
     ensures same_calls { gathered.new.calls ≡ gathered.old.calls }
     ensures staged { OnOk result (length (inserts_of actions.old) + 1 ≤ agenda.new.staged) }
     ensures reserved { OnOk result (length (settings_of actions.old) ≤ agenda.new.reserved) }
     ensures same_schedule { agenda.new.schedule ≡ agenda.old.schedule }
 
-    ensures refusals { IfErr result (λ refusal. (refusal ≡ NoMemory) ⊎ ((refusal ≡ Exhausted) × (has_numbers agenda.old.schedule.next_number (inserts_of actions.old) (settings_of actions.old) ≡ false))) }
+    ensures refusals { IfErr result (λ refusal. (refusal ≡ NoMemory) ⊎ ((refusal ≡ Exhausted) × (has_numbers agenda.old.schedule.next_number (running_on changed agenda.old.schedule) (inserts_of actions.old) (settings_of actions.old) ≡ false))) }
 {
     let counts = count_last(alloc, actions)?;
     let next = agenda.next_number();
-    if counts.numbers > NUMBER_LIMIT - next {
+    if !has_numbers(agenda, changed, actions, counts) {
         return Err(Refusal::Exhausted);
     }
     gathered.replied.reserve_exact(counts.replies)?;
     note_numbers(alloc, next, counts.inserts, &mut gathered.inserted)?;
-    note_times(alloc, counts.settings, actions, &mut gathered.set)?;
+    note_decisions(alloc, counts.settings, actions, &mut gathered.set)?;
     agenda.reserve_for(counts.inserts, counts.settings)?;
     Ok(counts)
+}
+
+/// Says whether there are numbers enough for actions that come to these counts, where the state changes or not.
+fn has_numbers<C>(agenda: &Agenda<C>, changed: bool, actions: &Actions<C>, counts: Counts) -> bool
+    requires { IsCountOf counts actions.now }
+    ensures { result ≡ has_numbers agenda.now.schedule.next_number (running_on changed agenda.now.schedule) (inserts_of actions.now) (all_settings_of actions.now) }
+{
+    let left = NUMBER_LIMIT - agenda.next_number();
+    if counts.updates == 0 {
+        return counts.numbers <= left;
+    }
+    let updating = agenda.numbers_of_updates(actions, changed);
+    match counts.numbers.checked_add(updating) {
+        None => false,
+        Some(numbers) => numbers <= left,
+    }
 }

@@ -1,7 +1,7 @@
 //! What a start or a turn did.
 
 use crate::{Calls, Done};
-use st_events::{PlainList, Tag, Time, Timer};
+use st_events::{Decision, PlainList, Tag, Timer};
 
 /// What a start or a turn did.
 ///
@@ -22,6 +22,6 @@ pub struct Report<S> {
     pub replied: PlainList<Tag>,
     /// The numbers of the events that were inserted, in order.
     pub inserted: PlainList<u64>,
-    /// The timers that were set or stopped, each by its last setting, in the order of these.
-    pub set: PlainList<(Timer, Time)>,
+    /// The timers that were set, cancelled or updated, each with the last that was asked of it, in the order of these.
+    pub set: PlainList<(Timer, Decision)>,
 }

@@ -159,7 +159,7 @@ impl<M: Module> Core<M> {
             → Starts opening.module result (started_with opening.module (first_state opening.id state «data» opening.now opening.first) called) }
     {
         let mut agenda = Agenda::new(opening.alloc, opening.first);
-        let counts = match prepare(opening.alloc, &mut agenda, actions, &mut gathered) {
+        let counts = match prepare(opening.alloc, &mut agenda, false, actions, &mut gathered) {
             Ok(counts) => counts,
             Err(refusal) => return Err(Refused::new(refusal, opening.module)),
         };

@@ -229,7 +229,13 @@ impl<M: Module> Core<M> {
 
         ensures unchanged { OnErr result (self.new ≡ self.old) }
     {
-        let counts = match prepare(self.alloc, &mut self.agenda, actions, gathered) {
+        let counts = match prepare(
+            self.alloc,
+            &mut self.agenda,
+            course.changed,
+            actions,
+            gathered,
+        ) {
             Ok(counts) => counts,
             Err(refusal) => return Err(refusal),
         };

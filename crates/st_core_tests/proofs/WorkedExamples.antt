@@ -1,11 +1,12 @@
 -- The definitions computed on examples, whole answers in order and the whole machine in the end.
 use Rattle.std.proofs.Common.{◌≡◌, ℕ, ◌+◌, ◌==◌, Some, None, Result, Ok, Err, List, [], ◌∷◌, true, false, refl, inr}
+use Rattle.st_events.specs.declared.decision.Decision.{Decision}
+use Rattle.st_events.specs.declared.decision.Decision.TheVariants as decision
 use Rattle.st_events.specs.declared.event.Event.{Event}
 use Rattle.st_events.specs.declared.kind.Kind.{Kind}
 use Rattle.st_events.specs.declared.kind.Kind.TheVariants as kind
 use Rattle.st_events.specs.declared.machine_id.MachineId.{MachineId}
 use Rattle.st_events.specs.declared.refusal.Refusal.{Refusal}
-use Rattle.st_events.specs.declared.time.Time.{Time}
 use Rattle.st_events.specs.declared.time.Time.TheVariants.{After, Infinity}
 use Rattle.st_events.specs.declared.timer.Timer.{Timer}
 use Rattle.st_events.specs.declared.timer.Timer.TheVariants as timer
@@ -423,7 +424,7 @@ the_last_numbers_are_inserted = runs_of 50 numbers_enough last_inserts
 abbrev started : ℕ → ℕ → ℕ → Result (Start ℕ ℕ ℕ ℕ ℕ) (Refused ℕ)
 started arg now first = start_of table 50 id (begun_by_table arg) now first
 
-abbrev start_report : List ℕ → List (Timer × Time) → Report ℕ
+abbrev start_report : List ℕ → List (Timer × Decision) → Report ℕ
 start_report inserted set = record {
   event = None;
   done = Started;
@@ -495,7 +496,7 @@ abbrev ticked : ℕ → Answer ℕ ℕ
 ticked count = answer.Tick (Ok count)
 
 -- a cast in the first state is finished, and timers are set
-abbrev setting : ℕ → List (Timer × Time) → Answer ℕ ℕ
+abbrev setting : ℕ → List (Timer × Decision) → Answer ℕ ℕ
 setting number set = reported (record (report number kind.Cast 0 0 Finished []) { set = set })
 
 -- the event of a timer is finished
@@ -504,8 +505,8 @@ lapsed timer number state = finished_as (kind.Timeout timer) number state state
 
 -- two time-outs that are due at once: the first that was requested comes, and it cancels that of the
 -- event; the other way round both come
-abbrev two_zero_set : List (Timer × Time)
-two_zero_set = (timer.State, After 0) ∷ (timer.Event, After 0) ∷ []
+abbrev two_zero_set : List (Timer × Decision)
+two_zero_set = (timer.State, decision.Set (After 0)) ∷ (timer.Event, decision.Set (After 0)) ∷ []
 
 the_first_zero_cancels : RunsOf 50 fresh (cast 22 ∷ turn 0 ∷ turn 0 ∷ turn 0 ∷ [])
     (posted 1 ∷ setting 1 two_zero_set ∷ lapsed timer.State 2 0 ∷ idle ∷ [])
@@ -513,7 +514,7 @@ the_first_zero_cancels : RunsOf 50 fresh (cast 22 ∷ turn 0 ∷ turn 0 ∷ turn
 the_first_zero_cancels = runs_of 50 fresh (cast 22 ∷ turn 0 ∷ turn 0 ∷ turn 0 ∷ [])
 
 both_zero_come : RunsOf 50 fresh (cast 23 ∷ turn 0 ∷ turn 0 ∷ turn 0 ∷ turn 0 ∷ [])
-    (posted 1 ∷ setting 1 ((timer.Event, After 0) ∷ (timer.State, After 0) ∷ []) ∷ lapsed timer.Event 2 0 ∷ lapsed timer.State 3 0 ∷ idle ∷ [])
+    (posted 1 ∷ setting 1 ((timer.Event, decision.Set (After 0)) ∷ (timer.State, decision.Set (After 0)) ∷ []) ∷ lapsed timer.Event 2 0 ∷ lapsed timer.State 3 0 ∷ idle ∷ [])
     (at_rest 0 7 0 4)
 both_zero_come = runs_of 50 fresh (cast 23 ∷ turn 0 ∷ turn 0 ∷ turn 0 ∷ turn 0 ∷ [])
 
@@ -529,7 +530,7 @@ abbrev one_timer : MachineState ℕ ℕ ℕ
 one_timer = with_timers (at_rest 0 7 0 2) (runs (timer.Named 5) 1 (At 5) ∷ [])
 
 start_sets : started 5 0 1
-    ≡ Ok (Running (record { module_ = 50; machine = one_timer }) (start_report [] ((timer.Named 5, After 5) ∷ [])))
+    ≡ Ok (Running (record { module_ = 50; machine = one_timer }) (start_report [] ((timer.Named 5, decision.Set (After 5)) ∷ [])))
 start_sets = refl
 
 expired_waits : RunsOf 50 one_timer (cast 24 ∷ tick 5 ∷ [])
@@ -538,9 +539,73 @@ expired_waits : RunsOf 50 one_timer (cast 24 ∷ tick 5 ∷ [])
 expired_waits = runs_of 50 one_timer (cast 24 ∷ tick 5 ∷ [])
 
 expired_is_stopped : RunsOf 50 one_timer (cast 24 ∷ tick 5 ∷ turn 5 ∷ turn 5 ∷ [])
-    (posted 2 ∷ ticked 1 ∷ setting 2 ((timer.Named 5, Infinity) ∷ []) ∷ idle ∷ [])
+    (posted 2 ∷ ticked 1 ∷ setting 2 ((timer.Named 5, decision.Set Infinity) ∷ []) ∷ idle ∷ [])
     (at_rest 0 7 5 3)
 expired_is_stopped = runs_of 50 one_timer (cast 24 ∷ tick 5 ∷ turn 5 ∷ turn 5 ∷ [])
+
+-- it is cancelled as it is stopped
+expired_is_cancelled : RunsOf 50 one_timer (cast 46 ∷ tick 5 ∷ turn 5 ∷ turn 5 ∷ [])
+    (posted 2 ∷ ticked 1 ∷ setting 2 ((timer.Named 5, decision.Cancel) ∷ []) ∷ idle ∷ [])
+    (at_rest 0 7 5 3)
+expired_is_cancelled = runs_of 50 one_timer (cast 46 ∷ tick 5 ∷ turn 5 ∷ turn 5 ∷ [])
+
+-- its content is replaced: its number, its moment and its expiry stay, and its event has the content 4, at which the
+-- data become 9
+abbrev updated : Timer → ℕ → Due → RunningTimeout ℕ
+updated timer number due = record { timer = timer; number = number; due = due; content = 4 }
+
+expired_is_updated : RunsOf 50 one_timer (cast 43 ∷ tick 5 ∷ turn 5 ∷ [])
+    (posted 2 ∷ ticked 1 ∷ setting 2 ((timer.Named 5, decision.Update) ∷ []) ∷ [])
+    (with_timers (with_items (at_rest 0 7 5 3) (Expiry (timer.Named 5) ∷ []) []) (updated (timer.Named 5) 1 (At 5) ∷ []))
+expired_is_updated = runs_of 50 one_timer (cast 43 ∷ tick 5 ∷ turn 5 ∷ [])
+
+updated_comes : RunsOf 50 one_timer (cast 43 ∷ tick 5 ∷ turn 5 ∷ turn 5 ∷ [])
+    (posted 2 ∷ ticked 1 ∷ setting 2 ((timer.Named 5, decision.Update) ∷ []) ∷ lapsed (timer.Named 5) 1 0 ∷ [])
+    (at_rest 0 9 5 3)
+updated_comes = runs_of 50 one_timer (cast 43 ∷ tick 5 ∷ turn 5 ∷ turn 5 ∷ [])
+
+-- one that does not run is set for no time
+none_is_updated : RunsOf 50 fresh (cast 43 ∷ turn 0 ∷ [])
+    (posted 1 ∷ setting 1 ((timer.Named 5, decision.Update) ∷ []) ∷ [])
+    (with_timers (at_rest 0 7 0 3) (updated (timer.Named 5) 2 Zero ∷ []))
+none_is_updated = runs_of 50 fresh (cast 43 ∷ turn 0 ∷ [])
+
+-- of a setting and an update the later decides
+set_and_updated : RunsOf 50 fresh (cast 47 ∷ turn 0 ∷ cast 44 ∷ turn 0 ∷ [])
+    (posted 1 ∷ setting 1 ((timer.Named 5, decision.Set (After 10)) ∷ []) ∷ posted 3 ∷ setting 3 ((timer.Named 5, decision.Update) ∷ []) ∷ [])
+    (with_timers (at_rest 0 7 0 4) (updated (timer.Named 5) 2 (At 10) ∷ []))
+set_and_updated = runs_of 50 fresh (cast 47 ∷ turn 0 ∷ cast 44 ∷ turn 0 ∷ [])
+
+updated_and_set : RunsOf 50 fresh (cast 47 ∷ turn 0 ∷ cast 45 ∷ turn 0 ∷ [])
+    (posted 1 ∷ setting 1 ((timer.Named 5, decision.Set (After 10)) ∷ []) ∷ posted 3 ∷ setting 3 ((timer.Named 5, decision.Set (After 20)) ∷ []) ∷ [])
+    (with_timers (at_rest 0 7 0 5) (runs (timer.Named 5) 4 (At 20) ∷ []))
+updated_and_set = runs_of 50 fresh (cast 47 ∷ turn 0 ∷ cast 45 ∷ turn 0 ∷ [])
+
+-- the event's time-out runs no more when it is updated, nor does the state's at a state change
+event_is_updated : RunsOf 50 fresh (cast 29 ∷ turn 0 ∷ cast 48 ∷ turn 0 ∷ [])
+    (posted 1 ∷ setting 1 ((timer.Event, decision.Set (After 5)) ∷ []) ∷ posted 3 ∷ setting 3 ((timer.Event, decision.Update) ∷ []) ∷ [])
+    (with_timers (at_rest 0 7 0 5) (updated timer.Event 4 Zero ∷ []))
+event_is_updated = runs_of 50 fresh (cast 29 ∷ turn 0 ∷ cast 48 ∷ turn 0 ∷ [])
+
+state_is_updated : RunsOf 50 fresh (cast 28 ∷ turn 0 ∷ cast 50 ∷ turn 0 ∷ [])
+    (posted 1 ∷ setting 1 ((timer.State, decision.Set (After 5)) ∷ []) ∷ posted 3
+    ∷ reported (record (report 3 kind.Cast 0 1 Finished []) { set = (timer.State, decision.Update) ∷ [] }) ∷ [])
+    (with_timers (at_rest 1 7 0 5) (updated timer.State 4 Zero ∷ []))
+state_is_updated = runs_of 50 fresh (cast 28 ∷ turn 0 ∷ cast 50 ∷ turn 0 ∷ [])
+
+-- an update of a time-out that runs takes no number, and one that sets takes one
+abbrev last_numbers : ℕ → MachineState ℕ ℕ ℕ
+last_numbers next = with_timers (at_rest 0 7 0 next) (runs (timer.Named 5) 9223372036854775806 (At 5) ∷ [])
+
+the_last_number_updates : RunsOf 50 (last_numbers 9223372036854775807) (cast 43 ∷ turn 0 ∷ [])
+    (posted 9223372036854775807 ∷ setting 9223372036854775807 ((timer.Named 5, decision.Update) ∷ []) ∷ [])
+    (with_timers (at_rest 0 7 0 9223372036854775808) (updated (timer.Named 5) 9223372036854775806 (At 5) ∷ []))
+the_last_number_updates = runs_of 50 (last_numbers 9223372036854775807) (cast 43 ∷ turn 0 ∷ [])
+
+no_number_for_an_update : RunsOf 50 (at_rest 0 7 0 9223372036854775807) (cast 43 ∷ turn 0 ∷ [])
+    (posted 9223372036854775807 ∷ answer.Turn (Err Exhausted) ∷ [])
+    (with_items (at_rest 0 7 0 9223372036854775808) (Posted (cast_event 9223372036854775807 43) ∷ []) [])
+no_number_for_an_update = runs_of 50 (at_rest 0 7 0 9223372036854775807) (cast 43 ∷ turn 0 ∷ [])
 
 -- an expiry does not count as waiting
 expiry_is_no_event : waiting_of (with_items one_timer (Expiry (timer.Named 5) ∷ []) []) ≡ 0
@@ -555,7 +620,7 @@ abbrev last_moment : MachineState ℕ ℕ ℕ
 last_moment = with_timers (at_rest 0 7 9223372036854775807 2) (runs (timer.Named 1) 1 (At 9223372041149743102) ∷ [])
 
 start_sets_late : started 6 9223372036854775807 1
-    ≡ Ok (Running (record { module_ = 50; machine = last_moment }) (start_report [] ((timer.Named 1, After 4294967295) ∷ [])))
+    ≡ Ok (Running (record { module_ = 50; machine = last_moment }) (start_report [] ((timer.Named 1, decision.Set (After 4294967295)) ∷ [])))
 start_sets_late = refl
 
 timers_are_shown : timers_of last_moment ≡ (timer.Named 1, 1, At 9223372041149743102) ∷ []
@@ -584,8 +649,8 @@ abbrev change_and_set : List (Command ℕ)
 change_and_set = cast 28 ∷ cast 27 ∷ turn 0 ∷ turn 0 ∷ tick 5 ∷ []
 
 the_new_state_time_out_runs : RunsOf 50 fresh change_and_set
-    (posted 1 ∷ posted 2 ∷ setting 1 ((timer.State, After 5) ∷ [])
-    ∷ reported (record (report 2 kind.Cast 0 1 Finished []) { set = (timer.State, After 10) ∷ [] }) ∷ ticked 0 ∷ [])
+    (posted 1 ∷ posted 2 ∷ setting 1 ((timer.State, decision.Set (After 5)) ∷ [])
+    ∷ reported (record (report 2 kind.Cast 0 1 Finished []) { set = (timer.State, decision.Set (After 10)) ∷ [] }) ∷ ticked 0 ∷ [])
     (with_timers (at_rest 1 7 5 5) (runs timer.State 4 (At 10) ∷ []))
 the_new_state_time_out_runs = runs_of 50 fresh change_and_set
 
@@ -594,7 +659,7 @@ abbrev lapsed_event : Event ℕ
 lapsed_event = record { number = 2; kind = kind.Timeout (timer.Named 2); content = 10 }
 
 a_zero_time_out_is_postponed : RunsOf 50 fresh (cast 30 ∷ cast 0 ∷ turn 0 ∷ turn 0 ∷ [])
-    (posted 1 ∷ posted 2 ∷ setting 1 ((timer.Named 2, After 0) ∷ []) ∷ reported (report 3 (kind.Timeout (timer.Named 2)) 0 0 PutOff []) ∷ [])
+    (posted 1 ∷ posted 2 ∷ setting 1 ((timer.Named 2, decision.Set (After 0)) ∷ []) ∷ reported (report 3 (kind.Timeout (timer.Named 2)) 0 0 PutOff []) ∷ [])
     (with_items (at_rest 0 7 0 4) (Received (record lapsed_event { number = 3 }) ∷ Posted (cast_event 2 0) ∷ []) (3 ∷ []))
 a_zero_time_out_is_postponed = runs_of 50 fresh (cast 30 ∷ cast 0 ∷ turn 0 ∷ turn 0 ∷ [])
 
@@ -637,7 +702,7 @@ first_stops = refl
 -- its actions follow those of `init`
 first_sets : started_as 62
     ≡ Ok (Running (record { module_ = 62; machine = with_timers (at_rest 0 7 0 3) (runs timer.State 1 (At 20) ∷ runs (timer.Named 1) 2 (At 9) ∷ []) })
-    (record (start_report [] ((timer.State, After 20) ∷ (timer.Named 1, After 9) ∷ [])) { calls = Enter 0 0 ∷ [] }))
+    (record (start_report [] ((timer.State, decision.Set (After 20)) ∷ (timer.Named 1, decision.Set (After 9)) ∷ [])) { calls = Enter 0 0 ∷ [] }))
 first_sets = refl
 
 -- a cast is finished, and its state entered
@@ -672,7 +737,7 @@ repeated_state_kept = runs_of 50 fresh repeated
 
 -- its time-out runs on
 repeated_state_times_out : RunsOf 60 fresh (cast 28 ∷ turn 0 ∷ cast 32 ∷ turn 3 ∷ tick 5 ∷ [])
-    (posted 1 ∷ setting 1 ((timer.State, After 5) ∷ []) ∷ posted 3 ∷ entered 3 0 0 ∷ ticked 1 ∷ [])
+    (posted 1 ∷ setting 1 ((timer.State, decision.Set (After 5)) ∷ []) ∷ posted 3 ∷ entered 3 0 0 ∷ ticked 1 ∷ [])
     (with_timers (with_items (at_rest 0 7 5 4) (Expiry timer.State ∷ []) []) (runs timer.State 2 (At 5) ∷ []))
 repeated_state_times_out = runs_of 60 fresh (cast 28 ∷ turn 0 ∷ cast 32 ∷ turn 3 ∷ tick 5 ∷ [])
 
@@ -694,7 +759,7 @@ both_lists : RunsOf 62 fresh (cast 35 ∷ turn 4 ∷ [])
     (posted 1
     ∷ reported (record (report 1 kind.Cast 0 1 PutOff []) {
       calls = Handle 1 kind.Cast 0 ∷ Enter 0 1 ∷ [];
-      set = (timer.Named 2, After 5) ∷ (timer.State, After 20) ∷ (timer.Named 1, After 9) ∷ [];
+      set = (timer.Named 2, decision.Set (After 5)) ∷ (timer.State, decision.Set (After 20)) ∷ (timer.Named 1, decision.Set (After 9)) ∷ [];
     }) ∷ [])
     (with_timers (with_items (at_rest 1 7 4 5) (Received (cast_event 1 35) ∷ []) [])
     (runs (timer.Named 2) 2 (At 9) ∷ runs timer.State 3 (At 24) ∷ runs (timer.Named 1) 4 (At 13) ∷ []))

@@ -2,7 +2,7 @@
 -- here because the clauses of a test can name nothing else.
 use Rattle.std.specs.Prelude.{ℕ, Bool, ◌==◌, nat_le, if◌then◌else◌, true, false, Some, None, List, [], ◌∷◌}
 use Rattle.st_events.specs.declared.action.Action.{Action}
-use Rattle.st_events.specs.declared.action.Action.TheVariants.{Reply, Postpone, NextEvent, Set, Hibernate}
+use Rattle.st_events.specs.declared.action.Action.TheVariants.{Reply, Postpone, NextEvent, Set, Cancel, Update, Send, Hibernate}
 use Rattle.st_events.specs.declared.enter_action.EnterAction.{EnterAction}
 use Rattle.st_events.specs.declared.enter_action.EnterAction.TheVariants as enter_action
 use Rattle.st_events.specs.declared.enter_outcome.EnterOutcome.{EnterOutcome}
@@ -50,12 +50,32 @@ actions_of_each_kind =
 abbrev pub five_replies : List (Tag × ℕ)
 five_replies = (third_tag, 57) ∷ (first_tag, 40) ∷ (foreign_tag, 58) ∷ (second_tag, 51) ∷ (third_tag, 59) ∷ []
 
+-- six requests to timers, and a message: of two for one timer the last decides
+abbrev pub six_requests : List (Action ℕ)
+six_requests =
+    Update (timer.Named 1) 4 ∷ Set (timer.Named 5) (After 20) 0 ∷ Cancel (timer.Named 1) ∷ Send foreign_tag.machine 0
+    ∷ Update (timer.Named 5) 3 ∷ Update timer.State 4 ∷ []
+
+-- what `handle` answers to the contents that update and cancel
+abbrev pub handled_by_updating : ℕ → ℕ → Outcome ℕ ℕ ℕ
+handled_by_updating content held =
+    if content == 43 then KeepStateAndData (Update (timer.Named 5) 4 ∷ [])
+    else (if content == 44 then KeepStateAndData (Set (timer.Named 5) (After 20) 0 ∷ Update (timer.Named 5) 4 ∷ [])
+    else (if content == 45 then KeepStateAndData (Update (timer.Named 5) 4 ∷ Set (timer.Named 5) (After 20) 0 ∷ [])
+    else (if content == 46 then KeepStateAndData (Cancel (timer.Named 5) ∷ [])
+    else (if content == 47 then KeepStateAndData (Set (timer.Named 5) (After 10) 0 ∷ [])
+    else (if content == 48 then KeepStateAndData (Update timer.Event 4 ∷ [])
+    else (if content == 49 then KeepStateAndData (Update timer.State 4 ∷ [])
+    else (if content == 50 then NextState 1 held (Update timer.State 4 ∷ [])
+    else (if content == 51 then KeepStateAndData six_requests
+    else KeepStateAndData []))))))))
+
 -- what `handle` answers to the contents that ask for more than a list holds without memory
 abbrev pub handled_at_length : ℕ → ℕ → Outcome ℕ ℕ ℕ
 handled_at_length content held =
     if content == 41 then NextState 1 held actions_of_each_kind
     else (if content == 42 then StopAndReply 9 five_replies None
-    else KeepStateAndData [])
+    else handled_by_updating content held)
 
 -- what `handle` answers to the contents that reply
 abbrev pub handled_by_replying : ℕ → ℕ → Outcome ℕ ℕ ℕ
@@ -147,8 +167,10 @@ changed_by_table number old held =
     else (if number == 72 then enter.Stop 4 None
     else (if number == 73 then enter.StopAndReply 4 five_replies (Some 8)
     else (if number == 66 then enter.KeepStateAndData enter_actions_of_each_kind
+    else (if number == 67 then enter.KeepStateAndData (enter_action.Update (timer.Named 5) 4 ∷ [])
+    else (if number == 68 then enter.KeepStateAndData (enter_action.Cancel (timer.Named 5) ∷ [])
     else (if number == 65 then enter.KeepStateAndData (enter_action.Reply first_tag 62 ∷ [])
-    else enter.KeepStateAndData [])))))
+    else enter.KeepStateAndData [])))))))
 
 -- what `enter` of the module with this number answers, for the old state and the new, with data
 abbrev pub entered_by_table : ℕ → ℕ → ℕ → ℕ → EnterOutcome ℕ ℕ
@@ -177,4 +199,6 @@ begun_by_table arg =
     else (if arg == 7 then init.Ok 0 7 three_settings
     else (if arg == 8 then init.Ok 0 7 (Set (timer.Named 1) (After 0) 0 ∷ two_inserts)
     else (if arg == 9 then init.Ok 0 7 actions_of_each_kind
-    else init.Stop arg))))))))
+    else (if arg == 10 then init.Ok 0 7 (Update (timer.Named 5) 4 ∷ [])
+    else (if arg == 11 then init.Ok 0 7 (Set (timer.Named 5) (After 5) 43 ∷ [])
+    else init.Stop arg))))))))))

@@ -27,4 +27,5 @@ mod tested;
 mod timeouts;
 mod told;
 mod until_idle;
+mod updates;
 mod zero_timeouts;

@@ -38,7 +38,7 @@ module _ {S D C : Type 0} where
   latest-unless (Some end) refused machine done kept = omega arith
 
   latest-went_on : (machine : MachineState S D C) (number : ℕ) (called : Called S D C) → (went_on machine number called).1.latest ≡ machine.latest
-  latest-went_on machine number called = elim (cases_Bool (has_numbers machine called.actions)) [
+  latest-went_on machine number called = elim (cases_Bool (has_numbers machine called)) [
     | inl enough ↦ rw enough refl
     | inr none ↦ rw none refl
   ]

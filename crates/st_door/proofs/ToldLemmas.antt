@@ -59,7 +59,7 @@ DoorCalled = Called DoorState DoorData DoorContent
 
 -- a turn keeps the machine's id, whether it goes on, ends or is refused
 id-went_on : (machine : DoorMachine) (number : ℕ) (called : DoorCalled) → (went_on machine number called).1.id ≡ machine.id
-id-went_on machine number called = elim (cases_Bool (has_numbers machine called.actions)) [
+id-went_on machine number called = elim (cases_Bool (has_numbers machine called)) [
   | inl enough ↦ rw enough refl
   | inr none ↦ rw none refl
 ]

@@ -5,7 +5,8 @@ use Rattle.st_events.specs.declared.kind.Kind.TheVariants as kind
 use Rattle.st_events.specs.declared.machine_id.MachineId.{MachineId}
 use Rattle.st_events.specs.declared.refusal.Refusal.{Refusal}
 use Rattle.st_events.specs.declared.tag.Tag.{Tag}
-use Rattle.st_events.specs.declared.time.Time.{Time}
+use Rattle.st_events.specs.declared.decision.Decision.{Decision}
+use Rattle.st_events.specs.declared.decision.Decision.TheVariants as decision
 use Rattle.st_events.specs.declared.time.Time.TheVariants.{After}
 use Rattle.st_events.specs.declared.timer.Timer.{Timer}
 use Rattle.st_events.specs.declared.timer.Timer.TheVariants as timer
@@ -38,7 +39,7 @@ abbrev door_in : DoorState → List ℕ → ℕ → ℕ → DoorMachine
 door_in state buttons moment next = first_state id state (record { code = 1 ∷ []; buttons = buttons }) moment next
 
 -- the report of an event that is finished: the calls, the states before and after it, and the timers that were set
-abbrev finished : ℕ → List (Call DoorState) → DoorState → DoorState → List (Timer × Time) → Report DoorState
+abbrev finished : ℕ → List (Call DoorState) → DoorState → DoorState → List (Timer × Decision) → Report DoorState
 finished number calls before after set = record {
   event = Some number;
   done = Finished;
@@ -76,7 +77,7 @@ opened = turn_of door_callbacks (post_of (door_in Locked [] 0 1) entry.Cast (But
 
 -- the code opens the door, and the enter call sets the state time-out
 the_code_enters_open : opened.0
-    ≡ Ok (Reported (finished 1 (Handle 1 kind.Cast Locked ∷ Enter Locked Open ∷ []) Locked Open ((timer.State, After 10000) ∷ [])))
+    ≡ Ok (Reported (finished 1 (Handle 1 kind.Cast Locked ∷ Enter Locked Open ∷ []) Locked Open ((timer.State, decision.Set (After 10000)) ∷ [])))
 the_code_enters_open = refl
 
 -- the opened door, if it had a button still

@@ -1,6 +1,6 @@
 //! What a callback asks for.
 
-use crate::{Kind, SmallList, Tag, Time, Timer};
+use crate::{Kind, MachineId, SmallList, Tag, Time, Timer};
 
 /// One action of a callback.
 ///
@@ -15,9 +15,18 @@ pub enum Action<C> {
     /// Inserts an event, which is handled before all that was not handled yet. One of kind call opens no
     /// request. Manual: `action()`, the bullet on `next_event`.
     NextEvent(Kind, C),
-    /// Sets a timer for a time, or stops it; the content is that of the time-out's event. Of several for
-    /// one timer the last one decides. Manual: `timeout_action()`, `action()`.
+    /// Sets a timer for a time, or stops it; the content is that of the time-out's event. Of all that is
+    /// asked of one timer, by this, `Cancel` and `Update`, the last one decides. Manual: `timeout_action()`,
+    /// `action()`; ours: docs/DECISIONS.md, What is asked of one timer.
     Set(Timer, Time, C),
+    /// Stops a timer. Manual: `timeout_cancel_action()`.
+    Cancel(Timer),
+    /// Gives a timer's running time-out this content, and leaves all else of it; where none runs, sets the
+    /// timer for no time. Manual: `timeout_update_action()`.
+    Update(Timer, C),
+    /// Is to send a message to a machine. No machine does so yet: it has no effect. Ours:
+    /// docs/DECISIONS.md, Messages.
+    Send(MachineId, C),
     /// Is accepted and has no effect. Manual: `hibernate()`; ours: docs/DECISIONS.md, Hibernation.
     Hibernate,
 }

@@ -3,7 +3,9 @@
 #![tactic(auto)]
 
 mod action;
+mod asked;
 mod copy_content;
+mod decision;
 mod elements;
 mod enter_action;
 mod enter_outcome;
@@ -13,10 +15,12 @@ mod insert;
 mod kind;
 mod limits;
 mod machine_id;
+mod message;
 mod module;
 mod outcome;
 mod places;
 mod plain_list;
+mod plain_text;
 mod refusal;
 mod refused;
 mod setting;
@@ -28,7 +32,9 @@ mod timer;
 mod token;
 
 pub use action::{Action, Actions};
+pub use asked::Asked;
 pub use copy_content::CopyContent;
+pub use decision::Decision;
 pub use elements::Elements;
 pub use enter_action::{EnterAction, EnterActions};
 pub use enter_outcome::EnterOutcome;
@@ -38,10 +44,12 @@ pub use insert::{Insert, Inserts};
 pub use kind::Kind;
 pub use limits::{MOMENT_LIMIT, NUMBER_LIMIT};
 pub use machine_id::MachineId;
+pub use message::{Message, Sends};
 pub use module::Module;
 pub use outcome::{Outcome, Reason, Replies};
 pub use places::Places;
 pub use plain_list::PlainList;
+pub use plain_text::PlainText;
 pub use refusal::Refusal;
 pub use refused::Refused;
 pub use setting::{Setting, Settings};

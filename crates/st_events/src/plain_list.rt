@@ -1,8 +1,8 @@
 //! Vectors that contracts see as lists.
 ghost use Rattle.std.specs.Cmp.Lexicographic.{pointwise, lists_per, lists_equiv};
-ghost use Rattle.std.specs.Prelude.{◌≡◌, []};
+ghost use Rattle.std.specs.Prelude.{◌≡◌, [], ◌∷◌, ◌++◌, length, slice_get, option_copied, IfOk, OnOk, OnErr, IfErr};
 
-use std::alloc::Global;
+use std::alloc::{AllocError, AllocFailed, Global};
 use std::fmt::{self, Debug, Formatter, Write};
 use std::marker::Model;
 
@@ -39,12 +39,48 @@ impl<T> PlainList<T> {
         self.elements.as_slice()
     }
 
+    /// How many elements there are.
+    pub fn len(&self) -> usize
+        ensures { result ≡ length self.now }
+    {
+        self.elements.len()
+    }
+
+    /// The element at an index, counted from 0, or `None` where there are not so many.
+    pub fn get(&self, index: usize) -> Option<&T>
+        ensures { option_copied result ≡ slice_get self.now index }
+    {
+        self.elements.get(index)
+    }
+
+    /// Adds an element at the end. Where memory is wanted and there is none, the list stays and the element
+    /// comes back.
+    pub fn push(&mut self, element: T) -> Result<(), AllocFailed<T>>
+        ensures pushed { OnOk result (self.new ≡ self.old ++ element ∷ []) }
+
+        ensures unchanged { OnErr result (self.new ≡ self.old) }
+        ensures value_returned { IfErr result (λ failed. failed.value ≡ element) }
+    {
+        self.elements.push(element)
+    }
+
     /// The vector itself, which takes no memory.
     pub fn into_vec(self) -> Vec<T>
         ensures { result.items ≡ self }
     {
         let PlainList { elements } = self;
         elements
+    }
+}
+
+impl<T: Copy> PlainList<T> {
+    /// A list of copies of these elements. It may find no memory.
+    pub fn copied(alloc: Global, elements: &[T]) -> Result<PlainList<T>, AllocError>
+        ensures { IfOk result (λ copy. copy ≡ elements.now) }
+    {
+        Ok(PlainList {
+            elements: Vec::from_slice(alloc, elements)?,
+        })
     }
 }
 

@@ -4,7 +4,7 @@ ghost use Rattle.st_events.specs.Refusal.{number_of};
 ghost use Rattle.st_events.specs.declared.refusal.Refusal.TheVariants.{NoMemory};
 
 use crate::{MachineId, Reason};
-use std::alloc::AllocError;
+use std::alloc::{AllocError, AllocFailed};
 use std::error::Error;
 use std::fmt::{self, Display, Formatter, Write};
 
@@ -96,5 +96,14 @@ impl From<AllocError> for Refusal {
 
     fn from(_cause: AllocError) -> Refusal {
         Refusal::NoMemory
+    }
+}
+
+/// So is want of memory at a call that gives back what it took; the value is let go.
+impl<T: Drop> From<AllocFailed<T>> for Refusal {
+    ghost from_gives = { λ _ refusal. refusal ≡ NoMemory };
+
+    fn from(cause: AllocFailed<T>) -> Refusal {
+        Refusal::from(AllocError::from(cause))
     }
 }

@@ -1,21 +1,19 @@
-//! Timers that are to be set.
+//! What is asked of timers.
 
-use crate::{SmallList, Time, Timer};
+use crate::{Asked, SmallList, Timer};
 
-/// A timer that is to be set, or stopped, and the content of its event. It has no number yet.
+/// A timer, and what is asked of it. It has no number yet.
 ///
 /// Manual: `timeout_action()`.
 #[derive(Drop)]
 pub struct Setting<C> {
     /// Which timer.
     pub timer: Timer,
-    /// For how long, or that it is stopped.
-    pub time: Time,
-    /// The content of the event that the time-out becomes.
-    pub content: C,
+    /// What is asked of it.
+    pub asked: Asked<C>,
 }
 
-/// Timers that are to be set, in the order in which this is done. Up to four take no memory.
+/// What is asked of timers, in the order in which it is done. Up to four take no memory.
 ///
 /// Manual: `timeout_action()`.
 pub type Settings<C> = SmallList<Setting<C>>;

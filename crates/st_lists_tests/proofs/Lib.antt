@@ -1,0 +1,2 @@
+-- Lemmas on what the tests ask for.
+pub mod SettingLemmas

@@ -35,7 +35,7 @@ module _ (A : Type 0) {M S D C : Type 0} where
   begun_owns : (callbacks : Callbacks S D C) (module_ : M) (id : MachineId) (called : Called S D C) (now first : ℕ) (reason : Option ℕ)
       → StartsOwn module_ id (begun_on {A = A} callbacks module_ (first_state id called.state called.data now first) called reason)
   begun_owns callbacks module_ id called now first None =
-      either_owns module_ id (has_numbers (first_state id called.state called.data now first) called.actions) _ _ (record { of_id = refl; of_module = refl }) refl
+      either_owns module_ id (has_numbers (first_state id called.state called.data now first) called) _ _ (record { of_id = refl; of_module = refl }) refl
   begun_owns callbacks module_ id called now first (Some reason) = record { of_id = refl; of_module = refl }
 
   answer_owns : (callbacks : Callbacks S D C) (module_ : M) (id : MachineId) (answer : Init S D C) (now first : ℕ)

@@ -66,7 +66,7 @@ module _ {S D C : Type 0} where
     concluded_id : (machine : MachineState S D C) (number : ℕ) (called : Called S D C) (reason : Option ℕ)
         → (concluded callbacks machine number called reason).1.id ≡ machine.id
     concluded_id machine number called None =
-        either_sees (λ (m : MachineState S D C). m.id) machine (has_numbers machine called.actions) _ _ refl refl
+        either_sees (λ (m : MachineState S D C). m.id) machine (has_numbers machine called) _ _ refl refl
     concluded_id machine number called (Some reason) = refl
 
     -- so does a transition
@@ -99,7 +99,7 @@ module _ {S D C : Type 0} where
     concluded_idle : (old machine : MachineState S D C) (number : ℕ) (called : Called S D C) (reason : Option ℕ)
         → IsUnready (unless_refused old (concluded callbacks machine number called reason))
     concluded_idle old machine number called None =
-        neither_idle old (has_numbers machine called.actions) _ _ (λ h. cc) (λ h. cc)
+        neither_idle old (has_numbers machine called) _ _ (λ h. cc) (λ h. cc)
     concluded_idle old machine number called (Some reason) = λ h. cc
 
     -- a transition answers so where there is no event

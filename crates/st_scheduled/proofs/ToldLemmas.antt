@@ -43,7 +43,7 @@ module _ {S D C : Type 0} where
   concluded_busy : (callbacks : Callbacks S D C) (machine : MachineState S D C) (number : ℕ) (called : Called S D C) (reason : Option ℕ)
       → (concluded callbacks machine number called reason).0 ≡ Ok Idle → ⊥
   concluded_busy callbacks machine number called None h =
-      either_busy (has_numbers machine called.actions) _ _ (λ same. cc) (λ same. cc) h
+      either_busy (has_numbers machine called) _ _ (λ same. cc) (λ same. cc) h
   concluded_busy callbacks machine number called (Some reason) h = cc
 
   -- on an event there is a transition

@@ -29,7 +29,7 @@ module _ {S D C : Type 0} where
   concluded_needs : (callbacks : Callbacks S D C) (machine : MachineState S D C) (number : ℕ) (called : Called S D C) (reason : Option ℕ)
       → Needs (concluded callbacks machine number called reason)
   concluded_needs callbacks machine number called None =
-      went_needs (has_numbers machine called.actions) (report_of machine number called) (with_settled (with_called machine called) number called) machine
+      went_needs (has_numbers machine called) (report_of machine number called) (with_settled (with_called machine called) number called) machine
   concluded_needs callbacks machine number called (Some reason) = refl
 
   -- where there is an event

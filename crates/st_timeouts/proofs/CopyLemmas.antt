@@ -1,16 +1,15 @@
 -- Where the time-outs are listed in order, each is found by its timer.
-use Rattle.std.proofs.Common.{◌≡◌, ℕ, zero, suc, ◌+◌, ◌<◌, Bool, true, false, List, [], ◌∷◌, ◌++◌, map, length, take, get_or, slice_index_or, refl, sym, ap, ◌∙◌, arith, if◌then◌else◌}
-use Rattle.std.specs.Prelude.{Option, Some, None, unwrap_or}
+use Rattle.std.proofs.Common.{◌≡◌, ℕ, zero, suc, ◌+◌, ◌<◌, Bool, true, false, List, [], ◌∷◌, ◌++◌, map, length, take, get_or, slice_index_or, refl, sym, ap, ◌∙◌, arith}
+use Rattle.std.specs.Prelude.{Some, None, unwrap_or}
 use Rattle.st_events.specs.declared.timer.Timer.{Timer}
 use Rattle.st_events.specs.Timers.{same_timer}
 use Rattle.st_events.proofs.ComparedLemmas.{timers_same, same_timer_self}
 use Rattle.st_timer_map.specs.Rows.{value_of}
 use Rattle.st_timeouts.specs.declared.due.Due.{Due}
 use Rattle.st_timeouts.specs.declared.entry.Entry.{Entry}
-use Rattle.st_timeouts.specs.declared.running.Running.{Running}
 use Rattle.st_timeouts.specs.Running.{running_of, OneEach}
 use Rattle.st_timeouts.specs.Timeouts.{all_of, shown}
-use Rattle.st_timeouts.specs.Entries.{running, listed_row, listed_of}
+use Rattle.st_timeouts.specs.Entries.{running, listed_of}
 use Rattle.st_timeouts.proofs.RowLemmas.{found_running}
 
 module _ {C : Type 0} where

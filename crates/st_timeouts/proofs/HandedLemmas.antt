@@ -1,4 +1,4 @@
--- What is due first, what stays where it is handed out, and what is due at once.
+-- What is due first, what stays where it is handed out or has another content, and what is due at once.
 use Rattle.std.proofs.Common.{◌≡◌, ℕ, ◌<◌, arith, Bool, true, false, not, ◌&&◌, nat_le, if◌then◌else◌, List, [], ◌∷◌, ◌++◌, map, refl, sym, ap, subst, ◌∙◌, length, suc}
 use Rattle.std.specs.Prelude.{Option, Some, None}
 use Rattle.std.specs.List.{filter}
@@ -12,14 +12,14 @@ use Rattle.st_timeouts.specs.declared.due.Due.{Due}
 use Rattle.st_timeouts.specs.declared.due.Due.TheVariants.{Zero, At}
 use Rattle.st_timeouts.specs.declared.key.Key.{Key}
 use Rattle.st_timeouts.specs.declared.running.Running.{Running}
-use Rattle.st_timeouts.specs.Running.{is_zero, is_due_by, moment_of, runs_for, first_zero_of, without_running, in_order}
+use Rattle.st_timeouts.specs.Running.{is_zero, is_due_by, moment_of, runs_for, first_zero_of, without_running, with_content, in_order}
 use Rattle.st_timeouts.specs.Timeouts.{Listed, Timeouts, all_of, name_of, expiring, first_of, with_expired, with_first_expired, next_due_of}
 use Rattle.st_timeouts.specs.Keys.{ordered, NoneBefore, InOrder, key_of, keys_of}
 use Rattle.st_timeouts.specs.Order.{has_come, is_other, OnceEach, first_key, other_keys}
 use Rattle.st_timeouts.specs.Waiting.{waits, waiting_of, due_keys, zeros_of}
 use Rattle.st_timeouts.proofs.DueLemmas.{ordered_filter, ordered_is, keys_in_order}
 use Rattle.st_timeouts.proofs.FallingLemmas.{come_later, other_filter}
-use Rattle.st_timeouts.proofs.OrderLemmas.{all_of_with_expired}
+use Rattle.st_timeouts.proofs.OrderLemmas.{all_of_with_expired, updated_listed, all_of_updated}
 use Rattle.st_timeouts.proofs.WaitingLemmas.{key_name, keys_without}
 
 -- ---- of keys in order the first that has come is the first
@@ -171,6 +171,49 @@ module _ {C : Type 0} where
 
   pub zeros_expired : (timer : Timer) (listed : List (Listed C)) → zeros_of (with_expired timer listed) ≡ zeros_of listed
   zeros_expired timer listed = ap (λ t. map name_of (filter (λ (one : Running C). is_zero one.due) t)) (all_of_with_expired timer listed)
+
+  -- ---- another content, which no key and no name tells of
+  keys_if : (w : Bool) (one other : Listed C) (rest others : List (Listed C)) → key_of one.running ≡ key_of other.running → keys_of (all_of rest) ≡ keys_of (all_of others)
+      → keys_of (all_of (if w then one ∷ rest else rest)) ≡ keys_of (all_of (if w then other ∷ others else others))
+  keys_if true one other rest others e h = ap (λ k. k ∷ keys_of (all_of rest)) e ∙ ap (λ t. key_of other.running ∷ t) h
+  keys_if false one other rest others e h = h
+
+  keys_by : (b : Bool) (content : C) (one : Listed C) (rest listed : List (Listed C)) → keys_of (waiting_of rest) ≡ keys_of (waiting_of listed)
+      → keys_of (waiting_of ((if b then record one { running = record one.running { content = content } } else one) ∷ rest)) ≡ keys_of (waiting_of (one ∷ listed))
+  keys_by true content one rest listed h =
+      keys_if (waits one) (record one { running = record one.running { content = content } }) one (filter waits rest) (filter waits listed) refl h
+  keys_by false content one rest listed h = keys_if (waits one) one one (filter waits rest) (filter waits listed) refl h
+
+  keys_updated : (timer : Timer) (content : C) (listed : List (Listed C)) → keys_of (waiting_of (updated_listed timer content listed)) ≡ keys_of (waiting_of listed)
+  keys_updated timer content [] = refl
+  keys_updated timer content (one ∷ listed) = keys_by (runs_for timer one.running) content one (updated_listed timer content listed) listed (keys_updated timer content listed)
+
+  pub due_keys_updated : (timer : Timer) (content : C) (listed : List (Listed C)) → due_keys (updated_listed timer content listed) ≡ due_keys listed
+  due_keys_updated timer content listed = ap ordered (keys_updated timer content listed)
+
+  names_if : (z : Bool) (one other : Running C) (rest others : List (Running C)) → name_of one ≡ name_of other → map name_of rest ≡ map name_of others
+      → map name_of (if z then one ∷ rest else rest) ≡ map name_of (if z then other ∷ others else others)
+  names_if true one other rest others e h = ap (λ n. n ∷ map name_of rest) e ∙ ap (λ t. name_of other ∷ t) h
+  names_if false one other rest others e h = h
+
+  names_by : (b : Bool) (content : C) (one : Running C) (rest running : List (Running C))
+      → map name_of (filter (λ (one : Running C). is_zero one.due) rest) ≡ map name_of (filter (λ (one : Running C). is_zero one.due) running)
+      → map name_of (filter (λ (one : Running C). is_zero one.due) (if b then (record one { content = content }) ∷ rest else one ∷ rest))
+      ≡ map name_of (filter (λ (one : Running C). is_zero one.due) (one ∷ running))
+  names_by true content one rest running h =
+      names_if (is_zero one.due) (record one { content = content }) one (filter (λ (one : Running C). is_zero one.due) rest) (filter (λ (one : Running C). is_zero one.due) running) refl h
+  names_by false content one rest running h =
+      names_if (is_zero one.due) one one (filter (λ (one : Running C). is_zero one.due) rest) (filter (λ (one : Running C). is_zero one.due) running) refl h
+
+  zeros_with_content : (timer : Timer) (content : C) (running : List (Running C))
+      → map name_of (filter (λ (one : Running C). is_zero one.due) (with_content timer content running)) ≡ map name_of (filter (λ (one : Running C). is_zero one.due) running)
+  zeros_with_content timer content [] = refl
+  zeros_with_content timer content (one ∷ running) =
+      names_by (runs_for timer one) content one (with_content timer content running) running (zeros_with_content timer content running)
+
+  pub zeros_updated : (timer : Timer) (content : C) (listed : List (Listed C)) → zeros_of (updated_listed timer content listed) ≡ zeros_of listed
+  zeros_updated timer content listed =
+      ap (λ t. map name_of (filter (λ (one : Running C). is_zero one.due) t)) (all_of_updated timer content listed) ∙ zeros_with_content timer content (all_of listed)
 
   -- ---- what is due at once
   first_by : (b : Bool) (one : Running C) (rest : List (Running C)) (found : Option (Running C)) → option_map name_of found ≡ first_of (map name_of rest)

@@ -6,19 +6,20 @@ use Rattle.std.specs.Option.{option_map}
 use Rattle.std.proofs.lemmas.List.{map-append}
 use Rattle.st_events.specs.declared.timer.Timer.{Timer}
 use Rattle.st_events.specs.Timers.{same_timer}
-use Rattle.st_events.proofs.ComparedLemmas.{timers_same}
-use Rattle.st_timer_map.specs.Rows.{Rows, value_of, without_timer, with_put, with_marked}
+use Rattle.st_events.proofs.ComparedLemmas.{timers_same, no_first}
+use Rattle.st_timer_map.specs.Rows.{Rows, value_of, without_timer, with_put}
 use Rattle.st_timeouts.specs.declared.entry.Entry.{Entry}
 use Rattle.st_timeouts.specs.declared.key.Key.{Key}
 use Rattle.st_timeouts.specs.declared.due.Due.{Due}
 use Rattle.st_timeouts.specs.declared.due.Due.TheVariants.{At}
 use Rattle.st_timeouts.specs.declared.running.Running.{Running}
-use Rattle.st_timeouts.specs.Running.{is_zero, moment_of, runs_for, running_of, OneEach}
+use Rattle.st_timeouts.specs.Running.{is_zero, moment_of, running_of, OneEach}
 use Rattle.st_timeouts.specs.Timeouts.{Listed, all_of, name_of, shown, without_listed, content_of, runs, with_expired, live}
 use Rattle.st_timeouts.specs.Order.{NoneElse}
 use Rattle.st_timeouts.specs.Keys.{before, put_key, put_late, ordered, key_at, key_of, keys_of}
 use Rattle.st_timeouts.specs.Waiting.{waits, waiting_of, due_keys, zeros_of}
 use Rattle.st_timeouts.specs.Entries.{running, listed_row, listed_of}
+use Rattle.st_timeouts.proofs.OrderLemmas.{updated_listed}
 use Rattle.st_timeouts.proofs.WaitingLemmas.{listed_for, due_keys_still, none_else_due}
 use Rattle.st_timeouts.proofs.ZerosLemmas.{zeros_still}
 
@@ -142,6 +143,44 @@ module _ {C : Type 0} where
       ≡ with_expired timer (listed_of rows)
   listed_marked timer [] = refl
   listed_marked timer (row ∷ rows) = rw (marked_by (same_timer timer row.0) row) (ap (λ t. (record (listed_row row) { expired = if same_timer timer row.0 then true else row.1.expired }) ∷ t) (listed_marked timer rows))
+
+  -- ---- a timer's entry is replaced by one that differs in its content
+  -- with this entry for a timer that is there
+  abbrev pub with_entry : Timer → Entry C → List (Timer × Entry C) → List (Timer × Entry C)
+  with_entry timer entry rows = map (λ (row : Timer × Entry C). (row.0, if same_timer timer row.0 then entry else row.1)) rows
+
+  -- where the timer is not there, nothing is replaced
+  replaced_none : (timer : Timer) (content : C) (entry : Entry C) (rows : List (Timer × Entry C)) → value_of timer rows ≡ None
+      → listed_of (with_entry timer entry rows) ≡ updated_listed timer content (listed_of rows)
+  replaced_none timer content entry [] h = refl
+  replaced_none timer content entry (row ∷ rows) h =
+      let parts = no_first (same_timer timer row.0) row.1 (value_of timer rows) h in
+      rw parts.0 (ap (λ t. listed_row row ∷ t) (replaced_none timer content entry rows parts.1))
+
+  none_by : (timer : Timer) (value : Option (Entry C)) → option_map (running timer) value ≡ None → value ≡ None
+  none_by timer None h = refl
+  none_by timer (Some entry) h = cc
+
+  no_value : (timer : Timer) (rows : List (Timer × Entry C)) → running_of timer (all_of (listed_of rows)) ≡ None → value_of timer rows ≡ None
+  no_value timer rows h = none_by timer (value_of timer rows) (sym (running_row timer rows) ∙ h)
+
+  replaced_by : (b : Bool) (timer : Timer) (content : C) (entry : Entry C) (row : Timer × Entry C) (rows : List (Timer × Entry C)) → same_timer timer row.0 ≡ b
+      → running_of row.0 (all_of (listed_of rows)) ≡ None → (if b then Some row.1 else value_of timer rows) ≡ Some entry
+      → (value_of timer rows ≡ Some entry → listed_of (with_entry timer (record entry { content = content }) rows) ≡ updated_listed timer content (listed_of rows))
+      → listed_of (with_entry timer (record entry { content = content }) (row ∷ rows)) ≡ updated_listed timer content (listed_of (row ∷ rows))
+  replaced_by true timer content entry row rows e none found h =
+      let its : row.1 ≡ entry = cc in
+      let absent : value_of timer rows ≡ None = no_value timer rows (subst (λ (t : Timer). running_of t (all_of (listed_of rows)) ≡ None) (sym (timers_same timer row.0 e)) none) in
+      subst (λ (it : Entry C). listed_of (with_entry timer (record it { content = content }) (row ∷ rows)) ≡ updated_listed timer content (listed_of (row ∷ rows))) its
+      (rw e (ap (λ t. listed_row (row.0, record (row.1) { content = content }) ∷ t) (replaced_none timer content (record (row.1) { content = content }) rows absent)))
+  replaced_by false timer content entry row rows e none found h = rw e (ap (λ t. listed_row row ∷ t) (h found))
+
+  -- the others are listed as before, and the timer's with its new content
+  pub listed_updated : (timer : Timer) (content : C) (entry : Entry C) (rows : List (Timer × Entry C)) → OneEach (all_of (listed_of rows)) → value_of timer rows ≡ Some entry
+      → listed_of (with_entry timer (record entry { content = content }) rows) ≡ updated_listed timer content (listed_of rows)
+  listed_updated timer content entry [] each found = cc
+  listed_updated timer content entry (row ∷ rows) each found =
+      replaced_by (same_timer timer row.0) timer content entry row rows refl each.0 found (λ found. listed_updated timer content entry rows each.1 found)
 
   -- ---- the entries as they are listed
   pub rows_shown : (rows : List (Timer × Entry C)) → map (λ (row : Timer × Entry C). (row.0, row.1.number, row.1.due)) rows ≡ map shown (listed_of rows)

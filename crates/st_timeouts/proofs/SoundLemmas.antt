@@ -1,21 +1,21 @@
--- What is kept is sound after a time-out was set, stopped or handed out.
-use Rattle.std.proofs.Common.{◌≡◌, ℕ, ◌+◌, ◌<◌, ◌≤◌, Bool, true, false, if◌then◌else◌, List, [], ◌∷◌, ◌++◌, map, refl, sym, ap, ◌∙◌, arith, length, length-append, ◌⊎◌}
+-- What is kept is sound after a time-out was set, stopped, handed out or updated.
+use Rattle.std.proofs.Common.{◌≡◌, ℕ, ◌+◌, ◌<◌, ◌≤◌, Bool, true, false, if◌then◌else◌, List, [], ◌∷◌, ◌++◌, refl, sym, ap, ◌∙◌, arith, length, length-append, ◌⊎◌}
 use Rattle.std.specs.Prelude.{Some}
 use Rattle.st_events.specs.declared.timer.Timer.{Timer}
 use Rattle.st_events.specs.Timers.{same_timer}
-use Rattle.st_timer_map.specs.Rows.{Rows, without_timer, with_put, with_removed, with_marked}
+use Rattle.st_timer_map.specs.Rows.{Rows, value_of, without_timer, with_put, with_removed, with_marked}
 use Rattle.st_timeouts.specs.declared.entry.Entry.{Entry}
 use Rattle.st_timeouts.specs.declared.key.Key.{Key}
 use Rattle.st_timeouts.specs.Entries.{running, listed_row, listed_of, IsSound}
 use Rattle.st_timeouts.specs.Keys.{put_late, key_of}
 use Rattle.st_timeouts.specs.Order.{Order, with_key, first_key, other_keys}
 use Rattle.st_timeouts.specs.Running.{is_zero}
-use Rattle.st_timeouts.specs.Timeouts.{Listed, runs, without_listed}
+use Rattle.st_timeouts.specs.Timeouts.{Listed, all_of, runs, without_listed}
 use Rattle.st_timeouts.specs.Waiting.{waits, due_keys, zeros_of}
 use Rattle.st_timeouts.specs.Zeros.{Zeros, with_zero}
-use Rattle.st_timeouts.proofs.HandedLemmas.{zeros_put, zeros_same, others_are, due_keys_expired, zeros_expired}
-use Rattle.st_timeouts.proofs.RowLemmas.{length_late, length_map, listed_put, listed_without, listed_marked, fits_put, fits_place, fewer_rows, zeros_at_most, keys_at_most}
-use Rattle.st_timeouts.proofs.OrderLemmas.{one_each_without, one_each_set, all_of_with_expired}
+use Rattle.st_timeouts.proofs.HandedLemmas.{zeros_put, zeros_same, others_are, due_keys_expired, zeros_expired, due_keys_updated, zeros_updated}
+use Rattle.st_timeouts.proofs.RowLemmas.{length_late, length_map, listed_put, listed_without, listed_marked, listed_updated, fits_put, fits_place, fewer_rows, zeros_at_most, keys_at_most}
+use Rattle.st_timeouts.proofs.OrderLemmas.{one_each_without, one_each_set, all_of_with_expired, all_of_updated, one_each_with_content}
 use Rattle.st_timeouts.proofs.WaitingLemmas.{due_keys_more, due_keys_same, once_due}
 
 zeros_places : (z : Bool) (zeros : Zeros) (timer : Timer) (number : ℕ) → 0 < zeros.reserved
@@ -96,6 +96,21 @@ module _ {C : Type 0} where
         keys_are = k ∙ ap due_keys (sym fewer);
         zeros_fit = omega (arith, sound.zeros_fit, zp, less);
         keys_fit = omega (arith, sound.keys_fit, kp, less);
+      }
+
+  -- another content leaves all that waits where it is
+  pub sound_updated : (kept : Rows (Entry C)) (timer : Timer) (content : C) (entry : Entry C) (zeros : Zeros) (order : Order) → IsSound kept zeros order
+      → value_of timer kept.rows ≡ Some entry → IsSound (with_marked (λ (old : Entry C). record entry { content = content }) kept timer) zeros order
+  sound_updated kept timer content entry zeros order sound found =
+      let listed = listed_of kept.rows in
+      let updated = listed_updated timer content entry kept.rows sound.one_each found in
+      let as_many = length_map {Y = Timer × Entry C} (λ (row : Timer × Entry C). (row.0, if same_timer timer row.0 then (record entry { content = content }) else row.1)) kept.rows in
+      record {
+        one_each = rw (updated, all_of_updated timer content listed) (one_each_with_content timer content (all_of listed) sound.one_each);
+        zeros_are = sound.zeros_are ∙ (sym (zeros_updated timer content listed) ∙ ap zeros_of (sym updated));
+        keys_are = sound.keys_are ∙ (sym (due_keys_updated timer content listed) ∙ ap due_keys (sym updated));
+        zeros_fit = omega (arith, sound.zeros_fit, as_many);
+        keys_fit = omega (arith, sound.keys_fit, as_many);
       }
 
   pub sound_handed : (kept : Rows (Entry C)) (zeros : Zeros) (order order1 : Order) (key : Key) → IsSound kept zeros order → first_key order.keys ≡ Some key

@@ -1,5 +1,5 @@
 -- The time-outs as they are kept, read as those that are listed.
-use Rattle.std.specs.Prelude.{◌≡◌, ℕ, ◌+◌, ◌≤◌, List, map, length}
+use Rattle.std.specs.Prelude.{◌≡◌, ◌+◌, ◌≤◌, List, map, length}
 use Rattle.st_events.specs.declared.timer.Timer.{Timer}
 use Rattle.st_timer_map.specs.Rows.{Rows}
 use Rattle.st_timeouts.specs.declared.entry.Entry.{Entry}

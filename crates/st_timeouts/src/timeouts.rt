@@ -1,11 +1,11 @@
 //! The running time-outs: in the order in which they were set, and those that wait in the order in which they are due.
-ghost use Rattle.std.specs.Prelude.{◌≡◌, ◌+◌, ◌<◌, ◌≤◌, ◌^◌, ◌⊎◌, true, [], length, map, max, is_some, option_copied, if◌then◌else◌, IsOk, IfOk, OnOk, OnErr};
+ghost use Rattle.std.specs.Prelude.{◌≡◌, ◌+◌, ◌<◌, ◌≤◌, ◌^◌, ◌⊎◌, true, Some, [], length, map, max, is_some, option_copied, if◌then◌else◌, IsOk, IfOk, OnOk, OnErr};
 ghost use Rattle.std.specs.Option.{option_map};
 ghost use Rattle.st_timeouts.specs.Entries.{listed_of};
 ghost use Rattle.st_timeouts.specs.Keys.{key_at};
 ghost use Rattle.st_timeouts.specs.Order.{with_key};
 ghost use Rattle.st_timeouts.specs.Running.{is_zero, first_zero_of, moment_of, due_after, in_order, OneEach};
-ghost use Rattle.st_timeouts.specs.Timeouts.{all_of, name_of, shown, begun, content_of, runs, with_set, with_cancelled, without_listed, expiring, first_of, with_expired, with_first_expired, next_due_of, live, with_taken};
+ghost use Rattle.st_timeouts.specs.Timeouts.{all_of, name_of, shown, begun, content_of, runs, with_set, with_cancelled, with_updated, without_listed, expiring, first_of, with_expired, with_first_expired, next_due_of, live, with_taken};
 ghost use Rattle.st_timeouts.specs.Waiting.{waiting_of, due_keys, zeros_of};
 ghost use Rattle.st_timeouts.specs.Zeros.{with_zero};
 
@@ -144,6 +144,15 @@ impl<C> Timeouts<C> {
         self.content(timer, number).is_some()
     }
 
+    /// Says whether a timer runs.
+    ///
+    /// Manual: `timeout_update_action()`, on a time-out that does not run.
+    pub fn runs(&self, timer: Timer) -> bool
+        ensures { result ≡ runs timer self.now.listed }
+    {
+        self.entries.get(timer).is_some()
+    }
+
     /// The running time-outs in the order in which they were set: timer, number of the event, and when it is
     /// due. Where memory is wanted and there is none, nothing is listed.
     ///
@@ -221,6 +230,30 @@ impl<C: Drop> Timeouts<C> {
     {
         forget(&self.entries, &mut self.zeros, &mut self.order, timer);
         content_in(self.entries.remove(timer))
+    }
+
+    /// Gives the time-out of a timer that runs another content, and hands the old one out. Its number, the moment at
+    /// which it is due, its place, and whether its expiry was handed out stay. It takes no memory.
+    ///
+    /// Manual: `timeout_update_action()`.
+    pub fn update(&mut self, timer: Timer, content: C) -> C
+        requires { runs timer self.old.listed ≡ true }
+        ensures returned { Some result ≡ content_of timer self.old.listed }
+        ensures updated { self.new ≡ with_updated self.old timer content }
+    {
+        let Some(entry) = self.entries.get(timer) else {
+            unreachable!()
+        };
+        let entry = Entry {
+            number: entry.number,
+            due: entry.due,
+            content,
+            expired: entry.expired,
+        };
+        match content_in(self.entries.replace(timer, entry)) {
+            Some(old) => old,
+            None => unreachable!(),
+        }
     }
 
     /// Takes the time-out of a timer whose event has this number out, if it runs, and hands its content

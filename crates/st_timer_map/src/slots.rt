@@ -16,6 +16,7 @@ use crate::slot::Slot;
 use st_events::Timer;
 use std::alloc::{AllocError, Global};
 use std::collections::HashMap;
+use std::mem::replace;
 
 /// With room for no more slots than these, names are found by a walk over the slots.
 const WALKED: usize = 16;
@@ -239,6 +240,24 @@ pub(crate) fn mark_at<V: Kept>(slots: &mut Vec<Option<Slot<V>>>, place: Option<u
         if let Some(slot) = &mut slots[place] {
             slot.value.mark();
         }
+    }
+}
+
+/// Puts a value in the place of another, which comes back. A hole stays one.
+pub(crate) fn replace_at<V: Drop>(
+    slots: &mut Vec<Option<Slot<V>>>,
+    place: Option<usize>,
+    value: V,
+) -> Option<V>
+    requires { IfSome place (λ place. place < vec_len slots.old) }
+    ensures returned { result ≡ value_in (slot_at slots.old.items place) }
+    ensures items { slots.new.items ≡ marked_at (λ old. value) slots.old.items place }
+    ensures capacity { vec_capacity slots.new ≡ vec_capacity slots.old }
+{
+    let place = place?;
+    match &mut slots[place] {
+        Some(slot) => Some(replace(&mut slot.value, value)),
+        None => None,
     }
 }
 

@@ -6,7 +6,8 @@ use crate::Kept;
 use crate::index::Index;
 use crate::slot::Slot;
 use crate::slots::{
-    list_rows, make_room, mark_at, place_of, put_last, reserve_places, room_for, slot_at, take_out,
+    list_rows, make_room, mark_at, place_of, put_last, replace_at, reserve_places, room_for,
+    slot_at, take_out,
 };
 use st_events::Timer;
 use std::alloc::{AllocError, Global};
@@ -114,6 +115,16 @@ impl<V: Drop> TimerMap<V> {
             self.live += 1;
         }
         old
+    }
+
+    /// Gives a timer another value in its place, if it has one; the old one comes back. The order stays. It takes a few
+    /// steps.
+    pub fn replace(&mut self, timer: Timer, value: V) -> Option<V>
+        ensures returned { result ≡ value_of timer self.old.rows }
+        ensures replaced { self.new ≡ with_marked (λ old. value) self.old timer }
+    {
+        let place = place_of(&self.index, &self.slots, timer);
+        replace_at(&mut self.slots, place, value)
     }
 
     /// Takes the value of a timer out, if it has one, and hands it over. The others keep their order. It takes a few

@@ -5,7 +5,8 @@ use Rattle.st_events.specs.declared.kind.Kind.{Kind}
 use Rattle.st_events.specs.declared.kind.Kind.TheVariants as kind
 use Rattle.st_events.specs.declared.machine_id.MachineId.{MachineId}
 use Rattle.st_events.specs.declared.tag.Tag.{Tag}
-use Rattle.st_events.specs.declared.time.Time.{Time}
+use Rattle.st_events.specs.declared.decision.Decision.{Decision}
+use Rattle.st_events.specs.declared.decision.Decision.TheVariants as decision
 use Rattle.st_events.specs.declared.time.Time.TheVariants.{After}
 use Rattle.st_events.specs.declared.timer.Timer.{Timer}
 use Rattle.st_events.specs.declared.timer.Timer.TheVariants as timer
@@ -43,16 +44,16 @@ abbrev posts : ℕ → Entry → ℕ → JournalEntry Bool ℕ
 posts place how number = record { number = place; port = Some 1; command = command.Post how 7; answer = answer.Post (Ok number) }
 
 -- the event time-out is set
-abbrev event_timer : List (Timer × Time)
-event_timer = (timer.Event, After 30000) ∷ []
+abbrev event_timer : List (Timer × Decision)
+event_timer = (timer.Event, decision.Set (After 30000)) ∷ []
 
 -- the state time-out is set
-abbrev state_timer : List (Timer × Time)
-state_timer = (timer.State, After 10000) ∷ []
+abbrev state_timer : List (Timer × Decision)
+state_timer = (timer.State, decision.Set (After 10000)) ∷ []
 
 -- an entry of a turn at a moment, by its number: the event's number and kind, the states before and after it, how it ended, and
 -- the timers that it set
-abbrev turns : ℕ → ℕ → ℕ → Kind → Bool → Bool → Done → List (Timer × Time) → JournalEntry Bool ℕ
+abbrev turns : ℕ → ℕ → ℕ → Kind → Bool → Bool → Done → List (Timer × Decision) → JournalEntry Bool ℕ
 turns place now number kind before after done set = record {
   number = place;
   port = None;

@@ -2,7 +2,7 @@
 use super::few::Few;
 use super::row::More;
 use super::shown::Did;
-use st_core::{Call, Done, Kind, Reason, Tag, Time, Timer};
+use st_core::{Call, Decision, Done, Kind, Reason, Tag, Timer};
 
 /// A turn handles the event of this number and kind in a state, finishes it, and leads to a state.
 pub fn handled(number: u64, kind: Kind, before: u32, after: u32) -> Did {
@@ -54,7 +54,9 @@ impl Did {
             More::Ends(reason, word) => self.ended(reason, word),
             More::PutsOff => self.put_off(),
             More::Inserts(number) => self.inserting(number),
-            More::Sets(timer, time) => self.setting(timer, time),
+            More::Sets(timer, time) => self.asking(timer, Decision::Set(time)),
+            More::Cancels(timer) => self.asking(timer, Decision::Cancel),
+            More::Updates(timer) => self.asking(timer, Decision::Update),
             More::Replies(tag) => self.replying(tag),
         }
     }
@@ -104,10 +106,10 @@ impl Did {
         }
     }
 
-    /// A timer is set or stopped.
-    fn setting(self, timer: Timer, time: Time) -> Did {
+    /// Something is asked of a timer.
+    fn asking(self, timer: Timer, decision: Decision) -> Did {
         Did {
-            set: self.set.and((timer, time)),
+            set: self.set.and((timer, decision)),
             ..self
         }
     }

@@ -7,14 +7,14 @@ use super::seen::{Kept, Seen, keeps, sees};
 use super::shown::{Did, reports};
 use super::told::ID;
 use st_core::{
-    Core, Module, Refusal, Refused, Report, Start, Time, Timer, a_machine_is_lawful,
+    Core, Decision, Module, Refusal, Refused, Report, Start, Time, Timer, a_machine_is_lawful,
     a_run_is_accounted, a_run_keeps_machines_lawful, a_start_is_lawful,
 };
 use std::alloc::Global;
 use std::fmt::Debug;
 use std::process::Abort;
 
-/// How a machine starts, the numbers of the events that its `init` inserts, and the timers that it sets.
+/// How a machine starts, the numbers of the events that its `init` inserts, and what it asks of timers.
 /// The number of the first event may be left out, and then it is 1.
 #[derive(Drop)]
 pub struct Begin<M> {
@@ -23,7 +23,7 @@ pub struct Begin<M> {
     pub now: u64,
     pub first: Option<u64>,
     pub inserted: &'static [u64],
-    pub set: &'static [(Timer, Time)],
+    pub set: &'static [(Timer, Decision)],
 }
 
 /// Makes the call of a start.
@@ -104,6 +104,17 @@ pub fn running<M: Module<Arg = u32> + Copy + Eq + Debug>(
     got(rt, "a machine runs", into_running(start))
 }
 
+/// Says whether one of these, asked for by a start, makes a time-out that is due at once. Nothing runs yet, so an update
+/// does.
+fn comes_at_once(set: &[(Timer, Decision)]) -> bool {
+    for (_, decision) in set {
+        if matches!(decision, Decision::Update | Decision::Set(Time::After(0))) {
+            return true;
+        }
+    }
+    false
+}
+
 /// Looks that a machine has only started.
 fn has_begun<M: Module<State = u32, Data = u32, Content = u32>>(
     rt: &Host<impl Abort>,
@@ -111,7 +122,7 @@ fn has_begun<M: Module<State = u32, Data = u32, Content = u32>>(
     begin: &Begin<M>,
 ) {
     let wanted = Seen {
-        is_ready: !begin.inserted.is_empty(),
+        is_ready: !begin.inserted.is_empty() || comes_at_once(begin.set),
         state: core.state(),
         held: *core.data(),
         latest: begin.now,

@@ -18,7 +18,7 @@ use super::tested::play;
 use super::told::Told::{Cast, Tick, Turn};
 use st_core::Time::After;
 use st_core::Timer::Named;
-use st_core::{Due, Kind, Refusal, Timer};
+use st_core::{Decision, Due, Kind, Refusal, Timer};
 use std::alloc::Global;
 use std::process::Abort;
 
@@ -144,7 +144,10 @@ fn an_enter_call_is_handed_the_new_data(rt: HostRuntime) {
 #[test]
 fn the_actions_of_an_enter_call_follow_those_of_the_event(rt: HostRuntime) {
     let begin = Begin {
-        set: &[(Timer::State, After(20)), (Named(1), After(9))],
+        set: &[
+            (Timer::State, Decision::Set(After(20))),
+            (Named(1), Decision::Set(After(9))),
+        ],
         ..begin_as(62)
     };
     let rows = [

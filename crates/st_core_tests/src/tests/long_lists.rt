@@ -10,7 +10,7 @@ use super::told::Told::{Call, Collect};
 use super::told::{FIRST, SECOND, THIRD};
 use st_core::Time::After;
 use st_core::Timer::Named;
-use st_core::{Due, Kind, Timer};
+use st_core::{Decision, Due, Kind, Timer};
 
 /// A change of the state, and then the same event again, which is no change: its requests have their replies, it waits,
 /// and its timers are set anew.
@@ -117,7 +117,10 @@ fn a_start_asks_for_all_kinds(rt: HostRuntime) {
         arg: 9,
         now: 12,
         inserted: &[1, 2],
-        set: &[(Timer::State, After(10)), (Named(1), After(7))],
+        set: &[
+            (Timer::State, Decision::Set(After(10))),
+            (Named(1), Decision::Set(After(7))),
+        ],
         ..BEGIN
     };
     let rows = [
@@ -136,7 +139,10 @@ fn an_entered_start_asks_for_all_kinds(rt: HostRuntime) {
         arg: 9,
         now: 12,
         inserted: &[1, 2],
-        set: &[(Timer::State, After(20)), (Named(1), After(9))],
+        set: &[
+            (Timer::State, Decision::Set(After(20))),
+            (Named(1), Decision::Set(After(9))),
+        ],
         ..BEGIN
     };
     let end = Seen {

@@ -18,6 +18,10 @@ pub enum More {
     Inserts(u64),
     /// A timer is set or stopped.
     Sets(Timer, Time),
+    /// A timer is cancelled.
+    Cancels(Timer),
+    /// A timer is updated.
+    Updates(Timer),
     /// A request is answered.
     Replies(Tag),
 }

@@ -2,7 +2,7 @@
 use super::few::Few;
 use super::host::{Host, same};
 use st_core::{
-    Answer, Call, Calls, Collected, Done, Reason, Refusal, Report, Tag, Time, Timer, Turned,
+    Answer, Call, Calls, Collected, Decision, Done, Reason, Refusal, Report, Tag, Timer, Turned,
 };
 use std::alloc::AllocError;
 use std::process::Abort;
@@ -53,7 +53,7 @@ pub struct Did {
     pub after: u32,
     pub replied: Few<Tag>,
     pub inserted: Few<u64>,
-    pub set: Few<(Timer, Time)>,
+    pub set: Few<(Timer, Decision)>,
 }
 
 impl Clone for Did {

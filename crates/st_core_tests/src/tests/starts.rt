@@ -9,7 +9,7 @@ use super::table::Table;
 use super::table_machine::{BEGIN, at_rest};
 use super::tested::does;
 use super::told::Told::{Cast, Stop, Tick};
-use st_core::{Core, Due, Module, Reason, Refusal, Start, Time, Timer};
+use st_core::{Core, Decision, Due, Module, Reason, Refusal, Start, Time, Timer};
 use std::alloc::Global;
 use std::fmt::Debug;
 use std::process::Abort;
@@ -161,9 +161,9 @@ fn time_outs_of_a_start_need_numbers(rt: HostRuntime) {
         now: 12,
         first: Some(9_223_372_036_854_775_805),
         set: &[
-            (Timer::Named(1), Time::After(20)),
-            (Timer::Named(2), Time::After(10)),
-            (Timer::Named(3), Time::After(20)),
+            (Timer::Named(1), Decision::Set(Time::After(20))),
+            (Timer::Named(2), Decision::Set(Time::After(10))),
+            (Timer::Named(3), Decision::Set(Time::After(20))),
         ],
         ..BEGIN
     };

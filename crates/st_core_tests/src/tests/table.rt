@@ -5,7 +5,7 @@ ghost use Rattle.st_events.specs.declared.action.Action.TheVariants as action;
 ghost use Rattle.st_events.specs.declared.enter_action.EnterAction.TheVariants as enter_action;
 ghost use Rattle.st_events.specs.declared.time.Time.TheVariants as time;
 ghost use Rattle.st_events.specs.declared.timer.Timer.TheVariants as timer;
-ghost use Rattle.st_core_tests.specs.WorkedTable.{first_tag, second_tag, five_actions, actions_of_each_kind, five_replies, two_inserts, three_settings, handled_at_length, handled_by_replying, handled_by_entering, handled_by_setting, handled_anywhere, handled_at_first, handled_by_table, enters_by_table, entering_actions, five_enter_actions, enter_actions_of_each_kind, changed_by_table, entered_by_table, begun_by_table};
+ghost use Rattle.st_core_tests.specs.WorkedTable.{first_tag, second_tag, five_actions, actions_of_each_kind, five_replies, two_inserts, three_settings, handled_at_length, handled_by_updating, six_requests, handled_by_replying, handled_by_entering, handled_by_setting, handled_anywhere, handled_at_first, handled_by_table, enters_by_table, entering_actions, five_enter_actions, enter_actions_of_each_kind, changed_by_table, entered_by_table, begun_by_table};
 
 use st_core::{
     Action, Actions, EnterAction, EnterActions, EnterOutcome, Init, Kind, MachineId, Module,
@@ -81,6 +81,15 @@ const FOREIGN: Tag = Tag {
 /// | 40 | keeps both, with a reply of 53 to another machine's request |
 /// | 41 | leads to the state 1, with the nine actions below |
 /// | 42 | stops for the reason 9, with the five replies below |
+/// | 43 | keeps both, and updates the named timer 5 to the content 4 |
+/// | 44 | keeps both, sets the named timer 5 for 20, and then updates it to 4 |
+/// | 45 | keeps both, updates the named timer 5 to 4, and then sets it for 20 |
+/// | 46 | keeps both, and cancels the named timer 5 |
+/// | 47 | keeps both, and sets the named timer 5 for 10 |
+/// | 48 | keeps both, and updates the event time-out to 4 |
+/// | 49 | keeps both, and updates the state time-out to 4 |
+/// | 50 | leads to the state 1, and updates the state time-out to 4 |
+/// | 51 | keeps both, with the six requests to timers below |
 /// | other | keeps both |
 ///
 /// The contents of time-outs are 0, where no other is told.
@@ -88,6 +97,9 @@ const FOREIGN: Tag = Tag {
 /// The nine actions: the named timer 1 is set for 5, a reply of 54 to the second request, 20 is inserted as internal,
 /// `Postpone(true)`, a hibernation, the state time-out is set for 10, 21 is inserted as a cast, the named timer 1 is set
 /// for 7, and a reply of 55 to the first request.
+///
+/// The six requests: the named timer 1 is updated to 4, the named timer 5 is set for 20, the named timer 1 is cancelled,
+/// 0 is sent to another machine, the named timer 5 is updated to 3, and the state time-out is updated to 4.
 ///
 /// The five replies: 57 to the third request, 40 to the first, 58 to another machine's, 51 to the second, and 59 to the
 /// third.
@@ -103,6 +115,8 @@ const FOREIGN: Tag = Tag {
 /// | 7 | a machine, and sets the named timers 1, 2 and 3 for 20, 10 and 20 |
 /// | 8 | a machine, sets the named timer 1 for 0, and inserts 20 as internal and 21 as a cast |
 /// | 9 | a machine, with the nine actions above |
+/// | 10 | a machine, and updates the named timer 5 to 4 |
+/// | 11 | a machine, and sets the named timer 5 for 5, with the content 43 |
 /// | other | stops, and is the reason |
 ///
 /// The number tells one module from another. From 60 on a module has enter calls.
@@ -115,6 +129,8 @@ const FOREIGN: Tag = Tag {
 /// | 64 | gives the data 40 where it is handed 9, and else 41 |
 /// | 65 | keeps the data, with a reply of 62, where the old state is not the new one |
 /// | 66 | keeps the data, and, where the old state is not the new one, sets the named timer 2 for 3, replies 63 to the third request, hibernates, sets the state time-out for 20 and the named timer 2 for 9, and replies 64 to the first request |
+/// | 67 | keeps the data, and updates the named timer 5 to 4 where the old state is not the new one |
+/// | 68 | keeps the data, and cancels the named timer 5 where the old state is not the new one |
 /// | 70 | stops for the reason 4 |
 /// | 71 | stops for the reason 4, with a reply of 61 and the data 8, where the old state is not the new one |
 /// | 72 | stops for the reason 4 where the old state is not the new one |
@@ -228,8 +244,50 @@ fn handle_at_length(
     match content {
         41 => Ok(Outcome::NextState(1, held, of_each_kind(alloc)?)),
         42 => Ok(Outcome::StopAndReply(9, replies(alloc)?, None)),
-        _ => Ok(Outcome::KeepStateAndData(Actions::new(alloc))),
+        _ => handle_updating(alloc, content, held),
     }
+}
+
+/// Six requests to timers, of which of two for one timer the last decides, and a message.
+fn requests(alloc: Global) -> Result<Actions<u32>, AllocError>
+    ensures { IfOk result (λ actions. actions ≡ six_requests) }
+{
+    let actions = two(
+        alloc,
+        Action::Update(Timer::Named(1), 4),
+        set(Timer::Named(5), 20),
+    )?;
+    let actions = with(actions, Action::Cancel(Timer::Named(1)))?;
+    let actions = with(actions, Action::Send(FOREIGN.machine, 0))?;
+    let actions = with(actions, Action::Update(Timer::Named(5), 3))?;
+    with(actions, Action::Update(Timer::State, 4))
+}
+
+/// What `handle` answers to the contents that update and cancel.
+fn handle_updating(
+    alloc: Global,
+    content: u32,
+    held: u32,
+) -> Result<Outcome<u32, u32, u32>, AllocError>
+    ensures { IfOk result (λ outcome. outcome ≡ handled_by_updating content held) }
+{
+    let update = Action::Update(Timer::Named(5), 4);
+    let actions = match content {
+        43 => one(alloc, update)?,
+        44 => two(alloc, set(Timer::Named(5), 20), update)?,
+        45 => two(alloc, update, set(Timer::Named(5), 20))?,
+        46 => one(alloc, Action::Cancel(Timer::Named(5)))?,
+        47 => one(alloc, set(Timer::Named(5), 10))?,
+        48 => one(alloc, Action::Update(Timer::Event, 4))?,
+        49 => one(alloc, Action::Update(Timer::State, 4))?,
+        50 => {
+            let actions = one(alloc, Action::Update(Timer::State, 4))?;
+            return Ok(Outcome::NextState(1, held, actions));
+        }
+        51 => requests(alloc)?,
+        _ => Actions::new(alloc),
+    };
+    Ok(Outcome::KeepStateAndData(actions))
 }
 
 /// What `handle` answers to the contents that reply.
@@ -424,6 +482,14 @@ fn enter_changed(
         72 => Ok(EnterOutcome::Stop(4, None)),
         73 => Ok(EnterOutcome::StopAndReply(4, replies(alloc)?, Some(8))),
         66 => Ok(EnterOutcome::KeepStateAndData(entering_of_each_kind(alloc)?)),
+        67 => {
+            let actions = one(alloc, EnterAction::Update(Timer::Named(5), 4))?;
+            Ok(EnterOutcome::KeepStateAndData(actions))
+        }
+        68 => {
+            let actions = one(alloc, EnterAction::Cancel(Timer::Named(5)))?;
+            Ok(EnterOutcome::KeepStateAndData(actions))
+        }
         65 => {
             let actions = one(alloc, EnterAction::Reply(TAG, 62))?;
             Ok(EnterOutcome::KeepStateAndData(actions))
@@ -468,6 +534,14 @@ impl Module for Table {
                 Ok(Init::Ok(0, 7, with_inserts(alloc, first)?))
             },
             9 => Ok(Init::Ok(0, 7, of_each_kind(alloc)?)),
+            10 => {
+                let update = Action::Update(Timer::Named(5), 4);
+                Ok(Init::Ok(0, 7, one(alloc, update)?))
+            }
+            11 => {
+                let own = Action::Set(Timer::Named(5), Time::After(5), 43);
+                Ok(Init::Ok(0, 7, one(alloc, own)?))
+            }
             reason => Ok(Init::Stop(reason)),
         }
     }

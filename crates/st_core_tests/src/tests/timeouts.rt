@@ -9,7 +9,7 @@ use super::table_machine::{BEGIN, answers_are, at_end, at_rest, timers_are};
 use super::told::Told::{Cast, Stop, Tick, Turn};
 use st_core::Time::After;
 use st_core::Timer::Named;
-use st_core::{Due, Kind, Refusal, Time, Timer};
+use st_core::{Decision, Due, Kind, Refusal, Time, Timer};
 
 const NOT_AT_ALL: Time = Time::Infinity;
 
@@ -18,7 +18,7 @@ const AT_ONCE: Time = After(0);
 /// A machine whose `init` sets the named timer 5 for 5.
 const ONE_TIMER: Begin<Table> = Begin {
     arg: 5,
-    set: &[(Named(5), After(5))],
+    set: &[(Named(5), Decision::Set(After(5)))],
     ..BEGIN
 };
 
@@ -69,7 +69,7 @@ fn a_time_out_may_be_due_beyond_the_last_moment(rt: HostRuntime) {
     let begin = Begin {
         arg: 6,
         now: 9_223_372_036_854_775_807,
-        set: &[(Named(1), After(4_294_967_295))],
+        set: &[(Named(1), Decision::Set(After(4_294_967_295)))],
         ..BEGIN
     };
     let rows = [
@@ -92,9 +92,9 @@ fn time_outs_expire_by_moment_and_then_by_number(rt: HostRuntime) {
     let begin = Begin {
         arg: 7,
         set: &[
-            (Named(1), After(20)),
-            (Named(2), After(10)),
-            (Named(3), After(20)),
+            (Named(1), Decision::Set(After(20))),
+            (Named(2), Decision::Set(After(10))),
+            (Named(3), Decision::Set(After(20))),
         ],
         ..BEGIN
     };
@@ -113,9 +113,9 @@ fn time_outs_are_listed_in_the_order_of_their_requests(rt: HostRuntime) {
     let begin = Begin {
         arg: 7,
         set: &[
-            (Named(1), After(20)),
-            (Named(2), After(10)),
-            (Named(3), After(20)),
+            (Named(1), Decision::Set(After(20))),
+            (Named(2), Decision::Set(After(10))),
+            (Named(3), Decision::Set(After(20))),
         ],
         ..BEGIN
     };

@@ -8,7 +8,7 @@ use super::table_machine::{BEGIN, answers_are, at_rest, timers_are};
 use super::told::Told::{Cast, Tick, Turn};
 use st_core::Time::After;
 use st_core::Timer::Named;
-use st_core::{Due, Kind, Time, Timer};
+use st_core::{Decision, Due, Kind, Time, Timer};
 
 const AT_ONCE: Time = After(0);
 
@@ -161,7 +161,7 @@ fn inserted_events_of_a_start_come_before_its_zero_time_out(rt: HostRuntime) {
     let begin = Begin {
         arg: 8,
         inserted: &[1, 2],
-        set: &[(Named(1), AT_ONCE)],
+        set: &[(Named(1), Decision::Set(AT_ONCE))],
         ..BEGIN
     };
     let rows = [

@@ -1,8 +1,11 @@
 //! Tests of st_agenda: each call once with memory at hand, and all of them where one allocation is refused.
-ghost use Rattle.std.specs.Prelude.{◌≡◌, ◌+◌, ◌<◌, ◌≤◌};
+ghost use Rattle.std.specs.Prelude.{◌≡◌, ◌+◌, ◌<◌, ◌≤◌, length};
+ghost use Rattle.st_events.specs.Timers.{AskedOnce};
+ghost use Rattle.st_actions.specs.Plan.{inserts_of};
+ghost use Rattle.st_actions.specs.Taking.{all_settings_of};
 
 use super::host::{Host, got, holds, same};
-use st_actions::count;
+use st_actions::count_last;
 use st_agenda::{Agenda, Item, Schedule};
 use st_events::{Action, Actions, CopyContent, Event, Kind, PlainList, Time, Timer};
 use st_steps::Steps;
@@ -29,10 +32,21 @@ enum Call {
     Run(&'static [(Timer, u64, Due)]),
     /// The number that the next event gets, and when the next time-out expires.
     Next(u64, Option<u64>),
+    /// The updates among these settings would take so many numbers, where the state changes or not.
+    Updates(&'static [Asks], bool, u64),
+}
+
+/// What is asked of a timer: to be set for a time with the content of its event, to be stopped, or to have another
+/// content.
+#[derive(Clone, Copy)]
+enum Asks {
+    Set(Timer, Time, u64),
+    Cancel(Timer),
+    Update(Timer, u64),
 }
 
 /// How the next event, which has this number, is handled at a moment: it is postponed or not, the state changes or not,
-/// events of these contents are inserted and timers set.
+/// events of these contents are inserted, and this is asked of timers.
 #[derive(Clone, Copy)]
 struct Turn {
     now: u32,
@@ -40,7 +54,7 @@ struct Turn {
     postpone: bool,
     changed: bool,
     inserts: &'static [u64],
-    settings: &'static [(Timer, Time, u64)],
+    settings: &'static [Asks],
 }
 
 /// The event of this number is handled at the moment 0, and is finished, and nothing else comes of it.
@@ -115,10 +129,17 @@ fn unchanged(
     run(rt, agenda, running.as_slice());
 }
 
+/// Looks that the next number is low, as it is in a test.
+fn numbers_are_low(rt: &impl Abort, agenda: &Agenda<u64>)
+    ensures { agenda.now.schedule.next_number ≤ 1_000 }
+{
+    holds(rt, "the numbers are low", agenda.next_number() <= 1_000);
+}
+
 /// Posts a cast. Where memory was refused, nothing has changed, the content comes back, and it is
 /// posted again.
 fn push(rt: &Host<impl Abort>, agenda: &mut Agenda<u64>, content: u64, number: u64) {
-    holds(rt, "the numbers are low", agenda.next_number() < 1_000);
+    numbers_are_low(rt, agenda);
     let (before, running) = (readable(agenda), listed(rt, agenda));
     let mut pushed = agenda.push(Kind::Cast, content);
     if let Err(failed) = pushed {
@@ -149,24 +170,42 @@ fn reserve_for(rt: &Host<impl Abort>, agenda: &mut Agenda<u64>, inserts: usize, 
     got(rt, "one allocation alone is refused", reserved);
 }
 
-/// A list of actions: events of these contents are inserted, and timers set for a time, with the contents of their
-/// events.
-fn actions_of(
-    rt: &impl Abort,
-    alloc: Global,
-    contents: &[u64],
-    rows: &[(Timer, Time, u64)],
-) -> Actions<u64> {
+/// A list of actions: events of these contents are inserted, and this is asked of timers.
+fn actions_of(rt: &impl Abort, alloc: Global, contents: &[u64], settings: &[Asks]) -> Actions<u64> {
     let mut actions = Actions::new(alloc);
     for content in contents {
         let insert = Action::NextEvent(Kind::Internal, *content);
         got(rt, "a few take no memory", actions.push(insert));
     }
-    for (timer, time, content) in rows {
-        let set = Action::Set(*timer, *time, *content);
-        got(rt, "a few take no memory", actions.push(set));
+    for asks in settings {
+        let pushed = actions.push(action_of(*asks));
+        got(rt, "a few take no memory", pushed);
     }
     actions
+}
+
+/// The action that asks for it.
+fn action_of(asks: Asks) -> Action<u64> {
+    match asks {
+        Asks::Set(timer, time, content) => Action::Set(timer, time, content),
+        Asks::Cancel(timer) => Action::Cancel(timer),
+        Asks::Update(timer, content) => Action::Update(timer, content),
+    }
+}
+
+/// How many events a list of actions inserts, and how much it asks of timers, where the last of each is left.
+fn counted(rt: &impl Abort, alloc: Global, actions: &mut Actions<u64>) -> (usize, usize)
+    ensures inserts { result.0 ≡ length (inserts_of actions.new) }
+    ensures settings { result.1 ≡ length (all_settings_of actions.new) }
+    ensures once { AskedOnce (all_settings_of actions.new) }
+    ensures few_inserts { result.0 ≤ 100 }
+    ensures few_settings { result.1 ≤ 100 }
+{
+    let kept = count_last(alloc, actions);
+    let counts = got(rt, "a few take no memory", kept);
+    holds(rt, "there are few events", counts.inserts <= 100);
+    holds(rt, "there are few settings", counts.settings <= 100);
+    (counts.inserts, counts.settings)
 }
 
 /// The next event is handled.
@@ -176,18 +215,8 @@ fn settle(rt: &Host<impl Abort>, agenda: &mut Agenda<u64>, alloc: Global, turn: 
         panic!(rt; "an event comes next")
     };
     holds(rt, "it has this number", next == turn.number);
-    let counts = count(&actions);
-    let (inserts, settings) = (counts.inserts, counts.settings);
-    let first = agenda.next_number();
-    if inserts > 100 {
-        panic!(rt; "there are few events");
-    }
-    if counts.numbers > 1_000 {
-        panic!(rt; "they take few numbers");
-    }
-    if first > 1_000 {
-        panic!(rt; "the numbers are low");
-    }
+    numbers_are_low(rt, agenda);
+    let (inserts, settings) = counted(rt, alloc, &mut actions);
     reserve_for(rt, agenda, inserts, settings);
     agenda.settle(next, turn.postpone, turn.changed);
     agenda.insert(inserts, &mut actions);
@@ -239,6 +268,11 @@ fn make(rt: &Host<impl Abort>, agenda: &mut Agenda<u64>, alloc: Global, call: Ca
         Call::NothingComes => comes(rt, agenda, None, 0),
         Call::Run(wanted) => run(rt, agenda, wanted),
         Call::Next(number, due) => next(rt, agenda, number, due),
+        Call::Updates(settings, changed, wanted) => {
+            let actions = actions_of(rt, alloc, &[], settings);
+            let taken = agenda.numbers_of_updates(&actions, changed);
+            same(rt, "how many numbers updates take", &taken, &wanted);
+        }
     }
 }
 
@@ -262,7 +296,7 @@ fn events_come_in_their_order(rt: HostRuntime) {
         Call::Settle(Turn {
             postpone: true,
             inserts: &[30],
-            settings: &[(Timer::Named(1), Time::After(5), 40)],
+            settings: &[Asks::Set(Timer::Named(1), Time::After(5), 40)],
             ..FINISHED
         }),
         Call::Run(&[(Timer::Named(1), 4, Due::At(5))]),
@@ -311,8 +345,8 @@ fn a_zero_timeout_comes_before_what_was_not_received(rt: HostRuntime) {
         Call::Push(20, 2),
         Call::Settle(Turn {
             settings: &[
-                (Timer::State, Time::After(0), 30),
-                (Timer::Event, Time::After(0), 40),
+                Asks::Set(Timer::State, Time::After(0), 30),
+                Asks::Set(Timer::Event, Time::After(0), 40),
             ],
             ..FINISHED
         }),
@@ -332,26 +366,177 @@ fn a_zero_timeout_comes_before_what_was_not_received(rt: HostRuntime) {
     rt.end();
 }
 
-/// An expiry waits, and its time-out is stopped: it never comes, and nothing is left that a turn could
-/// handle.
+/// Expiries wait, and their time-outs are stopped, by a time without end and by a cancel: they never come, and nothing is
+/// left that a turn could handle.
 #[test]
 fn an_expiry_of_a_stopped_timer_is_passed_over(rt: HostRuntime) {
-    const CALLS: [Call; 7] = [
+    const CALLS: [Call; 8] = [
         Call::Push(10, 1),
         Call::Settle(Turn {
-            settings: &[(Timer::Named(5), Time::After(5), 30)],
+            settings: &[
+                Asks::Set(Timer::Named(5), Time::After(5), 30),
+                Asks::Set(Timer::Named(6), Time::After(5), 40),
+            ],
             ..FINISHED
         }),
-        Call::Push(20, 3),
-        Call::Tick(5, 1),
+        Call::Push(20, 4),
+        Call::Tick(5, 2),
         Call::Settle(Turn {
             now: 5,
-            number: 3,
-            settings: &[(Timer::Named(5), Time::Infinity, 0)],
+            number: 4,
+            settings: &[
+                Asks::Set(Timer::Named(5), Time::Infinity, 0),
+                Asks::Cancel(Timer::Named(6)),
+            ],
             ..FINISHED
         }),
         Call::NothingComes,
         Call::Run(&[]),
+        Call::Next(5, None),
+    ];
+    let rt = Host::new(rt);
+    let mut agenda = Agenda::new(rt.alloc(), 1);
+    make_all(&rt, &mut agenda, rt.alloc(), &CALLS);
+    rt.end();
+}
+
+/// A time-out is updated while it runs, and again while its expiry waits: it keeps its number, its moment and its place,
+/// and comes once, with the last content.
+#[test]
+fn an_update_leaves_all_else(rt: HostRuntime) {
+    const CALLS: [Call; 20] = [
+        Call::Push(10, 1),
+        Call::Settle(Turn {
+            settings: &[
+                Asks::Set(Timer::Named(1), Time::After(5), 30),
+                Asks::Set(Timer::Named(2), Time::After(9), 40),
+            ],
+            ..FINISHED
+        }),
+        Call::Push(20, 4),
+        Call::Push(60, 5),
+        Call::Settle(Turn {
+            now: 3,
+            number: 4,
+            settings: &[Asks::Update(Timer::Named(1), 50)],
+            ..FINISHED
+        }),
+        Call::Run(&[
+            (Timer::Named(1), 2, Due::At(5)),
+            (Timer::Named(2), 3, Due::At(9)),
+        ]),
+        Call::Next(6, Some(5)),
+        Call::Tick(5, 1),
+        Call::Comes(5, Kind::Cast, 60, 1),
+        Call::Settle(Turn {
+            now: 6,
+            number: 5,
+            settings: &[Asks::Update(Timer::Named(1), 70)],
+            ..FINISHED
+        }),
+        Call::Run(&[
+            (Timer::Named(1), 2, Due::At(5)),
+            (Timer::Named(2), 3, Due::At(9)),
+        ]),
+        Call::Next(6, Some(9)),
+        Call::Tick(8, 0),
+        Call::Comes(2, Kind::Timeout(Timer::Named(1)), 70, 0),
+        Call::Settle(Turn {
+            now: 8,
+            number: 2,
+            ..FINISHED
+        }),
+        Call::NothingComes,
+        Call::Run(&[(Timer::Named(2), 3, Due::At(9))]),
+        Call::Tick(9, 1),
+        Call::Comes(3, Kind::Timeout(Timer::Named(2)), 40, 0),
+        Call::Next(6, None),
+    ];
+    let rt = Host::new(rt);
+    let mut agenda = Agenda::new(rt.alloc(), 1);
+    make_all(&rt, &mut agenda, rt.alloc(), &CALLS);
+    rt.end();
+}
+
+/// An update of a timer that does not run begins a time-out of no length; so does one of the timer whose time-out is
+/// handled.
+#[test]
+fn an_update_of_a_stopped_timer_begins(rt: HostRuntime) {
+    const CALLS: [Call; 11] = [
+        Call::Push(10, 1),
+        Call::Settle(Turn {
+            settings: &[Asks::Update(Timer::Named(1), 30)],
+            ..FINISHED
+        }),
+        Call::Run(&[(Timer::Named(1), 2, Due::Zero)]),
+        Call::Next(3, None),
+        Call::Comes(2, Kind::Timeout(Timer::Named(1)), 30, 0),
+        Call::Settle(Turn {
+            number: 2,
+            settings: &[Asks::Update(Timer::Named(1), 40)],
+            ..FINISHED
+        }),
+        Call::Run(&[(Timer::Named(1), 3, Due::Zero)]),
+        Call::Comes(3, Kind::Timeout(Timer::Named(1)), 40, 0),
+        Call::Settle(Turn {
+            number: 3,
+            ..FINISHED
+        }),
+        Call::NothingComes,
+        Call::Next(4, None),
+    ];
+    let rt = Host::new(rt);
+    let mut agenda = Agenda::new(rt.alloc(), 1);
+    make_all(&rt, &mut agenda, rt.alloc(), &CALLS);
+    rt.end();
+}
+
+/// An update takes a number where its timer does not run when the settings come to be done: the event's never does then,
+/// nor the one whose event is handled, nor, at a state change, the state's.
+#[test]
+fn updates_take_numbers(rt: HostRuntime) {
+    const CALLS: [Call; 17] = [
+        Call::Push(10, 1),
+        Call::Settle(Turn {
+            settings: &[
+                Asks::Set(Timer::State, Time::After(9), 30),
+                Asks::Set(Timer::Event, Time::After(9), 40),
+                Asks::Set(Timer::Named(1), Time::After(5), 50),
+                Asks::Set(Timer::Named(2), Time::After(0), 60),
+            ],
+            ..FINISHED
+        }),
+        Call::Comes(5, Kind::Timeout(Timer::Named(2)), 60, 0),
+        Call::Updates(&[Asks::Update(Timer::Event, 0)], false, 1),
+        Call::Updates(&[Asks::Update(Timer::State, 0)], false, 0),
+        Call::Updates(&[Asks::Update(Timer::State, 0)], true, 1),
+        Call::Updates(&[Asks::Update(Timer::Named(1), 0)], true, 0),
+        Call::Updates(&[Asks::Update(Timer::Named(2), 0)], false, 1),
+        Call::Updates(
+            &[
+                Asks::Update(Timer::Named(2), 0),
+                Asks::Set(Timer::Named(3), Time::After(1), 0),
+                Asks::Cancel(Timer::Named(4)),
+                Asks::Update(Timer::Named(5), 0),
+            ],
+            false,
+            2,
+        ),
+        Call::Settle(Turn {
+            number: 5,
+            ..FINISHED
+        }),
+        Call::Push(70, 6),
+        Call::Tick(5, 1),
+        Call::Comes(6, Kind::Cast, 70, 1),
+        Call::Updates(&[Asks::Update(Timer::Named(1), 0)], false, 0),
+        Call::Settle(Turn {
+            now: 5,
+            number: 6,
+            ..FINISHED
+        }),
+        Call::Comes(4, Kind::Timeout(Timer::Named(1)), 50, 0),
+        Call::Updates(&[Asks::Update(Timer::Named(1), 0)], false, 1),
     ];
     let rt = Host::new(rt);
     let mut agenda = Agenda::new(rt.alloc(), 1);
@@ -379,20 +564,10 @@ fn reserve_one(rt: &Host<impl Abort>, agenda: &mut Agenda<u64>) {
 
 /// Inserts one event, and sets the state timer at the moment 3 for 10 milliseconds.
 fn begin(rt: &Host<impl Abort>, agenda: &mut Agenda<u64>, alloc: Global) {
-    let settings = [(Timer::State, Time::After(10), 40)];
+    let settings = [Asks::Set(Timer::State, Time::After(10), 40)];
     let mut actions = actions_of(rt, alloc, &[30], &settings);
-    let counts = count(&actions);
-    let (inserts, settings) = (counts.inserts, counts.settings);
-    let first = agenda.next_number();
-    if inserts > 100 {
-        panic!(rt; "there are few events");
-    }
-    if counts.numbers > 1_000 {
-        panic!(rt; "they take few numbers");
-    }
-    if first > 1_000 {
-        panic!(rt; "the numbers are low");
-    }
+    numbers_are_low(rt, agenda);
+    let (inserts, settings) = counted(rt, alloc, &mut actions);
     reserve_for(rt, agenda, inserts, settings);
     agenda.insert(inserts, &mut actions);
     agenda.set_all(3, &mut actions);
@@ -475,8 +650,8 @@ fn all_is_copied_and_stays(rt: HostRuntime) {
             postpone: true,
             inserts: &[30],
             settings: &[
-                (Timer::Named(1), Time::After(5), 40),
-                (Timer::Named(2), Time::After(5), 50),
+                Asks::Set(Timer::Named(1), Time::After(5), 40),
+                Asks::Set(Timer::Named(2), Time::After(5), 50),
             ],
             ..FINISHED
         }),
@@ -484,7 +659,7 @@ fn all_is_copied_and_stays(rt: HostRuntime) {
         Call::Settle(Turn {
             now: 5,
             number: 3,
-            settings: &[(Timer::Named(1), Time::Infinity, 0)],
+            settings: &[Asks::Set(Timer::Named(1), Time::Infinity, 0)],
             ..FINISHED
         }),
     ];

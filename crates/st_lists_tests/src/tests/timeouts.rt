@@ -5,8 +5,8 @@ mod call;
 mod seen;
 
 use super::host::{Host, holds, same};
-use call::Call::{Copy, List, Reserve, Set, Shows, Takes};
-use call::Shows::{Content, CountDue, FirstZero, IsLive, NextDue};
+use call::Call::{Copy, List, Reserve, Set, Shows, Takes, Update};
+use call::Shows::{Content, CountDue, FirstZero, IsLive, NextDue, Runs};
 use call::Takes::{Cancel, NextExpiry, Take, TakeDue};
 use call::{Call, row_answers, set};
 use st_events::Timer;
@@ -230,6 +230,61 @@ fn an_expiry_comes_once(rt: HostRuntime) {
             returned: Some('a'),
         },
         Takes(NextExpiry(20, Some((Timer::State, 2)))),
+    ];
+    let rt = Host::new(rt);
+    row_answers::<Brand>(&rt, rt.alloc(), Blank::new(1), &ROW);
+    rt.end();
+}
+
+#[test]
+fn another_content_leaves_all_else(rt: HostRuntime) {
+    const ROW: [Call; 21] = [
+        Set {
+            timer: Timer::Event,
+            time: 0,
+            content: 'a',
+            number: 1,
+            now: 5,
+            returned: None,
+        },
+        Set {
+            timer: Timer::State,
+            time: 10,
+            content: 'b',
+            number: 2,
+            now: 5,
+            returned: None,
+        },
+        Set {
+            timer: Timer::Named(7),
+            time: 20,
+            content: 'c',
+            number: 3,
+            now: 5,
+            returned: None,
+        },
+        Shows(Runs(Timer::State, true)),
+        Shows(Runs(Timer::Named(8), false)),
+        Takes(NextExpiry(15, Some((Timer::State, 2)))),
+        Update(Timer::Event, 'd', 'a'),
+        Update(Timer::State, 'e', 'b'),
+        Update(Timer::Named(7), 'f', 'c'),
+        Update(Timer::Named(7), 'g', 'f'),
+        List(&[
+            (Timer::Event, 1, Due::Zero),
+            (Timer::State, 2, Due::At(15)),
+            (Timer::Named(7), 3, Due::At(25)),
+        ]),
+        Shows(Content(Timer::Event, 1, Some('d'))),
+        Shows(Content(Timer::State, 2, Some('e'))),
+        Shows(Content(Timer::Named(7), 3, Some('g'))),
+        Shows(FirstZero(Some((Timer::Event, 1)))),
+        Takes(NextExpiry(15, None)),
+        Takes(NextExpiry(25, Some((Timer::Named(7), 3)))),
+        Takes(NextExpiry(25, None)),
+        Takes(Take(Timer::Event, 1, Some('d'))),
+        Takes(Cancel(Timer::State, Some('e'))),
+        Shows(Runs(Timer::State, false)),
     ];
     let rt = Host::new(rt);
     row_answers::<Brand>(&rt, rt.alloc(), Blank::new(1), &ROW);

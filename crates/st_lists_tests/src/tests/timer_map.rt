@@ -115,6 +115,18 @@ fn put_all(rt: &Host<impl Abort>, map: &mut TimerMap<Letter>, rows: &[(Timer, ch
     }
 }
 
+/// Replaces the letter of a timer, which is this one.
+fn replace(
+    rt: &impl Abort,
+    map: &mut TimerMap<Letter>,
+    timer: Timer,
+    new: char,
+    old: Option<char>,
+) {
+    let found = letter_of(map.replace(timer, plain(new)));
+    same(rt, "the letter that was there", &found, &old);
+}
+
 /// Takes the letter of a timer out, which is this one.
 fn remove(rt: &impl Abort, map: &mut TimerMap<Letter>, timer: Timer, letter: Option<char>) {
     let found = letter_of(map.remove(timer));
@@ -170,6 +182,47 @@ fn each_call_answers(rt: HostRuntime) {
     has_none(&rt, &map, Timer::Event);
     letters_come(&rt, &mut map);
     letters_leave(&rt, &mut map);
+    rt.end();
+}
+
+#[test]
+fn a_letter_is_replaced_in_its_place(rt: HostRuntime) {
+    let rt = Host::new(rt);
+    let mut map = TimerMap::new(rt.alloc());
+    letters_come(&rt, &mut map);
+    replace(&rt, &mut map, Timer::Named(9), 'f', None);
+    replace(&rt, &mut map, Timer::State, 'g', Some('b'));
+    replace(&rt, &mut map, Timer::Named(7), 'h', Some('c'));
+    replace(&rt, &mut map, Timer::Event, 'i', Some('e'));
+    let wanted = [
+        (Timer::State, 'g', false),
+        (Timer::Named(7), 'h', false),
+        (Timer::Named(8), 'd', false),
+        (Timer::Event, 'i', false),
+    ];
+    lists(&rt, &map, &wanted);
+    rt.end();
+}
+
+#[test]
+fn a_letter_is_replaced_among_many(rt: HostRuntime) {
+    let rt = Host::new(rt);
+    let mut map = TimerMap::new(rt.alloc());
+    for name in 0..20 {
+        put(&rt, &mut map, Timer::Named(name), 'a', None);
+    }
+    for name in 3..20 {
+        remove(&rt, &mut map, Timer::Named(name), Some('a'));
+    }
+    replace(&rt, &mut map, Timer::Named(19), 'b', None);
+    replace(&rt, &mut map, Timer::Named(0), 'c', Some('a'));
+    replace(&rt, &mut map, Timer::Named(1), 'd', Some('a'));
+    let wanted = [
+        (Timer::Named(0), 'c', false),
+        (Timer::Named(1), 'd', false),
+        (Timer::Named(2), 'a', false),
+    ];
+    lists(&rt, &map, &wanted);
     rt.end();
 }
 

@@ -1,6 +1,6 @@
 //! What a turn is to do.
 use super::shows::shows;
-use st_core::{Call, Done, Kind, Report, Tag, Time, Timer};
+use st_core::{Call, Decision, Done, Kind, Report, Tag, Timer};
 use std::process::Abort;
 
 /// The event that a turn is to handle: its number and its kind.
@@ -13,7 +13,7 @@ pub struct Did {
     pub done: Done,
     pub replied: &'static [Tag],
     pub inserted: &'static [u64],
-    pub set: &'static [(Timer, Time)],
+    pub set: &'static [(Timer, Decision)],
 }
 
 /// The event is finished, and nothing else is done.

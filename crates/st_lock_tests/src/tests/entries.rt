@@ -3,7 +3,7 @@ use super::begun::{REQUEST_1, TOKEN_1, TOKEN_8, just_begun};
 use super::did::{Did, FINISHED, PUT_OFF};
 use super::host::Host;
 use super::row::{Row, Sight};
-use st_core::{Entry, Kind, Time, Timer};
+use st_core::{Decision, Entry, Kind, Time, Timer};
 use st_lock::Next;
 
 /// There is work still.
@@ -79,7 +79,7 @@ fn two_ports_count_apart(rt: HostRuntime) {
 /// An event is inserted, and the state time-out is set.
 const ASKED: Did = Did {
     inserted: &[3],
-    set: &[(Timer::State, Time::After(5))],
+    set: &[(Timer::State, Decision::Set(Time::After(5)))],
     ..FINISHED
 };
 

@@ -4,14 +4,14 @@ use super::begun::{REQUEST_1, TOKEN_1, TOKEN_5, just_begun};
 use super::did::{Did, FINISHED};
 use super::host::Host;
 use super::row::{Row, Sight};
-use st_core::{Entry, Kind, Refusal, Time, Timer};
+use st_core::{Decision, Entry, Kind, Refusal, Time, Timer};
 use st_lock::Next;
 use std::alloc::Global;
 use std::process::Abort;
 
 /// The state time-out is set.
 const SET: Did = Did {
-    set: &[(Timer::State, Time::After(5))],
+    set: &[(Timer::State, Decision::Set(Time::After(5)))],
     ..FINISHED
 };
 

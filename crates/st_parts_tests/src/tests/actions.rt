@@ -1,11 +1,11 @@
 //! Tests of st_actions: what lists ask for, with memory and while an allocation is refused.
+mod counted;
 
 use super::host::{Host, got, holds, same};
-use st_actions::{
-    Counts, Planned, count, count_last, join, plan, plan_enter, take_insert, take_reply,
-    take_setting,
+use st_actions::{Planned, join, plan, plan_enter};
+use st_events::{
+    Action, Actions, Asked, Decision, EnterAction, EnterActions, Kind, MachineId, Tag, Time, Timer,
 };
-use st_events::{Action, Actions, EnterAction, EnterActions, Kind, MachineId, Tag, Time, Timer};
 use std::alloc::Global;
 use std::process::Abort;
 
@@ -15,6 +15,11 @@ fn tag(request: u64) -> Tag {
         machine: MachineId { slot: 2, serial: 5 },
         request,
     }
+}
+
+/// The machine in a slot.
+fn machine(slot: usize) -> MachineId {
+    MachineId { slot, serial: 1 }
 }
 
 /// Forty letters that set thirteen timers.
@@ -36,9 +41,10 @@ fn timer(letter: char) -> Timer {
 
 /// The action that a letter at a place of a list names: `r` and `s` reply 10 and 20 to the requests 1 and 2, `p` and `k`
 /// say that the event is postponed and that it is not, `i` and `t` insert 30 and 40, `1` and `2` set the
-/// named timers 1 and 2 for as many milliseconds, `9` sets the timer 1 for 9, `0` stops it, `e` and `x`
-/// set the event and the state time-out, a capital letter sets its timer for 4, with its place as the content, and every
-/// other hibernates.
+/// named timers 1 and 2 for as many milliseconds, `9` sets the timer 1 for 9, `0` stops it by its time, `e` and `x`
+/// set the event and the state time-out, `c` and `d` cancel the timer 1 and the state time-out, `u` and `v` update them
+/// to 110 and 120, `m` and `n` send 130 and 140 to the machines in the slots 4 and 6, a capital letter sets its timer for
+/// 4, with its place as the content, and every other hibernates.
 fn action(place: usize, letter: char) -> Action<u64> {
     match letter {
         'r' => Action::Reply(tag(1), 10),
@@ -53,6 +59,12 @@ fn action(place: usize, letter: char) -> Action<u64> {
         '0' => Action::Set(Timer::Named(1), Time::Infinity, 80),
         'e' => Action::Set(Timer::Event, Time::After(0), 90),
         'x' => Action::Set(Timer::State, Time::After(3), 100),
+        'c' => Action::Cancel(Timer::Named(1)),
+        'd' => Action::Cancel(Timer::State),
+        'u' => Action::Update(Timer::Named(1), 110),
+        'v' => Action::Update(Timer::State, 120),
+        'm' => Action::Send(machine(4), 130),
+        'n' => Action::Send(machine(6), 140),
         'A'..='Z' => Action::Set(timer(letter), Time::After(4), place as u64),
         _ => Action::Hibernate,
     }
@@ -70,6 +82,13 @@ fn is_action(found: &Action<u64>, place: usize, letter: char) -> bool {
         }
         (Action::Set(timer, time, content), Action::Set(other, other_time, wanted)) => {
             *timer == other && *time == other_time && *content == wanted
+        }
+        (Action::Cancel(timer), Action::Cancel(other)) => *timer == other,
+        (Action::Update(timer, content), Action::Update(other, wanted)) => {
+            *timer == other && *content == wanted
+        }
+        (Action::Send(target, content), Action::Send(other, wanted)) => {
+            *target == other && *content == wanted
         }
         (Action::Hibernate, Action::Hibernate) => true,
         _ => false,
@@ -117,7 +136,10 @@ fn enter_action(place: usize, letter: char) -> EnterAction<u64> {
     match action(place, letter) {
         Action::Reply(tag, content) => EnterAction::Reply(tag, content),
         Action::Set(timer, time, content) => EnterAction::Set(timer, time, content),
-        Action::Postpone(_) | Action::NextEvent(_, _) | Action::Hibernate => EnterAction::Hibernate,
+        Action::Cancel(timer) => EnterAction::Cancel(timer),
+        Action::Update(timer, content) => EnterAction::Update(timer, content),
+        Action::Postpone(_) | Action::NextEvent(_, _) | Action::Send(_, _) | Action::Hibernate =>
+            EnterAction::Hibernate,
     }
 }
 
@@ -129,6 +151,10 @@ fn is_enter_action(found: &EnterAction<u64>, place: usize, letter: char) -> bool
         }
         (EnterAction::Set(timer, time, content), EnterAction::Set(other, other_time, wanted)) => {
             *timer == other && *time == other_time && *content == wanted
+        }
+        (EnterAction::Cancel(timer), EnterAction::Cancel(other)) => *timer == other,
+        (EnterAction::Update(timer, content), EnterAction::Update(other, wanted)) => {
+            *timer == other && *content == wanted
         }
         (EnterAction::Hibernate, EnterAction::Hibernate) => true,
         _ => false,
@@ -196,16 +222,39 @@ fn insert_the_same(rt: &impl Abort, found: &Planned<u64>, wanted: &Planned<u64>)
     }
 }
 
-/// Looks that two plans set the same.
+/// What is asked of a timer, without the content, and the content, which is 0 where there is none.
+fn decided(asked: &Asked<u64>) -> (Decision, u64) {
+    match asked {
+        Asked::Set(time, content) => (Decision::Set(*time), *content),
+        Asked::Cancel => (Decision::Cancel, 0),
+        Asked::Update(content) => (Decision::Update, *content),
+    }
+}
+
+/// Looks that two plans ask the same of timers.
 fn set_the_same(rt: &impl Abort, found: &Planned<u64>, wanted: &Planned<u64>) {
     let count = found.requests.len();
     same(rt, "how many settings", &count, &wanted.requests.len());
     for index in 0..count {
         let one = found.requests.get(index).expect(rt, "there are so many");
         let other = wanted.requests.get(index).expect(rt, "there are as many");
+        let (decision, content) = decided(&one.asked);
+        let (wanted, held) = decided(&other.asked);
         holds(rt, "the timer", one.timer == other.timer);
-        holds(rt, "its time", one.time == other.time);
-        holds(rt, "its content", one.content == other.content);
+        holds(rt, "what is asked of it", decision == wanted);
+        holds(rt, "the content", content == held);
+    }
+}
+
+/// Looks that two plans send the same.
+fn send_the_same(rt: &impl Abort, found: &Planned<u64>, wanted: &Planned<u64>) {
+    let count = found.sends.len();
+    same(rt, "how much is sent", &count, &wanted.sends.len());
+    for index in 0..count {
+        let one = found.sends.get(index).expect(rt, "there is so much");
+        let other = wanted.sends.get(index).expect(rt, "there is as much");
+        holds(rt, "the machine", one.0 == other.0);
+        holds(rt, "what is sent to it", one.1 == other.1);
     }
 }
 
@@ -219,6 +268,7 @@ fn ask_the_same(rt: &impl Abort, found: &Planned<u64>, wanted: &Planned<u64>) {
     );
     insert_the_same(rt, found, wanted);
     set_the_same(rt, found, wanted);
+    send_the_same(rt, found, wanted);
 }
 
 /// What two plans ask for together. A call that finds no memory gives both back, equal to `copies`, and is
@@ -262,13 +312,15 @@ fn two_events(
     (planned(rt, alloc, first), planned(rt, alloc, second))
 }
 
-/// What is to be asked for: these replies, whether the event is postponed, these inserts, and these timers to be set.
+/// What is to be asked for: these replies, whether the event is postponed, these inserts, this of these timers, with
+/// this content, which is 0 where there is none, and this to be sent to these machines.
 #[derive(Clone, Copy)]
 struct Wanted<'a> {
     replies: &'a [(Tag, u64)],
     postpone: bool,
     inserts: &'a [(Kind, u64)],
-    settings: &'a [(Timer, Time, u64)],
+    settings: &'a [(Timer, Decision, u64)],
+    sends: &'a [(MachineId, u64)],
 }
 
 /// Nothing is to be asked for.
@@ -277,6 +329,7 @@ const NOTHING: Wanted<'static> = Wanted {
     postpone: false,
     inserts: &[],
     settings: &[],
+    sends: &[],
 };
 
 /// Looks that these replies are asked for, and no others.
@@ -309,19 +362,30 @@ fn inserts(rt: &impl Abort, planned: &Planned<u64>, wanted: &[(Kind, u64)]) {
     }
 }
 
-/// Looks that these timers are to be set, and no others.
-fn settings(rt: &impl Abort, planned: &Planned<u64>, wanted: &[(Timer, Time, u64)]) {
+/// Looks that this is asked of these timers, and no more.
+fn settings(rt: &impl Abort, planned: &Planned<u64>, wanted: &[(Timer, Decision, u64)]) {
     same(
         rt,
         "how many settings",
         &planned.requests.len(),
         &wanted.len(),
     );
-    for (index, (timer, time, content)) in wanted.iter().enumerate() {
+    for (index, (timer, decision, content)) in wanted.iter().enumerate() {
         let setting = planned.requests.get(index).expect(rt, "there are so many");
+        let (found, held) = decided(&setting.asked);
         holds(rt, "the timer", setting.timer == *timer);
-        holds(rt, "its time", setting.time == *time);
-        holds(rt, "its content", setting.content == *content);
+        holds(rt, "what is asked of it", found == *decision);
+        holds(rt, "the content", held == *content);
+    }
+}
+
+/// Looks that this is to be sent, and no more.
+fn sends(rt: &impl Abort, planned: &Planned<u64>, wanted: &[(MachineId, u64)]) {
+    same(rt, "how much is sent", &planned.sends.len(), &wanted.len());
+    for (index, (target, content)) in wanted.iter().enumerate() {
+        let send = planned.sends.get(index).expect(rt, "there is so much");
+        holds(rt, "the machine", send.0 == *target);
+        holds(rt, "what is sent to it", send.1 == *content);
     }
 }
 
@@ -335,6 +399,7 @@ fn asks(rt: &impl Abort, planned: &Planned<u64>, wanted: Wanted) {
     );
     inserts(rt, planned, wanted.inserts);
     settings(rt, planned, wanted.settings);
+    sends(rt, planned, wanted.sends);
 }
 
 /// Looks that the settings of these capital letters at these places are asked for, and no others.
@@ -347,9 +412,10 @@ fn places(rt: &impl Abort, planned: &Planned<u64>, wanted: &[(char, u64)]) {
     );
     for (index, (letter, place)) in wanted.iter().enumerate() {
         let setting = planned.requests.get(index).expect(rt, "there are so many");
+        let (found, held) = decided(&setting.asked);
         holds(rt, "the timer", setting.timer == timer(*letter));
-        holds(rt, "its time", setting.time == Time::After(4));
-        holds(rt, "its place", setting.content == *place);
+        holds(rt, "its time", found == Decision::Set(Time::After(4)));
+        holds(rt, "its place", held == *place);
     }
 }
 
@@ -404,25 +470,25 @@ fn the_last_setting_of_each_timer_decides(rt: HostRuntime) {
     let rt = Host::new(rt);
     let both = planned(&rt, rt.alloc(), &['1', '2']);
     let wanted = [
-        (Timer::Named(1), Time::After(1), 50),
-        (Timer::Named(2), Time::After(2), 60),
+        (Timer::Named(1), Decision::Set(Time::After(1)), 50),
+        (Timer::Named(2), Decision::Set(Time::After(2)), 60),
     ];
     settings(&rt, &both, &wanted);
 
     // It stands where the last one stood, also where it stops the timer.
     let again = planned(&rt, rt.alloc(), &['1', '2', '9']);
     let wanted = [
-        (Timer::Named(2), Time::After(2), 60),
-        (Timer::Named(1), Time::After(9), 70),
+        (Timer::Named(2), Decision::Set(Time::After(2)), 60),
+        (Timer::Named(1), Decision::Set(Time::After(9)), 70),
     ];
     settings(&rt, &again, &wanted);
     let stopped = planned(&rt, rt.alloc(), &['9', 'e', '0', 'x', 'p', 'e']);
     let wanted = Wanted {
         postpone: true,
         settings: &[
-            (Timer::Named(1), Time::Infinity, 80),
-            (Timer::State, Time::After(3), 100),
-            (Timer::Event, Time::After(0), 90),
+            (Timer::Named(1), Decision::Set(Time::Infinity), 80),
+            (Timer::State, Decision::Set(Time::After(3)), 100),
+            (Timer::Event, Decision::Set(Time::After(0)), 90),
         ],
         ..NOTHING
     };
@@ -433,18 +499,19 @@ fn the_last_setting_of_each_timer_decides(rt: HostRuntime) {
 #[test]
 fn refused_memory_changes_nothing(rt: HostRuntime) {
     let rt = Host::new(rt);
-    let letters = ['r', 'i', 's', 'k', '1', 't', 'p', 'x', '9'];
-    let nine = planned(&rt, rt.alloc(), &letters);
+    let letters = ['r', 'i', 's', 'k', 'm', '1', 't', 'p', 'x', '9'];
+    let ten = planned(&rt, rt.alloc(), &letters);
     let wanted = Wanted {
         replies: &[(tag(1), 10), (tag(2), 20)],
         postpone: true,
         inserts: &[(Kind::Internal, 30), (Kind::Timeout(Timer::State), 40)],
         settings: &[
-            (Timer::State, Time::After(3), 100),
-            (Timer::Named(1), Time::After(9), 70),
+            (Timer::State, Decision::Set(Time::After(3)), 100),
+            (Timer::Named(1), Decision::Set(Time::After(9)), 70),
         ],
+        sends: &[(machine(4), 130)],
     };
-    asks(&rt, &nine, wanted);
+    asks(&rt, &ten, wanted);
     rt.end();
 }
 
@@ -457,8 +524,8 @@ fn an_enter_call_replies_and_sets_timers(rt: HostRuntime) {
     let wanted = Wanted {
         replies: &[(tag(1), 10)],
         settings: &[
-            (Timer::State, Time::After(3), 100),
-            (Timer::Event, Time::After(0), 90),
+            (Timer::State, Decision::Set(Time::After(3)), 100),
+            (Timer::Event, Decision::Set(Time::After(0)), 90),
         ],
         ..NOTHING
     };
@@ -469,8 +536,8 @@ fn an_enter_call_replies_and_sets_timers(rt: HostRuntime) {
     let wanted = Wanted {
         replies: &[(tag(2), 20), (tag(1), 10)],
         settings: &[
-            (Timer::Named(2), Time::After(2), 60),
-            (Timer::Named(1), Time::After(9), 70),
+            (Timer::Named(2), Decision::Set(Time::After(2)), 60),
+            (Timer::Named(1), Decision::Set(Time::After(9)), 70),
         ],
         ..NOTHING
     };
@@ -512,9 +579,10 @@ fn an_enter_calls_settings_replace_the_events(rt: HostRuntime) {
         postpone: true,
         inserts: &[(Kind::Internal, 30)],
         settings: &[
-            (Timer::Event, Time::After(0), 90),
-            (Timer::Named(1), Time::Infinity, 80),
+            (Timer::Event, Decision::Set(Time::After(0)), 90),
+            (Timer::Named(1), Decision::Set(Time::Infinity), 80),
         ],
+        ..NOTHING
     };
     asks(&rt, &both, wanted);
 
@@ -531,8 +599,8 @@ fn an_enter_calls_settings_replace_the_events(rt: HostRuntime) {
 #[test]
 fn a_refused_join_changes_nothing(rt: HostRuntime) {
     let rt = Host::new(rt);
-    let first = ['r', 'i', 's', 't', '1', 'p', 'i', 'e', '2', 'x', 'r'];
-    let second = ['s', 't', 'k', 'i', '9', 'r'];
+    let first = ['r', 'i', 's', 't', '1', 'p', 'i', 'n', 'e', '2', 'x', 'r'];
+    let second = ['s', 't', 'm', 'k', 'i', '9', 'r'];
     let both = events_joined(&rt, rt.alloc(), &first, &second);
     let wanted = Wanted {
         replies: &[
@@ -551,13 +619,88 @@ fn a_refused_join_changes_nothing(rt: HostRuntime) {
             (Kind::Internal, 30),
         ],
         settings: &[
-            (Timer::Event, Time::After(0), 90),
-            (Timer::Named(2), Time::After(2), 60),
-            (Timer::State, Time::After(3), 100),
-            (Timer::Named(1), Time::After(9), 70),
+            (Timer::Event, Decision::Set(Time::After(0)), 90),
+            (Timer::Named(2), Decision::Set(Time::After(2)), 60),
+            (Timer::State, Decision::Set(Time::After(3)), 100),
+            (Timer::Named(1), Decision::Set(Time::After(9)), 70),
         ],
+        sends: &[(machine(6), 140), (machine(4), 130)],
     };
     asks(&rt, &both, wanted);
+    rt.end();
+}
+
+/// Looks that letters ask this of timers and of nobody else, in an event's list and in an enter call's.
+fn asked_by(
+    rt: &Host<impl Abort>,
+    alloc: Global,
+    letters: &[char],
+    wanted: &[(Timer, Decision, u64)],
+) {
+    let wanted = Wanted {
+        settings: wanted,
+        ..NOTHING
+    };
+    asks(rt, &planned(rt, alloc, letters), wanted);
+    asks(rt, &entered(rt, alloc, letters), wanted);
+}
+
+#[test]
+fn of_all_that_is_asked_of_a_timer_the_last_decides(rt: HostRuntime) {
+    let rt = Host::new(rt);
+    let set = (Timer::Named(1), Decision::Set(Time::After(1)), 50);
+    let cancelled = (Timer::Named(1), Decision::Cancel, 0);
+    let updated = (Timer::Named(1), Decision::Update, 110);
+    let state_updated = (Timer::State, Decision::Update, 120);
+    asked_by(&rt, rt.alloc(), &['1', 'c', 'u'], &[updated]);
+    asked_by(&rt, rt.alloc(), &['u', 'c', '1'], &[set]);
+    asked_by(&rt, rt.alloc(), &['1', 'u', 'c'], &[cancelled]);
+    // Another timer's stays, and each stands where the last of its timer stood.
+    let two = [cancelled, state_updated];
+    asked_by(&rt, rt.alloc(), &['u', 'x', 'c', 'v'], &two);
+    let other = [state_updated, updated];
+    asked_by(&rt, rt.alloc(), &['d', 'c', 'v', '1', 'u'], &other);
+    rt.end();
+}
+
+#[test]
+fn what_is_sent_keeps_its_order(rt: HostRuntime) {
+    let rt = Host::new(rt);
+    let five = planned(&rt, rt.alloc(), &['m', 'r', 'n', 'u', 'm']);
+    let wanted = Wanted {
+        replies: &[(tag(1), 10)],
+        settings: &[(Timer::Named(1), Decision::Update, 110)],
+        sends: &[(machine(4), 130), (machine(6), 140), (machine(4), 130)],
+        ..NOTHING
+    };
+    asks(&rt, &five, wanted);
+    rt.end();
+}
+
+#[test]
+fn what_an_enter_call_asks_of_a_timer_decides(rt: HostRuntime) {
+    let rt = Host::new(rt);
+    let event = ['1', 'm', 'v', 'n', 'e'];
+    let both = event_joined(&rt, rt.alloc(), &event, &['d', 'u']);
+    let wanted = Wanted {
+        settings: &[
+            (Timer::Event, Decision::Set(Time::After(0)), 90),
+            (Timer::State, Decision::Cancel, 0),
+            (Timer::Named(1), Decision::Update, 110),
+        ],
+        sends: &[(machine(4), 130), (machine(6), 140)],
+        ..NOTHING
+    };
+    asks(&rt, &both, wanted);
+
+    // A second list sends behind the first.
+    let sent = events_joined(&rt, rt.alloc(), &['n', 'u'], &['m', '1', 'n']);
+    let wanted = Wanted {
+        settings: &[(Timer::Named(1), Decision::Set(Time::After(1)), 50)],
+        sends: &[(machine(6), 140), (machine(4), 130), (machine(6), 140)],
+        ..NOTHING
+    };
+    asks(&rt, &sent, wanted);
     rt.end();
 }
 
@@ -611,148 +754,5 @@ fn the_last_setting_decides_also_in_long_plans(rt: HostRuntime) {
         ('N', 11),
     ];
     places(&rt, &both, &lasts);
-    rt.end();
-}
-
-/// Counts what a list asks for. A call that finds no memory leaves the list as it is, and is made again.
-fn counted(
-    rt: &Host<impl Abort>,
-    alloc: Global,
-    actions: &mut Actions<u64>,
-    letters: &[char],
-) -> Counts {
-    match count_last(alloc, actions) {
-        Ok(counts) => counts,
-        Err(_) => {
-            holds(rt, "four take no memory", letters.len() > 4);
-            has(rt, actions, letters);
-            rt.retry();
-            let again = count_last(alloc, actions);
-            got(rt, "one allocation alone is refused", again)
-        }
-    }
-}
-
-/// Looks that so much was counted.
-fn counts_are(rt: &impl Abort, counts: Counts, wanted: Counts) {
-    same(rt, "how many replies", &counts.replies, &wanted.replies);
-    same(rt, "how many inserts", &counts.inserts, &wanted.inserts);
-    same(rt, "how many settings", &counts.settings, &wanted.settings);
-    same(rt, "how many numbers", &counts.numbers, &wanted.numbers);
-    same(rt, "the last postpone", &counts.postpone, &wanted.postpone);
-}
-
-/// Looks what a list asks for, and what is left of it.
-fn is_counted(
-    rt: &Host<impl Abort>,
-    alloc: Global,
-    letters: &[char],
-    left: &[char],
-    wanted: Counts,
-) {
-    let mut actions = list(rt, alloc, letters);
-    let counts = counted(rt, alloc, &mut actions, letters);
-    counts_are(rt, counts, wanted);
-    has(rt, &actions, left);
-    counts_are(rt, count(&actions), wanted);
-    drop(actions);
-}
-
-/// Nothing is counted.
-const NONE: Counts = Counts {
-    replies: 0,
-    inserts: 0,
-    settings: 0,
-    numbers: 0,
-    postpone: None,
-};
-
-#[test]
-fn what_is_asked_for_is_counted(rt: HostRuntime) {
-    let rt = Host::new(rt);
-    is_counted(&rt, rt.alloc(), &[], &[], NONE);
-    let one = Counts {
-        settings: 1,
-        postpone: Some(false),
-        ..NONE
-    };
-    is_counted(&rt, rt.alloc(), &['p', '0', 'k'], &['p', '0', 'k'], one);
-
-    // Of each timer the last setting is left.
-    let letters = ['1', 'r', 'k', 'i', '2', 's', 'p', 't', '9', 'i'];
-    let left = ['h', 'r', 'k', 'i', '2', 's', 'p', 't', '9', 'i'];
-    let wanted = Counts {
-        replies: 2,
-        inserts: 3,
-        settings: 2,
-        numbers: 5,
-        postpone: Some(true),
-    };
-    is_counted(&rt, rt.alloc(), &letters, &left, wanted);
-    rt.end();
-}
-
-/// Looks that these replies are taken out of a list, in their order, and no others.
-fn replies_leave(rt: &impl Abort, actions: &mut Actions<u64>, wanted: &[(Tag, u64)]) {
-    let mut count = 0usize;
-    for index in 0..actions.len() {
-        if let Some((tag, content)) = take_reply(actions, index) {
-            let (other, reply) = wanted.get(count).expect(rt, "no others are taken");
-            holds(rt, "the request", tag == *other);
-            holds(rt, "its reply", content == *reply);
-            count = count.saturating_add(1);
-        }
-    }
-    same(rt, "how many replies", &count, &wanted.len());
-}
-
-/// Looks that these events to be inserted are taken out of a list, the last one first, and no others.
-fn inserts_leave(rt: &impl Abort, actions: &mut Actions<u64>, wanted: &[(Kind, u64)]) {
-    let mut count = 0usize;
-    let mut index = actions.len();
-    while index > 0 {
-        index -= 1;
-        if let Some(insert) = take_insert(actions, index) {
-            let (kind, content) = wanted.get(count).expect(rt, "no others are taken");
-            holds(rt, "the kind", insert.kind == *kind);
-            holds(rt, "its content", insert.content == *content);
-            count = count.saturating_add(1);
-        }
-    }
-    same(rt, "how many inserts", &count, &wanted.len());
-}
-
-/// Looks that these settings are taken out of a list, in their order, and no others.
-fn settings_leave(rt: &impl Abort, actions: &mut Actions<u64>, wanted: &[(Timer, Time, u64)]) {
-    let mut count = 0usize;
-    for index in 0..actions.len() {
-        if let Some(setting) = take_setting(actions, index) {
-            let (timer, time, content) = wanted.get(count).expect(rt, "no others are taken");
-            holds(rt, "the timer", setting.timer == *timer);
-            holds(rt, "its time", setting.time == *time);
-            holds(rt, "its content", setting.content == *content);
-            count = count.saturating_add(1);
-        }
-    }
-    same(rt, "how many settings", &count, &wanted.len());
-}
-
-#[test]
-fn each_kind_leaves_its_places(rt: HostRuntime) {
-    let rt = Host::new(rt);
-    let mut actions = list(&rt, rt.alloc(), &['r', 'i', '1', 's', 't', 'p', '0']);
-    let wanted = [(tag(1), 10), (tag(2), 20)];
-    replies_leave(&rt, &mut actions, &wanted);
-    has(&rt, &actions, &['h', 'i', '1', 'h', 't', 'p', '0']);
-    let wanted = [(Kind::Timeout(Timer::State), 40), (Kind::Internal, 30)];
-    inserts_leave(&rt, &mut actions, &wanted);
-    has(&rt, &actions, &['h', 'h', '1', 'h', 'h', 'p', '0']);
-    let wanted = [
-        (Timer::Named(1), Time::After(1), 50),
-        (Timer::Named(1), Time::Infinity, 80),
-    ];
-    settings_leave(&rt, &mut actions, &wanted);
-    has(&rt, &actions, &['h', 'h', 'h', 'h', 'h', 'p', 'h']);
-    drop(actions);
     rt.end();
 }

@@ -3,9 +3,10 @@ ghost use Rattle.std.specs.Prelude.{◌≡◌, [], max};
 
 use super::host::{Host, got, holds, same};
 use st_events::{
-    Action, Actions, MachineId, PlainList, Refusal, Refused, SmallList, SmallListBuilder, Tag,
+    Action, Actions, MachineId, PlainList, PlainText, Refusal, Refused, SmallList,
+    SmallListBuilder, Tag,
 };
-use std::alloc::{AllocError, Global};
+use std::alloc::{AllocError, AllocFailed, Global};
 use std::fmt::{Debug, Display};
 use std::process::Abort;
 
@@ -66,8 +67,7 @@ fn is_reply(action: &Action<u64>, request: u64) -> bool {
         Action::Reply(tag, content) => {
             *tag == Tag::new(MACHINE, request) && *content == request.saturating_mul(10)
         }
-        Action::Postpone(_) | Action::NextEvent(_, _) | Action::Set(_, _, _) | Action::Hibernate =>
-            false,
+        _ => false,
     }
 }
 
@@ -152,12 +152,65 @@ fn a_plain_list_answers(rt: &Host<impl Abort>, alloc: Global) {
     same(rt, "two", &two.into_vec().as_slice(), &[8, 9].as_slice());
 }
 
+/// Adds a number. A push that finds no memory leaves the list, and is made again.
+fn push_plain(rt: &Host<impl Abort>, list: &mut PlainList<u64>, number: u64) {
+    let count = list.len();
+    if let Err(failed) = list.push(number) {
+        same(rt, "it comes back", &failed.value, &number);
+        same(rt, "how many there are", &list.len(), &count);
+        rt.retry();
+        let again = list.push(failed.value);
+        got(rt, "one allocation alone is refused", again);
+    }
+}
+
+/// A copy of two numbers. Where memory was refused, it is made again.
+fn copied(rt: &Host<impl Abort>, alloc: Global) -> PlainList<u64> {
+    let numbers = [8, 9];
+    if let Ok(copy) = PlainList::copied(alloc, numbers.as_slice()) {
+        return copy;
+    }
+    rt.retry();
+    let again = PlainList::copied(alloc, numbers.as_slice());
+    got(rt, "one allocation alone is refused", again)
+}
+
+/// Elements are copied into a plain list, and come in behind them.
+fn a_plain_list_grows(rt: &Host<impl Abort>, alloc: Global) {
+    let mut list = copied(rt, alloc);
+    push_plain(rt, &mut list, 7);
+    same(rt, "three", &list.as_slice(), &[8, 9, 7].as_slice());
+    same(rt, "how many", &list.len(), &3);
+    same(rt, "the last", &list.get(2), &Some(&7));
+    holds(rt, "none behind the last", list.get(3) == None);
+}
+
+/// A copy of a text. Where memory was refused, it is made again.
+fn copied_text(rt: &Host<impl Abort>, alloc: Global) -> PlainText {
+    if let Ok(copy) = PlainText::copied(alloc, "door") {
+        return copy;
+    }
+    rt.retry();
+    let again = PlainText::copied(alloc, "door");
+    got(rt, "one allocation alone is refused", again)
+}
+
+/// A text is copied, becomes a string, and is a text again.
+fn a_plain_text_answers(rt: &Host<impl Abort>, alloc: Global) {
+    let text = copied_text(rt, alloc);
+    same(rt, "the text", &text.as_str(), &"door");
+    let again = PlainText::from(text.into_string());
+    same(rt, "the text again", &again.as_str(), &"door");
+}
+
 #[test]
 fn each_call_answers(rt: HostRuntime) {
     let rt = Host::new(rt);
     a_list_answers(&rt, rt.alloc());
     a_builder_answers(&rt, rt.alloc());
     a_plain_list_answers(&rt, rt.alloc());
+    a_plain_list_grows(&rt, rt.alloc());
+    a_plain_text_answers(&rt, rt.alloc());
     rt.end();
 }
 
@@ -165,6 +218,8 @@ fn each_call_answers(rt: HostRuntime) {
 fn refusals_come_of_others(rt: &impl Abort) {
     let of_memory = Refusal::from(AllocError);
     same(rt, "no memory", &of_memory, &Refusal::NoMemory);
+    let of_a_push = Refusal::from(AllocFailed { value: 7 });
+    same(rt, "no memory for it", &of_a_push, &Refusal::NoMemory);
     let refused = Refused::new(Refusal::Moment, 7);
     same(rt, "why", &refused.refusal, &Refusal::Moment);
     same(rt, "what comes back", &refused.value, &7);

@@ -7,7 +7,8 @@ abbrev pub invariant-loop-index : goal.invariant-loop-index
 invariant-loop-index g l = record {
   counted : IsCountOf l.counts (drop l.index l.actions);
   within : l.index ≤ length l.actions;
-  few : l.counts.replies + l.counts.inserts + l.counts.settings + l.index ≤ length l.actions;
+  few : l.counts.replies + l.counts.inserts + l.counts.settings + l.counts.sends + l.index ≤ length l.actions;
+  few_updates : l.counts.updates ≤ l.counts.settings;
   few_numbers : l.counts.numbers + l.index ≤ length l.actions;
 }
 

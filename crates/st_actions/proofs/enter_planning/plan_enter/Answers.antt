@@ -1,11 +1,11 @@
-use Rattle.std.proofs.Common.{◌≡◌, false, true, List, [], ◌∷◌, ◌++◌, ◌||◌, arith, refl, sym, ap, ◌∙◌, append-nil, reverse}
-use Rattle.std.proofs.lemmas.Bool.{not-true, not-false}
+use Rattle.std.proofs.Common.{List, [], ◌∷◌, ◌++◌, ◌||◌, arith, refl, ap, ◌∙◌, append-nil, reverse}
+use Rattle.st_events.specs.declared.asked.Asked.TheVariants as asked
 use Rattle.st_events.specs.declared.enter_action.EnterAction.{EnterAction}
-use Rattle.st_events.specs.declared.enter_action.EnterAction.TheVariants.{Reply, Set, Hibernate}
+use Rattle.st_events.specs.declared.enter_action.EnterAction.TheVariants.{Reply, Set, Cancel, Update, Hibernate}
 use Rattle.st_events.specs.Timers.{same_timer}
-use Rattle.st_actions.specs.Plan.{sets, replies_of, settings_of}
+use Rattle.st_actions.specs.Plan.{replies_of, settings_of}
 use Rattle.st_actions.specs.Joined.{as_actions}
-use Rattle.st_actions.proofs.PlanLemmas.{one_fewer, taken_before, one_before, setting_stays, setting_goes, enter_planned_whole}
+use Rattle.st_actions.proofs.PlanLemmas.{one_fewer, taken_before, one_before, asked_before, enter_planned_whole}
 use Rattle.st_actions.proofs.enter_planning.plan_enter.Goals as goal
 
 -- nothing was taken
@@ -30,11 +30,14 @@ loop-action-init g c =
 pub loop-action-smaller-in-Reply : goal.loop-action-smaller-in-Reply
 loop-action-smaller-in-Reply g c = omega (arith, one_fewer _ _ _ c.in-Some.ensures.popped)
 
-pub loop-action-smaller-then-note : goal.loop-action-smaller-then-note
-loop-action-smaller-then-note g c = omega (arith, one_fewer _ _ _ c.in-Some.ensures.popped)
+pub loop-action-smaller-in-Set : goal.loop-action-smaller-in-Set
+loop-action-smaller-in-Set g c = omega (arith, one_fewer _ _ _ c.in-Some.ensures.popped)
 
-pub loop-action-smaller-else-note : goal.loop-action-smaller-else-note
-loop-action-smaller-else-note g c = omega (arith, one_fewer _ _ _ c.in-Some.ensures.popped)
+pub loop-action-smaller-in-Cancel : goal.loop-action-smaller-in-Cancel
+loop-action-smaller-in-Cancel g c = omega (arith, one_fewer _ _ _ c.in-Some.ensures.popped)
+
+pub loop-action-smaller-in-Update : goal.loop-action-smaller-in-Update
+loop-action-smaller-in-Update g c = omega (arith, one_fewer _ _ _ c.in-Some.ensures.popped)
 
 pub loop-action-smaller : goal.loop-action-smaller
 loop-action-smaller g c = omega (arith, one_fewer _ _ _ c.in-Some.ensures.popped)
@@ -44,15 +47,20 @@ push-requires g c =
     let fewer = one_fewer _ _ _ c.in-Some.ensures.popped in
     (c.requires.replies_fit, omega (arith, fewer, c.loop-action.invariant.1.reserved_for_replies))
 
-pub note-requires : goal.note-requires
-note-requires g c =
+pub ask-requires : goal.ask-requires
+ask-requires g c =
     let fewer = one_fewer _ _ _ c.in-Some.ensures.popped in
-    omega (arith, fewer, c.loop-action.invariant.1.room)
+    (c.requires.settings_fit, (c.requires.settings_fit, (omega (arith, fewer, c.loop-action.invariant.1.reserved_for_settings), omega (arith, fewer, c.loop-action.invariant.1.room))))
 
-pub push-requires-then-note : goal.push-requires-then-note
-push-requires-then-note g c =
+pub ask-requires-in-Cancel : goal.ask-requires-in-Cancel
+ask-requires-in-Cancel g c =
     let fewer = one_fewer _ _ _ c.in-Some.ensures.popped in
-    (c.requires.settings_fit, omega (arith, fewer, c.loop-action.invariant.1.reserved_for_settings))
+    (c.requires.settings_fit, (c.requires.settings_fit, (omega (arith, fewer, c.loop-action.invariant.1.reserved_for_settings), omega (arith, fewer, c.loop-action.invariant.1.room))))
+
+pub ask-requires-in-Update : goal.ask-requires-in-Update
+ask-requires-in-Update g c =
+    let fewer = one_fewer _ _ _ c.in-Some.ensures.popped in
+    (c.requires.settings_fit, (c.requires.settings_fit, (omega (arith, fewer, c.loop-action.invariant.1.reserved_for_settings), omega (arith, fewer, c.loop-action.invariant.1.room))))
 
 pub loop-action-preserved-in-Reply : goal.loop-action-preserved-in-Reply
 loop-action-preserved-in-Reply g c =
@@ -70,6 +78,60 @@ loop-action-preserved-in-Reply g c =
         reserved_for_replies = omega (arith, fewer, reserved, kept.reserved_for_replies);
         reserved_for_settings = omega (arith, fewer, kept.reserved_for_settings);
         room = omega (arith, fewer, kept.room);
+      },
+    )
+
+pub loop-action-preserved-in-Set : goal.loop-action-preserved-in-Set
+loop-action-preserved-in-Set g c =
+    let taken = c.loop-action.invariant.0 in
+    let kept = c.loop-action.invariant.1 in
+    let fewer = one_fewer _ _ _ c.in-Some.ensures.popped in
+    let popped = c.in-Some.ensures.popped ∙ ap (λ action. c.pop.new.self ++ action ∷ []) c.in-Set.is in (
+      Set c.in-Set.timer c.in-Set.time c.in-Set.content ∷ taken,
+      record {
+        whole = taken_before _ _ _ _ _ popped kept.whole;
+        replies = kept.replies;
+        settings = asked_before c.in-Set.timer (asked.Set c.in-Set.time c.in-Set.content) _ _ _ (as_actions taken) c.ask.ensures.asked (kept.noted c.in-Set.timer) kept.settings;
+        noted = λ other. c.ask.ensures.noted other ∙ ap (λ noted. same_timer other c.in-Set.timer || noted) (kept.noted other);
+        reserved_for_replies = omega (arith, fewer, kept.reserved_for_replies);
+        reserved_for_settings = omega (arith, fewer, c.ask.ensures.reserved, kept.reserved_for_settings);
+        room = omega (arith, fewer, c.ask.ensures.room, kept.room);
+      },
+    )
+
+pub loop-action-preserved-in-Cancel : goal.loop-action-preserved-in-Cancel
+loop-action-preserved-in-Cancel g c =
+    let taken = c.loop-action.invariant.0 in
+    let kept = c.loop-action.invariant.1 in
+    let fewer = one_fewer _ _ _ c.in-Some.ensures.popped in
+    let popped = c.in-Some.ensures.popped ∙ ap (λ action. c.pop.new.self ++ action ∷ []) c.in-Cancel.is in (
+      Cancel c.in-Cancel.timer ∷ taken,
+      record {
+        whole = taken_before _ _ _ _ _ popped kept.whole;
+        replies = kept.replies;
+        settings = asked_before c.in-Cancel.timer asked.Cancel _ _ _ (as_actions taken) c.ask-in-Cancel.ensures.asked (kept.noted c.in-Cancel.timer) kept.settings;
+        noted = λ other. c.ask-in-Cancel.ensures.noted other ∙ ap (λ noted. same_timer other c.in-Cancel.timer || noted) (kept.noted other);
+        reserved_for_replies = omega (arith, fewer, kept.reserved_for_replies);
+        reserved_for_settings = omega (arith, fewer, c.ask-in-Cancel.ensures.reserved, kept.reserved_for_settings);
+        room = omega (arith, fewer, c.ask-in-Cancel.ensures.room, kept.room);
+      },
+    )
+
+pub loop-action-preserved-in-Update : goal.loop-action-preserved-in-Update
+loop-action-preserved-in-Update g c =
+    let taken = c.loop-action.invariant.0 in
+    let kept = c.loop-action.invariant.1 in
+    let fewer = one_fewer _ _ _ c.in-Some.ensures.popped in
+    let popped = c.in-Some.ensures.popped ∙ ap (λ action. c.pop.new.self ++ action ∷ []) c.in-Update.is in (
+      Update c.in-Update.timer c.in-Update.content ∷ taken,
+      record {
+        whole = taken_before _ _ _ _ _ popped kept.whole;
+        replies = kept.replies;
+        settings = asked_before c.in-Update.timer (asked.Update c.in-Update.content) _ _ _ (as_actions taken) c.ask-in-Update.ensures.asked (kept.noted c.in-Update.timer) kept.settings;
+        noted = λ other. c.ask-in-Update.ensures.noted other ∙ ap (λ noted. same_timer other c.in-Update.timer || noted) (kept.noted other);
+        reserved_for_replies = omega (arith, fewer, kept.reserved_for_replies);
+        reserved_for_settings = omega (arith, fewer, c.ask-in-Update.ensures.reserved, kept.reserved_for_settings);
+        room = omega (arith, fewer, c.ask-in-Update.ensures.room, kept.room);
       },
     )
 
@@ -91,56 +153,23 @@ loop-action-preserved g c =
       },
     )
 
--- the setting is the last of its timer
-pub loop-action-preserved-then-note : goal.loop-action-preserved-then-note
-loop-action-preserved-then-note g c =
-    let taken = c.loop-action.invariant.0 in
-    let kept = c.loop-action.invariant.1 in
-    let fewer = one_fewer _ _ _ c.in-Some.ensures.popped in
-    let popped = c.in-Some.ensures.popped ∙ ap (λ action. c.pop.new.self ++ action ∷ []) c.in-Set.is in
-    let reserved = ap (λ b. b.reserved) c.push-then-note.ensures.pushed in
-    let last : sets c.in-Set.timer (as_actions taken) ≡ false =
-    sym (kept.noted c.in-Set.timer) ∙ not-true _ (sym c.note.ensures.was_new ∙ c.if-note.true) in (
-      Set c.in-Set.timer c.in-Set.time c.in-Set.content ∷ taken,
-      record {
-        whole = taken_before _ _ _ _ _ popped kept.whole;
-        replies = kept.replies;
-        settings = setting_stays c.in-Set.timer c.in-Set.time c.in-Set.content _ (as_actions taken) last
-            (one_before _ _ _ _ (ap (λ b. b.items) c.push-then-note.ensures.pushed) kept.settings);
-        noted = λ other. c.note.ensures.noted other ∙ ap (λ noted. same_timer other c.in-Set.timer || noted) (kept.noted other);
-        reserved_for_replies = omega (arith, fewer, kept.reserved_for_replies);
-        reserved_for_settings = omega (arith, fewer, reserved, kept.reserved_for_settings);
-        room = omega (arith, fewer, c.note.ensures.room, kept.room);
-      },
-    )
-
--- a later setting of its timer decides
-pub loop-action-preserved-else-note : goal.loop-action-preserved-else-note
-loop-action-preserved-else-note g c =
-    let taken = c.loop-action.invariant.0 in
-    let kept = c.loop-action.invariant.1 in
-    let fewer = one_fewer _ _ _ c.in-Some.ensures.popped in
-    let popped = c.in-Some.ensures.popped ∙ ap (λ action. c.pop.new.self ++ action ∷ []) c.in-Set.is in
-    let later : sets c.in-Set.timer (as_actions taken) ≡ true =
-    sym (kept.noted c.in-Set.timer) ∙ not-false _ (sym c.note.ensures.was_new ∙ c.if-note.false) in (
-      Set c.in-Set.timer c.in-Set.time c.in-Set.content ∷ taken,
-      record {
-        whole = taken_before _ _ _ _ _ popped kept.whole;
-        replies = kept.replies;
-        settings = setting_goes c.in-Set.timer c.in-Set.time c.in-Set.content _ (as_actions taken) later kept.settings;
-        noted = λ other. c.note.ensures.noted other ∙ ap (λ noted. same_timer other c.in-Set.timer || noted) (kept.noted other);
-        reserved_for_replies = omega (arith, fewer, kept.reserved_for_replies);
-        reserved_for_settings = omega (arith, fewer, kept.reserved_for_settings);
-        room = omega (arith, fewer, c.note.ensures.room, kept.room);
-      },
-    )
-
 -- all was taken
 pub returns-clause-planned : goal.returns-clause-planned
 returns-clause-planned g c =
     let kept = c.loop-action.invariant.1 in
     let all = rw (c.in_default-pop.ensures.end.0 refl) at kept.whole in
-    enter_planned_whole c.args.actions c.in_order-replies.result c.new-inserts.result c.in_order-settings.result
+    enter_planned_whole c.args.actions c.in_order-replies.result c.new-inserts.result c.in_order-settings.result c.new-sends.result
     (c.in_order-replies.ensures ∙ (kept.replies ∙ ap (λ (actions : List (EnterAction _)). replies_of (as_actions actions)) all))
     c.new-inserts.ensures
     (c.in_order-settings.ensures ∙ (kept.settings ∙ ap (λ (actions : List (EnterAction _)). settings_of (as_actions actions)) all))
+    c.new-sends.ensures
+
+-- a short list wants no memory
+pub returns-in_default-clause-inline : goal.returns-in_default-clause-inline
+returns-in_default-clause-inline g c = λ few. c.in_default.ensures.inline (omega (arith, few, c.len-count.ensures.length))
+
+pub returns-in_default-with_reserved-clause-inline : goal.returns-in_default-with_reserved-clause-inline
+returns-in_default-with_reserved-clause-inline g c = λ few. c.in_default-with_reserved.ensures.inline (omega (arith, few, c.len-count.ensures.length))
+
+pub returns-in_default-with_reserved-2-clause-inline : goal.returns-in_default-with_reserved-2-clause-inline
+returns-in_default-with_reserved-2-clause-inline g c = λ few. c.in_default-with_reserved-2.ensures.inline (omega (arith, few, c.len-count.ensures.length))

@@ -30,13 +30,22 @@ move_all-requires-5 g c =
     let reserved = reserved_behind _ _ _ _ _ c.in-Ok-reserved_for-2.ensures.reserved few moved in
     (c.requires.settings_fit, omega (arith, reserved))
 
+pub move_all-requires-6 : goal.move_all-requires-6
+move_all-requires-6 g c = (c.requires.sends_fit, omega (arith, ap (λ b. b.reserved) c.in-Ok-reserved_for-3.ensures.reserved))
+
+pub move_all-requires-7 : goal.move_all-requires-7
+move_all-requires-7 g c =
+    let reserved = reserved_behind _ _ _ _ _ c.in-Ok-reserved_for-3.ensures.reserved (omega arith) c.move_all-6.ensures.moved in
+    (c.requires.sends_fit, omega (arith, reserved))
+
 pub returns-clause-joined : goal.returns-clause-joined
 returns-clause-joined g c =
     let moved = remaining_moved _ _ _ _ c.args.second.requests (λ setting. ap not (c.in-Ok-timers_of.ensures.noted setting.timer)) c.move_remaining.ensures.moved in
-    joined_whole c.args.first c.args.second c.finish-replies.result c.finish-inserts.result c.finish-settings.result
+    joined_whole c.args.first c.args.second c.finish-replies.result c.finish-inserts.result c.finish-settings.result c.finish-sends.result
     (both_moved _ _ _ _ _ _ _ c.in-Ok.ensures.reserved c.move_all.ensures.moved c.move_all-2.ensures.moved c.finish-replies.ensures)
     (both_moved _ _ _ _ _ _ _ c.in-Ok-reserved_for.ensures.reserved c.move_all-3.ensures.moved c.move_all-4.ensures.moved c.finish-inserts.ensures)
     (both_moved _ _ _ _ _ _ _ c.in-Ok-reserved_for-2.ensures.reserved moved c.move_all-5.ensures.moved c.finish-settings.ensures)
+    (both_moved _ _ _ _ _ _ _ c.in-Ok-reserved_for-3.ensures.reserved c.move_all-6.ensures.moved c.move_all-7.ensures.moved c.finish-sends.ensures)
 
 -- plans of two lists, joined, are the plan of both
 pub returns-clause-plan_of_both : goal.returns-clause-plan_of_both

@@ -1,8 +1,8 @@
 use Rattle.std.proofs.Common.{◌≡◌, suc, ◌-◌, refl, sym, ap, ◌∙◌, length, take, drop, arith}
 use Rattle.std.proofs.lemmas.List.{drop_all}
-use Rattle.st_actions.specs.Plan.{replies_of, inserts_of, postpone_or, settings_of, sets}
-use Rattle.st_actions.specs.Taking.{all_settings_of, as_reply, as_insert}
-use Rattle.st_actions.proofs.TakingLemmas.{replies_are, inserts_are}
+use Rattle.st_actions.specs.Plan.{replies_of, inserts_of, sends_of, postpone_or, settings_of, sets}
+use Rattle.st_actions.specs.Taking.{all_settings_of, as_reply, as_insert, as_send}
+use Rattle.st_actions.proofs.TakingLemmas.{replies_are, inserts_are, sends_are, setting_is_no_reply, setting_is_no_insert, setting_is_no_send}
 use Rattle.st_actions.proofs.KeptLemmas.{front_kept, settings_kept_at, noted_at, others_kept, postpone_kept, length_kept}
 use Rattle.st_actions.proofs.once.keep_last.Goals as goal
 
@@ -17,6 +17,7 @@ loop-index-init g c =
       settings = ap all_settings_of none ∙ sym (ap settings_of none);
       replies = refl;
       inserts = refl;
+      sends = refl;
       postpone = λ given. refl;
       noted = λ timer. c.in_ok-noted.ensures.empty timer ∙ sym (ap (λ actions. sets timer actions) none);
       room = omega (arith, c.in_ok-noted.ensures.room, c.len.ensures.length, c.len-index.ensures.length);
@@ -37,8 +38,9 @@ loop-index-preserved g c =
       as_many = ap length same ∙ (length_kept noted now j ∙ before.as_many);
       within = omega (arith, before.within);
       settings = ap (λ actions. all_settings_of (drop j actions)) same ∙ settings_kept_at whole now i j noted next before.front before.settings before.noted;
-      replies = ap replies_of same ∙ (others_kept as_reply replies_of replies_are refl (λ timer time content. refl) noted now j ∙ before.replies);
-      inserts = ap inserts_of same ∙ (others_kept as_insert inserts_of inserts_are refl (λ timer time content. refl) noted now j ∙ before.inserts);
+      replies = ap replies_of same ∙ (others_kept as_reply replies_of replies_are refl setting_is_no_reply noted now j ∙ before.replies);
+      inserts = ap inserts_of same ∙ (others_kept as_insert inserts_of inserts_are refl setting_is_no_insert noted now j ∙ before.inserts);
+      sends = ap sends_of same ∙ (others_kept as_send sends_of sends_are refl setting_is_no_send noted now j ∙ before.sends);
       postpone = λ given. ap (λ actions. postpone_or given actions) same ∙ (postpone_kept given noted now j ∙ before.postpone given);
       noted = λ timer. noted_at whole now i j timer _ _ next before.front (before.noted timer) (c.keep_at.ensures.noted timer);
       room = omega (arith, c.keep_at.ensures.room, before.room, c.loop-index-test.true);

@@ -1,9 +1,9 @@
-use Rattle.std.proofs.Common.{◌≡◌, true, false, [], ◌∷◌, ◌++◌, ◌||◌, arith, refl, sym, ap, ◌∙◌, append-nil, reverse, unwrap_or}
-use Rattle.std.proofs.lemmas.Bool.{not-true, not-false}
-use Rattle.st_events.specs.declared.action.Action.TheVariants.{Reply, Postpone, NextEvent, Set, Hibernate}
+use Rattle.std.proofs.Common.{false, [], ◌∷◌, ◌++◌, ◌||◌, arith, refl, sym, ap, ◌∙◌, append-nil, reverse, unwrap_or}
+use Rattle.st_events.specs.declared.action.Action.TheVariants.{Reply, Postpone, NextEvent, Set, Cancel, Update, Send, Hibernate}
+use Rattle.st_events.specs.declared.asked.Asked.TheVariants as asked
 use Rattle.st_events.specs.Timers.{same_timer}
-use Rattle.st_actions.specs.Plan.{sets, replies_of, postpone_of, inserts_of, settings_of}
-use Rattle.st_actions.proofs.PlanLemmas.{one_fewer, taken_before, one_before, first_decides, setting_stays, setting_goes, planned_whole}
+use Rattle.st_actions.specs.Plan.{replies_of, postpone_of, inserts_of, settings_of, sends_of}
+use Rattle.st_actions.proofs.PlanLemmas.{one_fewer, taken_before, one_before, first_decides, asked_before, planned_whole}
 use Rattle.st_actions.proofs.planning.plan.Goals as goal
 
 -- nothing was taken
@@ -12,9 +12,11 @@ loop-action-init g c =
     let replies = ap (λ b. b.items) c.in-Ok-with_reserved.ensures.reserved in
     let inserts = ap (λ b. b.items) c.in-Ok-with_reserved-2.ensures.reserved in
     let settings = ap (λ b. b.items) c.in-Ok-with_reserved-3.ensures.reserved in
+    let sends = ap (λ b. b.items) c.in-Ok-with_reserved-4.ensures.reserved in
     let replies_reserved = ap (λ b. b.reserved) c.in-Ok-with_reserved.ensures.reserved in
     let inserts_reserved = ap (λ b. b.reserved) c.in-Ok-with_reserved-2.ensures.reserved in
-    let settings_reserved = ap (λ b. b.reserved) c.in-Ok-with_reserved-3.ensures.reserved in (
+    let settings_reserved = ap (λ b. b.reserved) c.in-Ok-with_reserved-3.ensures.reserved in
+    let sends_reserved = ap (λ b. b.reserved) c.in-Ok-with_reserved-4.ensures.reserved in (
       [],
       record {
         whole = append-nil c.args.actions;
@@ -22,10 +24,12 @@ loop-action-init g c =
         postpone = λ given. refl;
         inserts = ap reverse inserts;
         settings = ap reverse settings;
+        sends = ap reverse sends;
         noted = c.in-Ok.ensures.empty;
         reserved_for_replies = omega (arith, replies_reserved, c.len-count.ensures.length);
         reserved_for_inserts = omega (arith, inserts_reserved, c.len-count.ensures.length);
         reserved_for_settings = omega (arith, settings_reserved, c.len-count.ensures.length);
+        reserved_for_sends = omega (arith, sends_reserved, c.len-count.ensures.length);
         room = omega (arith, c.in-Ok.ensures.room, c.len-count.ensures.length);
       },
     )
@@ -39,11 +43,17 @@ loop-action-smaller-in-Postpone g c = omega (arith, one_fewer _ _ _ c.in-Some.en
 pub loop-action-smaller-in-NextEvent : goal.loop-action-smaller-in-NextEvent
 loop-action-smaller-in-NextEvent g c = omega (arith, one_fewer _ _ _ c.in-Some.ensures.popped)
 
-pub loop-action-smaller-then-note : goal.loop-action-smaller-then-note
-loop-action-smaller-then-note g c = omega (arith, one_fewer _ _ _ c.in-Some.ensures.popped)
+pub loop-action-smaller-in-Set : goal.loop-action-smaller-in-Set
+loop-action-smaller-in-Set g c = omega (arith, one_fewer _ _ _ c.in-Some.ensures.popped)
 
-pub loop-action-smaller-else-note : goal.loop-action-smaller-else-note
-loop-action-smaller-else-note g c = omega (arith, one_fewer _ _ _ c.in-Some.ensures.popped)
+pub loop-action-smaller-in-Cancel : goal.loop-action-smaller-in-Cancel
+loop-action-smaller-in-Cancel g c = omega (arith, one_fewer _ _ _ c.in-Some.ensures.popped)
+
+pub loop-action-smaller-in-Update : goal.loop-action-smaller-in-Update
+loop-action-smaller-in-Update g c = omega (arith, one_fewer _ _ _ c.in-Some.ensures.popped)
+
+pub loop-action-smaller-in-Send : goal.loop-action-smaller-in-Send
+loop-action-smaller-in-Send g c = omega (arith, one_fewer _ _ _ c.in-Some.ensures.popped)
 
 pub loop-action-smaller : goal.loop-action-smaller
 loop-action-smaller g c = omega (arith, one_fewer _ _ _ c.in-Some.ensures.popped)
@@ -58,15 +68,25 @@ push-requires-in-NextEvent g c =
     let fewer = one_fewer _ _ _ c.in-Some.ensures.popped in
     (c.requires.inserts_fit, omega (arith, fewer, c.loop-action.invariant.1.reserved_for_inserts))
 
-pub note-requires : goal.note-requires
-note-requires g c =
+pub ask-requires : goal.ask-requires
+ask-requires g c =
     let fewer = one_fewer _ _ _ c.in-Some.ensures.popped in
-    omega (arith, fewer, c.loop-action.invariant.1.room)
+    (c.requires.settings_fit, (c.requires.settings_fit, (omega (arith, fewer, c.loop-action.invariant.1.reserved_for_settings), omega (arith, fewer, c.loop-action.invariant.1.room))))
 
-pub push-requires-then-note : goal.push-requires-then-note
-push-requires-then-note g c =
+pub ask-requires-in-Cancel : goal.ask-requires-in-Cancel
+ask-requires-in-Cancel g c =
     let fewer = one_fewer _ _ _ c.in-Some.ensures.popped in
-    (c.requires.settings_fit, omega (arith, fewer, c.loop-action.invariant.1.reserved_for_settings))
+    (c.requires.settings_fit, (c.requires.settings_fit, (omega (arith, fewer, c.loop-action.invariant.1.reserved_for_settings), omega (arith, fewer, c.loop-action.invariant.1.room))))
+
+pub ask-requires-in-Update : goal.ask-requires-in-Update
+ask-requires-in-Update g c =
+    let fewer = one_fewer _ _ _ c.in-Some.ensures.popped in
+    (c.requires.settings_fit, (c.requires.settings_fit, (omega (arith, fewer, c.loop-action.invariant.1.reserved_for_settings), omega (arith, fewer, c.loop-action.invariant.1.room))))
+
+pub push-requires-in-Send : goal.push-requires-in-Send
+push-requires-in-Send g c =
+    let fewer = one_fewer _ _ _ c.in-Some.ensures.popped in
+    (c.requires.sends_fit, omega (arith, fewer, c.loop-action.invariant.1.reserved_for_sends))
 
 pub loop-action-preserved-in-Reply : goal.loop-action-preserved-in-Reply
 loop-action-preserved-in-Reply g c =
@@ -82,10 +102,12 @@ loop-action-preserved-in-Reply g c =
         postpone = kept.postpone;
         inserts = kept.inserts;
         settings = kept.settings;
+        sends = kept.sends;
         noted = kept.noted;
         reserved_for_replies = omega (arith, fewer, reserved, kept.reserved_for_replies);
         reserved_for_inserts = omega (arith, fewer, kept.reserved_for_inserts);
         reserved_for_settings = omega (arith, fewer, kept.reserved_for_settings);
+        reserved_for_sends = omega (arith, fewer, kept.reserved_for_sends);
         room = omega (arith, fewer, kept.room);
       },
     )
@@ -103,10 +125,12 @@ loop-action-preserved-in-Postpone g c =
         postpone = λ given. kept.postpone c.in-Postpone.last ∙ (first_decides c.loop-action.postpone c.in-Postpone.last given ∙ sym (ap (λ postpone. unwrap_or postpone given) c.or-postpone.ensures));
         inserts = kept.inserts;
         settings = kept.settings;
+        sends = kept.sends;
         noted = kept.noted;
         reserved_for_replies = omega (arith, fewer, kept.reserved_for_replies);
         reserved_for_inserts = omega (arith, fewer, kept.reserved_for_inserts);
         reserved_for_settings = omega (arith, fewer, kept.reserved_for_settings);
+        reserved_for_sends = omega (arith, fewer, kept.reserved_for_sends);
         room = omega (arith, fewer, kept.room);
       },
     )
@@ -125,10 +149,105 @@ loop-action-preserved-in-NextEvent g c =
         postpone = kept.postpone;
         inserts = one_before _ _ _ _ (ap (λ b. b.items) c.push-in-NextEvent.ensures.pushed) kept.inserts;
         settings = kept.settings;
+        sends = kept.sends;
         noted = kept.noted;
         reserved_for_replies = omega (arith, fewer, kept.reserved_for_replies);
         reserved_for_inserts = omega (arith, fewer, reserved, kept.reserved_for_inserts);
         reserved_for_settings = omega (arith, fewer, kept.reserved_for_settings);
+        reserved_for_sends = omega (arith, fewer, kept.reserved_for_sends);
+        room = omega (arith, fewer, kept.room);
+      },
+    )
+
+pub loop-action-preserved-in-Set : goal.loop-action-preserved-in-Set
+loop-action-preserved-in-Set g c =
+    let taken = c.loop-action.invariant.0 in
+    let kept = c.loop-action.invariant.1 in
+    let fewer = one_fewer _ _ _ c.in-Some.ensures.popped in
+    let popped = c.in-Some.ensures.popped ∙ ap (λ action. c.pop.new.self ++ action ∷ []) c.in-Set.is in (
+      Set c.in-Set.timer c.in-Set.time c.in-Set.content ∷ taken,
+      record {
+        whole = taken_before _ _ _ _ _ popped kept.whole;
+        replies = kept.replies;
+        postpone = kept.postpone;
+        inserts = kept.inserts;
+        settings = asked_before c.in-Set.timer (asked.Set c.in-Set.time c.in-Set.content) _ _ _ taken c.ask.ensures.asked (kept.noted c.in-Set.timer) kept.settings;
+        sends = kept.sends;
+        noted = λ other. c.ask.ensures.noted other ∙ ap (λ noted. same_timer other c.in-Set.timer || noted) (kept.noted other);
+        reserved_for_replies = omega (arith, fewer, kept.reserved_for_replies);
+        reserved_for_inserts = omega (arith, fewer, kept.reserved_for_inserts);
+        reserved_for_settings = omega (arith, fewer, c.ask.ensures.reserved, kept.reserved_for_settings);
+        reserved_for_sends = omega (arith, fewer, kept.reserved_for_sends);
+        room = omega (arith, fewer, c.ask.ensures.room, kept.room);
+      },
+    )
+
+pub loop-action-preserved-in-Cancel : goal.loop-action-preserved-in-Cancel
+loop-action-preserved-in-Cancel g c =
+    let taken = c.loop-action.invariant.0 in
+    let kept = c.loop-action.invariant.1 in
+    let fewer = one_fewer _ _ _ c.in-Some.ensures.popped in
+    let popped = c.in-Some.ensures.popped ∙ ap (λ action. c.pop.new.self ++ action ∷ []) c.in-Cancel.is in (
+      Cancel c.in-Cancel.timer ∷ taken,
+      record {
+        whole = taken_before _ _ _ _ _ popped kept.whole;
+        replies = kept.replies;
+        postpone = kept.postpone;
+        inserts = kept.inserts;
+        settings = asked_before c.in-Cancel.timer asked.Cancel _ _ _ taken c.ask-in-Cancel.ensures.asked (kept.noted c.in-Cancel.timer) kept.settings;
+        sends = kept.sends;
+        noted = λ other. c.ask-in-Cancel.ensures.noted other ∙ ap (λ noted. same_timer other c.in-Cancel.timer || noted) (kept.noted other);
+        reserved_for_replies = omega (arith, fewer, kept.reserved_for_replies);
+        reserved_for_inserts = omega (arith, fewer, kept.reserved_for_inserts);
+        reserved_for_settings = omega (arith, fewer, c.ask-in-Cancel.ensures.reserved, kept.reserved_for_settings);
+        reserved_for_sends = omega (arith, fewer, kept.reserved_for_sends);
+        room = omega (arith, fewer, c.ask-in-Cancel.ensures.room, kept.room);
+      },
+    )
+
+pub loop-action-preserved-in-Update : goal.loop-action-preserved-in-Update
+loop-action-preserved-in-Update g c =
+    let taken = c.loop-action.invariant.0 in
+    let kept = c.loop-action.invariant.1 in
+    let fewer = one_fewer _ _ _ c.in-Some.ensures.popped in
+    let popped = c.in-Some.ensures.popped ∙ ap (λ action. c.pop.new.self ++ action ∷ []) c.in-Update.is in (
+      Update c.in-Update.timer c.in-Update.content ∷ taken,
+      record {
+        whole = taken_before _ _ _ _ _ popped kept.whole;
+        replies = kept.replies;
+        postpone = kept.postpone;
+        inserts = kept.inserts;
+        settings = asked_before c.in-Update.timer (asked.Update c.in-Update.content) _ _ _ taken c.ask-in-Update.ensures.asked (kept.noted c.in-Update.timer) kept.settings;
+        sends = kept.sends;
+        noted = λ other. c.ask-in-Update.ensures.noted other ∙ ap (λ noted. same_timer other c.in-Update.timer || noted) (kept.noted other);
+        reserved_for_replies = omega (arith, fewer, kept.reserved_for_replies);
+        reserved_for_inserts = omega (arith, fewer, kept.reserved_for_inserts);
+        reserved_for_settings = omega (arith, fewer, c.ask-in-Update.ensures.reserved, kept.reserved_for_settings);
+        reserved_for_sends = omega (arith, fewer, kept.reserved_for_sends);
+        room = omega (arith, fewer, c.ask-in-Update.ensures.room, kept.room);
+      },
+    )
+
+pub loop-action-preserved-in-Send : goal.loop-action-preserved-in-Send
+loop-action-preserved-in-Send g c =
+    let taken = c.loop-action.invariant.0 in
+    let kept = c.loop-action.invariant.1 in
+    let fewer = one_fewer _ _ _ c.in-Some.ensures.popped in
+    let popped = c.in-Some.ensures.popped ∙ ap (λ action. c.pop.new.self ++ action ∷ []) c.in-Send.is in
+    let reserved = ap (λ b. b.reserved) c.push-in-Send.ensures.pushed in (
+      Send c.in-Send.target c.in-Send.content ∷ taken,
+      record {
+        whole = taken_before _ _ _ _ _ popped kept.whole;
+        replies = kept.replies;
+        postpone = kept.postpone;
+        inserts = kept.inserts;
+        settings = kept.settings;
+        sends = one_before _ _ _ (c.in-Send.target, c.in-Send.content) (ap (λ b. b.items) c.push-in-Send.ensures.pushed) kept.sends;
+        noted = kept.noted;
+        reserved_for_replies = omega (arith, fewer, kept.reserved_for_replies);
+        reserved_for_inserts = omega (arith, fewer, kept.reserved_for_inserts);
+        reserved_for_settings = omega (arith, fewer, kept.reserved_for_settings);
+        reserved_for_sends = omega (arith, fewer, reserved, kept.reserved_for_sends);
         room = omega (arith, fewer, kept.room);
       },
     )
@@ -146,61 +265,13 @@ loop-action-preserved g c =
         postpone = kept.postpone;
         inserts = kept.inserts;
         settings = kept.settings;
+        sends = kept.sends;
         noted = kept.noted;
         reserved_for_replies = omega (arith, fewer, kept.reserved_for_replies);
         reserved_for_inserts = omega (arith, fewer, kept.reserved_for_inserts);
         reserved_for_settings = omega (arith, fewer, kept.reserved_for_settings);
+        reserved_for_sends = omega (arith, fewer, kept.reserved_for_sends);
         room = omega (arith, fewer, kept.room);
-      },
-    )
-
--- the setting is the last of its timer
-pub loop-action-preserved-then-note : goal.loop-action-preserved-then-note
-loop-action-preserved-then-note g c =
-    let taken = c.loop-action.invariant.0 in
-    let kept = c.loop-action.invariant.1 in
-    let fewer = one_fewer _ _ _ c.in-Some.ensures.popped in
-    let popped = c.in-Some.ensures.popped ∙ ap (λ action. c.pop.new.self ++ action ∷ []) c.in-Set.is in
-    let reserved = ap (λ b. b.reserved) c.push-then-note.ensures.pushed in
-    let last : sets c.in-Set.timer taken ≡ false =
-    sym (kept.noted c.in-Set.timer) ∙ not-true _ (sym c.note.ensures.was_new ∙ c.if-note.true) in (
-      Set c.in-Set.timer c.in-Set.time c.in-Set.content ∷ taken,
-      record {
-        whole = taken_before _ _ _ _ _ popped kept.whole;
-        replies = kept.replies;
-        postpone = kept.postpone;
-        inserts = kept.inserts;
-        settings = setting_stays c.in-Set.timer c.in-Set.time c.in-Set.content _ taken last
-            (one_before _ _ _ _ (ap (λ b. b.items) c.push-then-note.ensures.pushed) kept.settings);
-        noted = λ other. c.note.ensures.noted other ∙ ap (λ noted. same_timer other c.in-Set.timer || noted) (kept.noted other);
-        reserved_for_replies = omega (arith, fewer, kept.reserved_for_replies);
-        reserved_for_inserts = omega (arith, fewer, kept.reserved_for_inserts);
-        reserved_for_settings = omega (arith, fewer, reserved, kept.reserved_for_settings);
-        room = omega (arith, fewer, c.note.ensures.room, kept.room);
-      },
-    )
-
--- a later setting of its timer decides
-pub loop-action-preserved-else-note : goal.loop-action-preserved-else-note
-loop-action-preserved-else-note g c =
-    let taken = c.loop-action.invariant.0 in
-    let kept = c.loop-action.invariant.1 in
-    let fewer = one_fewer _ _ _ c.in-Some.ensures.popped in
-    let popped = c.in-Some.ensures.popped ∙ ap (λ action. c.pop.new.self ++ action ∷ []) c.in-Set.is in
-    let later : sets c.in-Set.timer taken ≡ true =
-    sym (kept.noted c.in-Set.timer) ∙ not-false _ (sym c.note.ensures.was_new ∙ c.if-note.false) in (
-      Set c.in-Set.timer c.in-Set.time c.in-Set.content ∷ taken,
-      record {
-        whole = taken_before _ _ _ _ _ popped kept.whole;
-        replies = kept.replies;
-        postpone = kept.postpone;
-        inserts = kept.inserts;
-        settings = setting_goes c.in-Set.timer c.in-Set.time c.in-Set.content _ taken later kept.settings;
-        noted = λ other. c.note.ensures.noted other ∙ ap (λ noted. same_timer other c.in-Set.timer || noted) (kept.noted other);
-        reserved_for_replies = omega (arith, fewer, kept.reserved_for_replies);
-        reserved_for_inserts = omega (arith, fewer, kept.reserved_for_inserts);
-        reserved_for_settings = omega (arith, fewer, kept.reserved_for_settings);
-        room = omega (arith, fewer, c.note.ensures.room, kept.room);
       },
     )
 
@@ -209,8 +280,25 @@ pub returns-clause-planned : goal.returns-clause-planned
 returns-clause-planned g c =
     let kept = c.loop-action.invariant.1 in
     let all = rw (c.in_default-pop.ensures.end.0 refl) at kept.whole in
-    planned_whole c.args.actions c.in_order-replies.result _ c.in_order-inserts.result c.in_order-settings.result
+    planned_whole c.args.actions c.in_order-replies.result _ c.in_order-inserts.result c.in_order-settings.result c.in_order-sends.result
     (c.in_order-replies.ensures ∙ (kept.replies ∙ ap replies_of all))
     (c.unwrap_or.ensures ∙ (sym (kept.postpone false) ∙ ap postpone_of all))
     (c.in_order-inserts.ensures ∙ (kept.inserts ∙ ap inserts_of all))
     (c.in_order-settings.ensures ∙ (kept.settings ∙ ap settings_of all))
+    (c.in_order-sends.ensures ∙ (kept.sends ∙ ap sends_of all))
+
+-- a short list wants no memory
+pub returns-in_default-clause-inline : goal.returns-in_default-clause-inline
+returns-in_default-clause-inline g c = λ few. c.in_default.ensures.inline (omega (arith, few, c.len-count.ensures.length))
+
+pub returns-in_default-with_reserved-clause-inline : goal.returns-in_default-with_reserved-clause-inline
+returns-in_default-with_reserved-clause-inline g c = λ few. c.in_default-with_reserved.ensures.inline (omega (arith, few, c.len-count.ensures.length))
+
+pub returns-in_default-with_reserved-2-clause-inline : goal.returns-in_default-with_reserved-2-clause-inline
+returns-in_default-with_reserved-2-clause-inline g c = λ few. c.in_default-with_reserved-2.ensures.inline (omega (arith, few, c.len-count.ensures.length))
+
+pub returns-in_default-with_reserved-3-clause-inline : goal.returns-in_default-with_reserved-3-clause-inline
+returns-in_default-with_reserved-3-clause-inline g c = λ few. c.in_default-with_reserved-3.ensures.inline (omega (arith, few, c.len-count.ensures.length))
+
+pub returns-in_default-with_reserved-4-clause-inline : goal.returns-in_default-with_reserved-4-clause-inline
+returns-in_default-with_reserved-4-clause-inline g c = λ few. c.in_default-with_reserved-4.ensures.inline (omega (arith, few, c.len-count.ensures.length))

@@ -1,8 +1,8 @@
 use Rattle.std.proofs.Common.{Some, refl, sym, ap, ◌∙◌}
 use Rattle.st_events.specs.declared.action.Action.TheVariants.{NextEvent, Hibernate}
-use Rattle.st_actions.specs.Plan.{replies_of, inserts_of}
-use Rattle.st_actions.specs.Taking.{all_settings_of, as_reply, as_insert, as_setting}
-use Rattle.st_actions.proofs.TakingLemmas.{none_at, last_out, other_out, none_behind, none_behind_out, replies_are, inserts_are, settings_are}
+use Rattle.st_actions.specs.Plan.{replies_of, inserts_of, sends_of}
+use Rattle.st_actions.specs.Taking.{all_settings_of, as_reply, as_insert, as_setting, as_send}
+use Rattle.st_actions.proofs.TakingLemmas.{none_at, last_out, other_out, none_behind, none_behind_out, replies_are, inserts_are, settings_are, sends_are}
 use Rattle.st_actions.proofs.taking.take_insert.Goals as goal
 
 pub returns-then-not-is_insert_at-clause-none_behind : goal.returns-then-not-is_insert_at-clause-none_behind
@@ -31,4 +31,10 @@ pub returns-clause-same_replies : goal.returns-clause-same_replies
 returns-clause-same_replies g c =
     rw c.replace.ensures.put_in
     (other_out as_reply Hibernate refl replies_of replies_are c.args.actions.now c.args.index (NextEvent c.in-Some-NextEvent.kind c.in-Some-NextEvent.content)
+    (sym c.in-Some-NextEvent.ensures.replaced ∙ ap Some c.in-Some-NextEvent.field-0-is) refl)
+
+pub returns-clause-same_sends : goal.returns-clause-same_sends
+returns-clause-same_sends g c =
+    rw c.replace.ensures.put_in
+    (other_out as_send Hibernate refl sends_of sends_are c.args.actions.now c.args.index (NextEvent c.in-Some-NextEvent.kind c.in-Some-NextEvent.content)
     (sym c.in-Some-NextEvent.ensures.replaced ∙ ap Some c.in-Some-NextEvent.field-0-is) refl)

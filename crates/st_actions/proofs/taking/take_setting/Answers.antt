@@ -1,7 +1,8 @@
-use Rattle.std.proofs.Common.{Some, refl, sym, ap, ◌∙◌}
-use Rattle.st_events.specs.declared.action.Action.TheVariants.{Set, Hibernate}
-use Rattle.st_actions.specs.Taking.{all_settings_of, as_setting}
-use Rattle.st_actions.proofs.TakingLemmas.{none_at, first_out, none_in_front, none_in_front_out, settings_are}
+use Rattle.std.proofs.Common.{refl, sym, ◌∙◌}
+use Rattle.st_events.specs.declared.action.Action.TheVariants.{Hibernate}
+use Rattle.st_actions.specs.Plan.{sends_of}
+use Rattle.st_actions.specs.Taking.{all_settings_of, as_setting, as_send}
+use Rattle.st_actions.proofs.TakingLemmas.{none_at, some_at, first_taken, other_out, none_in_front, none_in_front_out, settings_are, sends_are, setting_is_no_send}
 use Rattle.st_actions.proofs.taking.take_setting.Goals as goal
 
 pub returns-then-not-is_setting_at-clause-none_before : goal.returns-then-not-is_setting_at-clause-none_before
@@ -12,10 +13,17 @@ returns-then-not-is_setting_at-clause-none_before g c =
 pub returns-clause-taken : goal.returns-clause-taken
 returns-clause-taken g c =
     rw c.replace.ensures.put_in
-    (first_out as_setting Hibernate refl all_settings_of settings_are c.args.actions.now c.args.index (Set c.in-Some-Set.timer c.in-Some-Set.time c.in-Some-Set.content) _
-    (sym c.in-Some-Set.ensures.replaced ∙ ap Some c.in-Some-Set.field-0-is) refl c.requires.first)
+    (first_taken as_setting Hibernate refl all_settings_of settings_are c.args.actions.now c.args.index c.in-Some.action c.setting_of.result
+    (sym c.in-Some.ensures.replaced) c.setting_of.ensures c.requires.first)
 
 pub returns-clause-none_before : goal.returns-clause-none_before
 returns-clause-none_before g c =
     rw c.replace.ensures.put_in
     (none_in_front_out as_setting Hibernate refl all_settings_of settings_are c.args.actions.now c.args.index c.requires.first)
+
+pub returns-clause-same_sends : goal.returns-clause-same_sends
+returns-clause-same_sends g c =
+    let setting = some_at as_setting c.args.actions.now c.args.index c.in-Some.action (sym c.is_setting_at.ensures ∙ c.if-not-is_setting_at.false) (sym c.in-Some.ensures.replaced) in
+    rw c.replace.ensures.put_in
+    (other_out as_send Hibernate refl sends_of sends_are c.args.actions.now c.args.index c.in-Some.action (sym c.in-Some.ensures.replaced)
+    (setting_is_no_send c.in-Some.action setting))

@@ -25,6 +25,8 @@ pub enum Call {
         now: u64,
         returned: Option<char>,
     },
+    /// Gives the time-out of a timer that runs this content. The old one comes back.
+    Update(Timer, char, char),
     /// A time-out leaves, or its expiry is handed out.
     Takes(Takes),
     /// A look at what runs.
@@ -53,6 +55,8 @@ pub enum Takes {
 pub enum Shows {
     /// The content of the time-out whose event has this number.
     Content(Timer, u64, Option<char>),
+    /// Whether a timer runs.
+    Runs(Timer, bool),
     /// Whether the time-out runs whose event has this number.
     IsLive(Timer, u64, bool),
     /// The first time-out that is due at once.
@@ -117,6 +121,7 @@ fn show<L: Ledger>(
         Shows::Content(timer, number, wanted) => {
             agree(rt, place, timeouts.content(timer, number).copied(), wanted);
         }
+        Shows::Runs(timer, wanted) => agree(rt, place, timeouts.runs(timer), wanted),
         Shows::IsLive(timer, number, wanted) => {
             agree(rt, place, timeouts.is_live(timer, number), wanted);
         }
@@ -162,6 +167,10 @@ fn make<L: Ledger>(
             holds(rt, "the moment is in range", now < 1 << 63);
             let old = set(rt, timeouts, timer, time, content, number, now, steps);
             agree(rt, place, old, returned);
+        }
+        Call::Update(timer, content, old) => {
+            holds(rt, "the timer runs", timeouts.runs(timer));
+            agree(rt, place, timeouts.update(timer, content), old);
         }
         Call::Takes(call) => take(rt, timeouts, place, call, steps),
         Call::Shows(call) => show(rt, timeouts, place, call, steps),

@@ -5,7 +5,7 @@ use st_cell::{
     Tag, Turned,
 };
 use st_core::{Call, Done, OneInline};
-use st_events::{Kind, Time, Timer};
+use st_events::{Decision, Kind, Time, Timer};
 use std::alloc::{AllocError, Global};
 
 /// The machine.
@@ -71,7 +71,7 @@ fn report(alloc: Global, turn: Turn) -> Result<Report<bool>, AllocError> {
     };
     let replied = vec![in alloc; tag(0); turn.replied]?;
     let inserted = vec![in alloc; 0; turn.inserted]?;
-    let set = vec![in alloc; (Timer::State, Time::Infinity); turn.set]?;
+    let set = vec![in alloc; (Timer::State, Decision::Set(Time::Infinity)); turn.set]?;
     Ok(Report {
         event: Some(turn.event),
         done: turn.done,

@@ -1,5 +1,4 @@
-use Rattle.std.proofs.Common.{◌∙◌, ap, sym, arith, length}
-use Rattle.std.specs.Prelude.{is_some}
+use Rattle.std.proofs.Common.{◌∙◌, ap, arith, length}
 use Rattle.st_timer_map.specs.Slots.{rows_of}
 use Rattle.st_timer_map.proofs.SlotLemmas.{rows_closed, length_closed}
 use Rattle.st_timer_map.proofs.slots.make_room.Goals as goal

@@ -1,6 +1,6 @@
 use Rattle.std.proofs.Common.{◌≡◌, length, sym, ap, ◌∙◌, arith, inl, inr}
 use Rattle.std.specs.Prelude.{is_some}
-use Rattle.st_timer_map.specs.Slots.{place_of, with_hole, slot_at, value_in}
+use Rattle.st_timer_map.specs.Slots.{place_of, slot_at, value_in}
 use Rattle.st_timer_map.proofs.SlotLemmas.{value_there, within_length, length_hole, places_put, rows_put}
 use Rattle.st_timer_map.proofs.IndexLemmas.{tells}
 use Rattle.st_timer_map.proofs.slots.put_last.Goals as goal

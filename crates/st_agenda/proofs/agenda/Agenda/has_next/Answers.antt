@@ -1,7 +1,6 @@
 use Rattle.std.proofs.Common.{◌≡◌, true, Option, Some, None, refl, sym, ap, ◌∙◌}
 use Rattle.std.specs.Prelude.{is_some}
 use Rattle.std.specs.Option.{option_map}
-use Rattle.st_timeouts.specs.Timeouts.{live}
 use Rattle.st_agenda.proofs.ChoiceLemmas.{no_name, next_is_event, next_is_expiry, next_is_none}
 use Rattle.st_agenda.proofs.agenda.Agenda.has_next.Goals as goal
 

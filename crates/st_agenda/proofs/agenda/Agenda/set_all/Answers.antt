@@ -1,6 +1,5 @@
-use Rattle.std.proofs.Common.{ap, ◌∙◌}
+use Rattle.std.proofs.Common.{◌∙◌}
 use Rattle.st_actions.specs.Taking.{all_settings_of}
-use Rattle.st_agenda.proofs.LawfulSetting.{set_next}
 use Rattle.st_agenda.proofs.LoopLemmas.{set_none_more, set_one_more}
 use Rattle.st_agenda.proofs.agenda.Agenda.set_all.Goals.{in-Some, in_default}
 use Rattle.st_agenda.proofs.agenda.Agenda.set_all.Goals as goal
@@ -14,10 +13,9 @@ loop-index-preserved g c =
     record {
       set = elim c.match-take_setting.branch [
         | in-Some w ↦
-            let next = ap (λ schedule. schedule.next_number) w.set.ensures.schedule ∙ set_next c.args.now before.schedule w.in-Some.setting in
             rw w.self-is
             (set_one_more c.args.now c.args.self.now.schedule (all_settings_of c.args.actions.now) before left rest c.take_setting.result c.take_setting.ensures.taken kept.set
-            w.in-Some.setting w.in-Some.is w.set.new.self w.set.ensures.schedule next w.set.ensures.reserved)
+            w.in-Some.setting w.in-Some.is w.set.new.self w.set.ensures.schedule w.set.ensures.reserved)
         | in_default w ↦ rw w.self-is
             (set_none_more c.args.now c.args.self.now.schedule (all_settings_of c.args.actions.now) before left rest c.take_setting.result c.take_setting.ensures.taken kept.set w.in_default.is)
       ];

@@ -7,7 +7,15 @@ use Rattle.st_core.specs.Transition.{with_moment}
 use Rattle.st_core.proofs.TransitionLemmas.{concluded_takes_memory, goes_on, stops, meets_same, or_old_twice}
 use Rattle.st_core.proofs.engine.Core.enter.Goals as goal
 
--- the list of calls finds no memory before anything changes
+-- the list of actions finds no memory before anything changes
+pub returns-in_err-data-clause-step : goal.returns-in_err-data-clause-step
+returns-in_err-data-clause-step g c handled called comes called_is =
+    let callbacks = callbacks_of g.M.Module g.M.State.PartialEq.eq c.args.self.now.module_ in
+    let machine = c.args.self.now.machine in
+    let told = err_from_is_err_and c.from_residual.result c.from_residual.ensures.1 in
+    inr (concluded_takes_memory callbacks (with_moment machine c.args.course.now) c.args.course.number called called.reason, rw (told.1, told.2) refl, refl)
+
+-- nor does the list of calls
 pub returns-in_err-push-clause-step : goal.returns-in_err-push-clause-step
 returns-in_err-push-clause-step g c handled called comes called_is =
     let callbacks = callbacks_of g.M.Module g.M.State.PartialEq.eq c.args.self.now.module_ in

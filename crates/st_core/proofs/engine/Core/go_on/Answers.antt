@@ -1,12 +1,14 @@
 use Rattle.std.proofs.Common.{◌≡◌, true, Some, length, max, refl, ap, sym, ◌∙◌, arith}
 use Rattle.std.specs.Option.{option_map}
-use Rattle.st_actions.specs.Counted.{numbers_taken}
+use Rattle.st_actions.proofs.OnceLemmas.{settings_once}
 use Rattle.st_actions.specs.Plan.{replies_of, inserts_of, postpone_of, settings_of}
 use Rattle.st_actions.specs.Taking.{all_settings_of}
 use Rattle.st_requests.specs.Requests.{taken_by}
 use Rattle.st_events.specs.declared.event.Event.{Event}
 use Rattle.st_agenda.specs.declared.schedule.Schedule.{Schedule}
-use Rattle.st_agenda.specs.Agenda.{Agenda, next_in, settled_in}
+use Rattle.st_agenda.specs.Agenda.{Agenda, next_in, settled_in, running_on}
+use Rattle.st_agenda.specs.Timing.{numbers_taken}
+use Rattle.st_agenda.proofs.LawfulTurn.{still_running}
 use Rattle.st_core.specs.Transition.{with_moment, has_numbers}
 use Rattle.st_core.proofs.StateLemmas.{settled_keeps}
 use Rattle.st_core.proofs.TransitionLemmas.{went_on_is, went_on_refused, machine_is, settled_is, enough_for_all}
@@ -18,7 +20,7 @@ returns-clause-step g c called comes =
     let machine = c.args.self.now.machine in
     let actions = c.args.actions.now in
     let old = c.self.inside in
-    let enough : has_numbers (with_moment machine c.args.course.now) called.actions ≡ true = rw (comes.actions, ← c.self.view_is) c.in-Ok.ensures.numbers in
+    let enough : has_numbers (with_moment machine c.args.course.now) called ≡ true = rw (comes.actions, comes.changed, ← c.self.view_is) c.in-Ok.ensures.numbers in
     let latest : c.max-self-inside.result ≡ max machine.latest c.args.course.now = rw (c.max-self-inside.ensures, ← c.self.view_is) refl in
     let same : c.prepare.new.agenda.schedule ≡ machine.schedule = rw (c.prepare.ensures.same_schedule, ← c.self.view_is) refl in
     let postponed : c.unwrap_or-postpone.result ≡ postpone_of called.actions = rw (c.unwrap_or-postpone.ensures, comes.actions) c.in-Ok.ensures.postpone in
@@ -43,7 +45,7 @@ pub returns-in-Err-clause-step : goal.returns-in-Err-clause-step
 returns-in-Err-clause-step g c called comes =
     let machine = c.args.self.now.machine in
     went_on_refused machine (with_moment machine c.args.course.now) _ c.args.course.number called c.in-Err.refusal
-    (rw (c.prepare.ensures.same_schedule, ← c.self.view_is) refl) (rw (comes.actions, ← c.self.view_is) c.in-Err.ensures.refusals)
+    (rw (c.prepare.ensures.same_schedule, ← c.self.view_is) refl) (rw (comes.actions, comes.changed, ← c.self.view_is) c.in-Err.ensures.refusals)
 
 pub answer_each-requires : goal.answer_each-requires
 answer_each-requires g c =
@@ -67,7 +69,7 @@ insert-requires g c =
     let inserts = c.answer_each.ensures.same_inserts ∙ c.prepare.ensures.same_inserts in
     let count = ap length c.answer_each.ensures.same_inserts in
     let few = ap length c.prepare.ensures.same_inserts in
-    let enough = enough_for_all old.agenda.schedule.next_number (length (inserts_of actions)) (numbers_taken (settings_of actions)) c.in-Ok.ensures.numbers in (
+    let enough = enough_for_all old.agenda.schedule.next_number (length (inserts_of actions)) (numbers_taken (running_on c.args.course.changed old.agenda.schedule) (settings_of actions)) c.in-Ok.ensures.numbers in (
       g.met.M.Module.lawful.actions_fit,
       (
         omega (arith, count, c.in-Ok.ensures.counted.inserts),
@@ -80,16 +82,24 @@ set_all-requires g c =
     let old = c.self.inside in
     let actions = c.args.actions.now in
     let next = ap (λ (s : Schedule _). s.next_number) c.prepare.ensures.same_schedule in
-    let enough = enough_for_all old.agenda.schedule.next_number (length (inserts_of actions)) (numbers_taken (settings_of actions)) c.in-Ok.ensures.numbers in
+    let enough = enough_for_all old.agenda.schedule.next_number (length (inserts_of actions)) (numbers_taken (running_on c.args.course.changed old.agenda.schedule) (settings_of actions)) c.in-Ok.ensures.numbers in
     let settings : all_settings_of c.insert.new.actions ≡ settings_of actions = c.insert.ensures.same_settings ∙ (c.answer_each.ensures.same_settings ∙ c.in-Ok.ensures.last) in
     let kept = ap (λ (a : Agenda _). a.reserved) c.insert.ensures.inserted in
     let more = ap (λ (a : Agenda _). a.schedule.next_number) c.insert.ensures.inserted in
     let count = ap length (c.answer_each.ensures.same_inserts ∙ c.prepare.ensures.same_inserts) in
-    rw settings (
+    let running : c.insert.new.self.schedule.running ≡ running_on c.args.course.changed old.agenda.schedule =
+    ap (λ (a : Agenda _). a.schedule.running) c.insert.ensures.inserted
+    ∙ (ap (λ (s : Schedule _). s.running) c.settle.ensures.schedule
+    ∙ (still_running c.prepare.new.agenda.schedule c.args.course.number c.unwrap_or-postpone.result c.args.course.changed
+    ∙ ap (λ (s : Schedule _). running_on c.args.course.changed s) c.prepare.ensures.same_schedule)) in
+    rw (settings, running) (
       g.met.M.Module.lawful.actions_fit,
       (
         omega (arith, c.max-self-inside.ensures, c.self.invariant.moment, c.requires.moment),
-        (omega (arith, kept, c.settle.ensures.reserved, c.in-Ok.ensures.reserved), omega (arith, more, count, next, c.settle.ensures.next_number, enough)),
+        (
+          settings_once actions,
+          (omega (arith, kept, c.settle.ensures.reserved, c.in-Ok.ensures.reserved), omega (arith, more, count, next, c.settle.ensures.next_number, enough)),
+        ),
       ),
     )
 
@@ -99,9 +109,9 @@ invariant_of-self-2 g c =
     let old = c.self.inside in
     let actions = c.args.actions.now in
     let next : option_map (λ (event : Event _). event.number) (next_in old.agenda.schedule) ≡ Some c.args.course.number = rw (← c.self.view_is) at c.requires.number_is in
-    let enough = enough_for_all old.agenda.schedule.next_number (length (inserts_of actions)) (numbers_taken (settings_of actions)) c.in-Ok.ensures.numbers in
+    let enough = enough_for_all old.agenda.schedule.next_number (length (inserts_of actions)) (numbers_taken (running_on c.args.course.changed old.agenda.schedule) (settings_of actions)) c.in-Ok.ensures.numbers in
     let settings : all_settings_of c.insert.new.actions ≡ settings_of actions = c.insert.ensures.same_settings ∙ (c.answer_each.ensures.same_settings ∙ c.in-Ok.ensures.last) in
     let inserts : inserts_of c.answer_each.new.actions ≡ inserts_of actions = c.answer_each.ensures.same_inserts ∙ c.prepare.ensures.same_inserts in
     rw (c.set_all.ensures, c.insert.ensures.inserted, c.settle.ensures.schedule, c.answer_each.ensures.answered, settings, inserts, c.prepare.ensures.same_replies, c.prepare.ensures.same_schedule, c.max-self-inside.ensures)
     (settled_keeps old.id old.agenda.schedule old.requests old.latest c.args.course.now old.ended c.args.course.number c.unwrap_or-postpone.result c.args.course.changed (inserts_of actions) (settings_of actions) (replies_of actions)
-    c.requires.moment next enough c.self.invariant)
+    c.requires.moment next (settings_once actions) enough c.self.invariant)

@@ -1,10 +1,13 @@
-use Rattle.std.proofs.Common.{◌≡◌, length, refl, ap, ◌∙◌}
-use Rattle.st_actions.specs.Counted.{numbers_taken}
+use Rattle.std.proofs.Common.{◌≡◌, false, [], length, refl, ap, ◌∙◌, arith}
+use Rattle.st_actions.proofs.OnceLemmas.{settings_once}
 use Rattle.st_actions.specs.Plan.{inserts_of, settings_of}
 use Rattle.st_actions.specs.Taking.{all_settings_of}
-use Rattle.st_agenda.specs.Agenda.{Agenda}
+use Rattle.st_agenda.specs.declared.schedule.Schedule.{Schedule}
+use Rattle.st_agenda.specs.Agenda.{Agenda, running_on}
+use Rattle.st_agenda.specs.Timing.{numbers_taken}
 use Rattle.st_core.specs.Start.{first_state}
-use Rattle.st_core.proofs.StartLemmas.{started_refused}
+use Rattle.st_core.proofs.LawfulLemmas.{none_runs}
+use Rattle.st_core.proofs.StartLemmas.{started_refused, started_is}
 use Rattle.st_core.proofs.StateLemmas.{begun_keeps}
 use Rattle.st_core.proofs.TransitionLemmas.{enough_for_all}
 use Rattle.st_core.proofs.engine.Core.run_from.Goals as goal
@@ -16,8 +19,48 @@ returns-in-Err g c =
       start = λ called same_calls same_actions.
           let machine = first_state c.args.opening.id c.args.state c.args.data c.args.opening.now c.args.opening.first in
           let next : c.new-agenda.result.schedule.next_number ≡ c.args.opening.first = ap (λ (a : Agenda _). a.schedule.next_number) c.new-agenda.ensures in
-          started_refused _ c.args.opening.module machine called c.in-Err.refusal (rw same_actions (rw next at c.in-Err.ensures.refusals))
+          let idle : running_on false c.new-agenda.result.schedule ≡ [] = ap (λ (a : Agenda _). running_on false a.schedule) c.new-agenda.ensures in
+          let why = rw (next, idle) at c.in-Err.ensures.refusals in
+          started_refused _ c.args.opening.module machine called c.in-Err.refusal (rw (same_actions, none_runs called.changed c.args.opening.first) why)
           (rw c.new.ensures refl);
+    }
+
+pub set_all-requires : goal.set_all-requires
+set_all-requires g c =
+    let actions = c.args.actions.now in
+    let next : c.new-agenda.result.schedule.next_number ≡ c.args.opening.first = ap (λ (a : Agenda _). a.schedule.next_number) c.new-agenda.ensures in
+    let idle : running_on false c.new-agenda.result.schedule ≡ [] = ap (λ (a : Agenda _). running_on false a.schedule) c.new-agenda.ensures in
+    let enough = enough_for_all c.args.opening.first (length (inserts_of actions)) (numbers_taken [] (settings_of actions)) (rw (next, idle) at c.in-Ok.ensures.numbers) in
+    let settings : all_settings_of c.insert.new.actions ≡ settings_of actions = c.insert.ensures.same_settings ∙ c.in-Ok.ensures.last in
+    let begun = c.prepare.ensures.same_schedule ∙ ap (λ (a : Agenda _). a.schedule) c.new-agenda.ensures in
+    let running : c.insert.new.self.schedule.running ≡ [] = ap (λ (a : Agenda _). a.schedule.running) c.insert.ensures.inserted ∙ ap (λ (s : Schedule _). s.running) begun in
+    let kept = ap (λ (a : Agenda _). a.reserved) c.insert.ensures.inserted in
+    let more = ap (λ (a : Agenda _). a.schedule.next_number) c.insert.ensures.inserted in
+    let first = ap (λ (s : Schedule _). s.next_number) begun in
+    let count = ap length c.prepare.ensures.same_inserts in
+    rw (settings, running) (
+      g.met.M.Module.lawful.actions_fit,
+      (
+        c.requires.moment,
+        (
+          settings_once actions,
+          (omega (arith, kept, c.in-Ok.ensures.reserved), omega (arith, more, first, count, enough)),
+        ),
+      ),
+    )
+
+-- the machine runs
+pub returns : goal.returns
+returns g c =
+    record {
+      start = λ called same_calls same_actions.
+          let machine = first_state c.args.opening.id c.args.state c.args.data c.args.opening.now c.args.opening.first in
+          let next : c.new-agenda.result.schedule.next_number ≡ c.args.opening.first = ap (λ (a : Agenda _). a.schedule.next_number) c.new-agenda.ensures in
+          let idle : running_on false c.new-agenda.result.schedule ≡ [] = ap (λ (a : Agenda _). running_on false a.schedule) c.new-agenda.ensures in
+          let settings : all_settings_of c.insert.new.actions ≡ settings_of c.args.actions.now = c.insert.ensures.same_settings ∙ c.in-Ok.ensures.last in
+          started_is _ c.args.opening.module machine called (rw (same_actions, none_runs called.changed c.args.opening.first) (rw (next, idle) at c.in-Ok.ensures.numbers))
+          (rw (c.set_all.ensures, c.insert.ensures.inserted, settings, c.prepare.ensures.same_inserts, c.prepare.ensures.same_schedule, c.new-agenda.ensures, c.new-2.ensures, same_actions) refl)
+          (rw (c.into_report-report.ensures, c.in-Ok.ensures.replied, c.in-Ok.ensures.inserted, c.in-Ok.ensures.set, c.prepare.ensures.same_calls, next, same_calls, same_actions) refl);
     }
 
 -- it can come about
@@ -25,7 +68,8 @@ pub invariant_of-core : goal.invariant_of-core
 invariant_of-core g c =
     let actions = c.args.actions.now in
     let next : c.new-agenda.result.schedule.next_number ≡ c.args.opening.first = ap (λ (a : Agenda _). a.schedule.next_number) c.new-agenda.ensures in
-    let enough = enough_for_all c.args.opening.first (length (inserts_of actions)) (numbers_taken (settings_of actions)) (rw next at c.in-Ok.ensures.numbers) in
+    let idle : running_on false c.new-agenda.result.schedule ≡ [] = ap (λ (a : Agenda _). running_on false a.schedule) c.new-agenda.ensures in
+    let enough = enough_for_all c.args.opening.first (length (inserts_of actions)) (numbers_taken [] (settings_of actions)) (rw (next, idle) at c.in-Ok.ensures.numbers) in
     let settings : all_settings_of c.insert.new.actions ≡ settings_of actions = c.insert.ensures.same_settings ∙ c.in-Ok.ensures.last in
     rw (c.set_all.ensures, c.insert.ensures.inserted, settings, c.prepare.ensures.same_inserts, c.prepare.ensures.same_schedule, c.new-agenda.ensures, c.new-2.ensures)
-    (begun_keeps c.args.opening.id c.args.opening.now c.args.opening.first (inserts_of actions) (settings_of actions) c.requires.moment enough)
+    (begun_keeps c.args.opening.id c.args.opening.now c.args.opening.first (inserts_of actions) (settings_of actions) c.requires.moment (settings_once actions) enough)

@@ -1,4 +1,4 @@
-use Rattle.std.proofs.Common.{length, map, ap, ◌∙◌}
+use Rattle.std.proofs.Common.{length, ap, ◌∙◌}
 use Rattle.std.specs.List.{filter}
 use Rattle.st_timeouts.specs.Entries.{listed_of}
 use Rattle.st_timeouts.specs.Order.{has_come}

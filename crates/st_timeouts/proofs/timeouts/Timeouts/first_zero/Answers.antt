@@ -1,4 +1,4 @@
-use Rattle.std.proofs.Common.{map, sym, ap, ◌∙◌}
+use Rattle.std.proofs.Common.{sym, ap, ◌∙◌}
 use Rattle.st_timeouts.specs.Entries.{listed_of}
 use Rattle.st_timeouts.specs.Timeouts.{first_of}
 use Rattle.st_timeouts.proofs.HandedLemmas.{first_zero_is}

@@ -1,4 +1,4 @@
-use Rattle.std.proofs.Common.{◌≡◌, map, false, refl, sym, ap, ◌∙◌}
+use Rattle.std.proofs.Common.{◌≡◌, false, refl, sym, ap, ◌∙◌}
 use Rattle.std.specs.Prelude.{None, Some}
 use Rattle.st_timeouts.specs.Entries.{listed_of}
 use Rattle.st_timeouts.specs.Running.{in_order}

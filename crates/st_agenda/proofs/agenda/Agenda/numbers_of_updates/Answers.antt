@@ -1,0 +1,22 @@
+use Rattle.std.proofs.Common.{sym, ◌∙◌, arith}
+use Rattle.st_agenda.specs.Agenda.{running_on}
+use Rattle.st_agenda.proofs.UpdateLemmas.{taken_begun, taken_same}
+use Rattle.st_agenda.proofs.agenda.Agenda.numbers_of_updates.Goals as goal
+
+pub loop-index-preserved-then-begins_anew : goal.loop-index-preserved-then-begins_anew
+loop-index-preserved-then-begins_anew g c =
+    let index = c.loop-index.index in
+    record {
+      counted = taken_begun (running_on c.args.changed c.args.self.now.schedule) c.args.actions.now _ index c.loop-index.numbers (omega (arith, c.loop-index-test.true))
+          c.loop-index.invariant.counted (sym c.begins_anew.ensures ∙ c.if-begins_anew.true);
+      few = omega (arith, c.loop-index.invariant.few, c.loop-index-test.true);
+    }
+
+pub loop-index-preserved : goal.loop-index-preserved
+loop-index-preserved g c =
+    let index = c.loop-index.index in
+    record {
+      counted = taken_same (running_on c.args.changed c.args.self.now.schedule) c.args.actions.now _ index c.loop-index.numbers (omega (arith, c.loop-index-test.true))
+          c.loop-index.invariant.counted (sym c.begins_anew.ensures ∙ c.if-begins_anew.false);
+      few = omega (arith, c.loop-index.invariant.few);
+    }

@@ -1,0 +1,227 @@
+//! How much a list asks for, and each kind of action taken out of it.
+use super::super::host::{Host, got, holds, same};
+use super::{decided, has, list, machine, tag};
+use st_actions::{Counts, count, count_last, take_insert, take_reply, take_send, take_setting};
+use st_events::{Actions, Decision, Kind, MachineId, Tag, Time, Timer};
+use std::alloc::Global;
+use std::process::Abort;
+
+/// Counts what a list asks for. A call that finds no memory leaves the list as it is, and is made again.
+fn counted(
+    rt: &Host<impl Abort>,
+    alloc: Global,
+    actions: &mut Actions<u64>,
+    letters: &[char],
+) -> Counts {
+    match count_last(alloc, actions) {
+        Ok(counts) => counts,
+        Err(_) => {
+            holds(rt, "four take no memory", letters.len() > 4);
+            has(rt, actions, letters);
+            rt.retry();
+            let again = count_last(alloc, actions);
+            got(rt, "one allocation alone is refused", again)
+        }
+    }
+}
+
+/// Looks that so much was counted.
+fn counts_are(rt: &impl Abort, counts: Counts, wanted: Counts) {
+    same(rt, "how many replies", &counts.replies, &wanted.replies);
+    same(rt, "how many inserts", &counts.inserts, &wanted.inserts);
+    same(rt, "how many settings", &counts.settings, &wanted.settings);
+    same(rt, "how many updates", &counts.updates, &wanted.updates);
+    same(rt, "how much is sent", &counts.sends, &wanted.sends);
+    same(rt, "how many numbers", &counts.numbers, &wanted.numbers);
+    same(rt, "the last postpone", &counts.postpone, &wanted.postpone);
+}
+
+/// Looks what a list asks for, and what is left of it.
+fn is_counted(
+    rt: &Host<impl Abort>,
+    alloc: Global,
+    letters: &[char],
+    left: &[char],
+    wanted: Counts,
+) {
+    let mut actions = list(rt, alloc, letters);
+    let counts = counted(rt, alloc, &mut actions, letters);
+    counts_are(rt, counts, wanted);
+    has(rt, &actions, left);
+    counts_are(rt, count(&actions), wanted);
+    drop(actions);
+}
+
+/// Nothing is counted.
+const NONE: Counts = Counts {
+    replies: 0,
+    inserts: 0,
+    settings: 0,
+    updates: 0,
+    sends: 0,
+    numbers: 0,
+    postpone: None,
+};
+
+#[test]
+fn what_is_asked_for_is_counted(rt: HostRuntime) {
+    let rt = Host::new(rt);
+    is_counted(&rt, rt.alloc(), &[], &[], NONE);
+    let one = Counts {
+        settings: 1,
+        postpone: Some(false),
+        ..NONE
+    };
+    is_counted(&rt, rt.alloc(), &['p', '0', 'k'], &['p', '0', 'k'], one);
+
+    // Of each timer the last setting is left.
+    let letters = ['1', 'r', 'k', 'i', '2', 's', 'p', 't', '9', 'i'];
+    let left = ['h', 'r', 'k', 'i', '2', 's', 'p', 't', '9', 'i'];
+    let wanted = Counts {
+        replies: 2,
+        inserts: 3,
+        settings: 2,
+        numbers: 5,
+        postpone: Some(true),
+        ..NONE
+    };
+    is_counted(&rt, rt.alloc(), &letters, &left, wanted);
+    rt.end();
+}
+
+#[test]
+fn cancels_updates_and_sends_are_counted(rt: HostRuntime) {
+    let rt = Host::new(rt);
+    // An update takes no number in any case.
+    let one = Counts {
+        settings: 1,
+        updates: 1,
+        ..NONE
+    };
+    is_counted(&rt, rt.alloc(), &['1', 'u'], &['h', 'u'], one);
+    let started = Counts {
+        settings: 1,
+        numbers: 1,
+        ..NONE
+    };
+    is_counted(&rt, rt.alloc(), &['u', '1'], &['h', '1'], started);
+
+    let letters = ['c', 'v', 'm', 'u', 'd', '1', 'n', 'i'];
+    let left = ['h', 'h', 'm', 'h', 'd', '1', 'n', 'i'];
+    let wanted = Counts {
+        inserts: 1,
+        settings: 2,
+        sends: 2,
+        numbers: 2,
+        ..NONE
+    };
+    is_counted(&rt, rt.alloc(), &letters, &left, wanted);
+    let letters = ['1', 'v', 'm', 'c', 'u', 'x', 'v', 'n', 'u'];
+    let left = ['h', 'h', 'm', 'h', 'h', 'h', 'v', 'n', 'u'];
+    let wanted = Counts {
+        settings: 2,
+        updates: 2,
+        sends: 2,
+        ..NONE
+    };
+    is_counted(&rt, rt.alloc(), &letters, &left, wanted);
+    rt.end();
+}
+
+/// Looks that these replies are taken out of a list, in their order, and no others.
+fn replies_leave(rt: &impl Abort, actions: &mut Actions<u64>, wanted: &[(Tag, u64)]) {
+    let mut count = 0usize;
+    for index in 0..actions.len() {
+        if let Some((tag, content)) = take_reply(actions, index) {
+            let (other, reply) = wanted.get(count).expect(rt, "no others are taken");
+            holds(rt, "the request", tag == *other);
+            holds(rt, "its reply", content == *reply);
+            count = count.saturating_add(1);
+        }
+    }
+    same(rt, "how many replies", &count, &wanted.len());
+}
+
+/// Looks that these events to be inserted are taken out of a list, the last one first, and no others.
+fn inserts_leave(rt: &impl Abort, actions: &mut Actions<u64>, wanted: &[(Kind, u64)]) {
+    let mut count = 0usize;
+    let mut index = actions.len();
+    while index > 0 {
+        index -= 1;
+        if let Some(insert) = take_insert(actions, index) {
+            let (kind, content) = wanted.get(count).expect(rt, "no others are taken");
+            holds(rt, "the kind", insert.kind == *kind);
+            holds(rt, "its content", insert.content == *content);
+            count = count.saturating_add(1);
+        }
+    }
+    same(rt, "how many inserts", &count, &wanted.len());
+}
+
+/// Looks that these settings are taken out of a list, in their order, and no others.
+fn settings_leave(rt: &impl Abort, actions: &mut Actions<u64>, wanted: &[(Timer, Decision, u64)]) {
+    let mut count = 0usize;
+    for index in 0..actions.len() {
+        if let Some(setting) = take_setting(actions, index) {
+            let (timer, decision, content) = wanted.get(count).expect(rt, "no others are taken");
+            let (found, held) = decided(&setting.asked);
+            holds(rt, "the timer", setting.timer == *timer);
+            holds(rt, "what is asked of it", found == *decision);
+            holds(rt, "the content", held == *content);
+            count = count.saturating_add(1);
+        }
+    }
+    same(rt, "how many settings", &count, &wanted.len());
+}
+
+/// Looks that this is taken out of a list, to be sent in its order, and no more.
+fn sends_leave(rt: &impl Abort, actions: &mut Actions<u64>, wanted: &[(MachineId, u64)]) {
+    let mut count = 0usize;
+    for index in 0..actions.len() {
+        if let Some((target, content)) = take_send(actions, index) {
+            let (other, sent) = wanted.get(count).expect(rt, "no more is taken");
+            holds(rt, "the machine", target == *other);
+            holds(rt, "what is sent to it", content == *sent);
+            count = count.saturating_add(1);
+        }
+    }
+    same(rt, "how much is sent", &count, &wanted.len());
+}
+
+#[test]
+fn each_kind_leaves_its_places(rt: HostRuntime) {
+    let rt = Host::new(rt);
+    let mut actions = list(&rt, rt.alloc(), &['r', 'i', '1', 's', 't', 'p', '0']);
+    let wanted = [(tag(1), 10), (tag(2), 20)];
+    replies_leave(&rt, &mut actions, &wanted);
+    has(&rt, &actions, &['h', 'i', '1', 'h', 't', 'p', '0']);
+    let wanted = [(Kind::Timeout(Timer::State), 40), (Kind::Internal, 30)];
+    inserts_leave(&rt, &mut actions, &wanted);
+    has(&rt, &actions, &['h', 'h', '1', 'h', 'h', 'p', '0']);
+    let wanted = [
+        (Timer::Named(1), Decision::Set(Time::After(1)), 50),
+        (Timer::Named(1), Decision::Set(Time::Infinity), 80),
+    ];
+    settings_leave(&rt, &mut actions, &wanted);
+    has(&rt, &actions, &['h', 'h', 'h', 'h', 'h', 'p', 'h']);
+    drop(actions);
+    rt.end();
+}
+
+#[test]
+fn cancels_updates_and_sends_leave_their_places(rt: HostRuntime) {
+    let rt = Host::new(rt);
+    let mut actions = list(&rt, rt.alloc(), &['u', 'm', 'c', 'r', 'n', '0']);
+    let wanted = [
+        (Timer::Named(1), Decision::Update, 110),
+        (Timer::Named(1), Decision::Cancel, 0),
+        (Timer::Named(1), Decision::Set(Time::Infinity), 80),
+    ];
+    settings_leave(&rt, &mut actions, &wanted);
+    has(&rt, &actions, &['h', 'm', 'h', 'r', 'n', 'h']);
+    let wanted = [(machine(4), 130), (machine(6), 140)];
+    sends_leave(&rt, &mut actions, &wanted);
+    has(&rt, &actions, &['h', 'h', 'h', 'r', 'h', 'h']);
+    drop(actions);
+    rt.end();
+}
