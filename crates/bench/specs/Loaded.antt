@@ -43,6 +43,7 @@ actions_of asked content state = elim content as (λ w. List (Action Work)) [
   | work.Set number after ↦ action.Set (timer.Named number) (time.After after) work.Keep ∷ []
   | work.Cancel number ↦ action.Set (timer.Named number) time.Infinity work.Keep ∷ []
   | work.Update number ↦ action.Update (timer.Named number) work.Keep ∷ []
+  | work.Send serial ↦ action.Send (record { slot = 0; serial = serial }) work.Keep ∷ []
 ]
 
 -- whether a piece of work leads to another state
@@ -57,6 +58,7 @@ leads_on content state = elim content as (λ w. Bool) [
   | work.Set number after ↦ false
   | work.Cancel number ↦ false
   | work.Update number ↦ false
+  | work.Send serial ↦ false
 ]
 
 -- the outcome: the next state, or both are kept

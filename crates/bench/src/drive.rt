@@ -74,6 +74,25 @@ pub fn post_and_turn<M: Module>(
     turn(core, now)
 }
 
+/// Posts a cast, makes one turn and takes a message out, so many times, and counts the messages.
+pub fn take_out_each<M: Module>(
+    core: &mut Core<M>,
+    content: M::Content,
+    count: u32,
+) -> Result<u64, Refusal>
+where
+    M::Content: Copy,
+{
+    let mut taken = 0u64;
+    for _ in 0..count {
+        post_and_turn(core, content, 0)?;
+        if core.take_out().is_some() {
+            taken = taken.saturating_add(1);
+        }
+    }
+    Ok(taken)
+}
+
 /// Posts a cast and makes one turn, so many times.
 pub fn post_and_turn_each<M: Module>(
     core: &mut Core<M>,

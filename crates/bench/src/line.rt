@@ -2,7 +2,7 @@
 use crate::cell::{call_in_cell, cast_in_cell, in_cell};
 use crate::drive::{
     call_each, cycle, end, expire_each, finish_backwards, finish_in_order, post_all_and_turn,
-    post_and_turn, post_and_turn_each, post_tick_and_turn, started, turn_each,
+    post_and_turn, post_and_turn_each, post_tick_and_turn, started, take_out_each, turn_each,
 };
 use crate::latch::{Latch, Press};
 use crate::load::{Load, Work};
@@ -55,6 +55,8 @@ pub enum Line {
     SetAndCancel,
     /// A time-out is updated, while so many run, of which it is one.
     Updates,
+    /// Casts that send a message each, which is taken out: these messages are counted.
+    Sends,
     /// Timers that are set in one list.
     Settings,
     /// Events that are inserted in one list.
@@ -101,7 +103,7 @@ pub enum Line {
 }
 
 /// Each line by its name.
-pub const LINES: [(&str, Line); 34] = [
+pub const LINES: [(&str, Line); 35] = [
     ("casts", Line::Casts),
     ("casts-beside", Line::CastsBeside),
     ("casts-with-ticks", Line::CastsWithTicks),
@@ -116,6 +118,7 @@ pub const LINES: [(&str, Line); 34] = [
     ("due-in-order", Line::DueInOrder),
     ("set-and-cancel", Line::SetAndCancel),
     ("updates", Line::Updates),
+    ("sends", Line::Sends),
     ("settings", Line::Settings),
     ("inserts", Line::Inserts),
     ("insert-lists", Line::InsertLists),
@@ -341,6 +344,7 @@ impl Line {
             Line::CastsWithTicks => post_tick_and_turn(core, Work::Keep, count),
             Line::PostedFirst => post_all_and_turn(core, Work::Keep, count),
             Line::Calls => call_each(core, Work::Answer, count),
+            Line::Sends => take_out_each(core, Work::Send(2), count),
             Line::Settings => post_and_turn(core, Work::SetMany(count), 0),
             Line::Inserts => cycle(core, &[Work::InsertMany(count)], 1),
             _ => post_and_turn_each(core, Work::Keep, count),

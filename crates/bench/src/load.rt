@@ -6,7 +6,8 @@ ghost use Rattle.st_events.specs.declared.init.Init.TheVariants as init;
 ghost use Rattle.bench.specs.Loaded.{settings_below, inserts_of, answer_to, actions_of, leads_on, loaded};
 
 use st_core::{
-    Action, Actions, EnterActions, EnterOutcome, Init, Kind, Module, Outcome, Reason, Time, Timer,
+    Action, Actions, EnterActions, EnterOutcome, Init, Kind, MachineId, Module, Outcome, Reason,
+    Time, Timer,
 };
 use std::alloc::{AllocError, Global};
 
@@ -34,6 +35,8 @@ pub enum Work {
     Cancel(u32),
     /// The time-out of the timer of this name has another content.
     Update(u32),
+    /// A message is sent to the machine with this serial.
+    Send(u64),
 }
 
 /// A machine that does what it is told. Its states are numbers from 0 on; its data is 0.
@@ -105,6 +108,7 @@ fn actions(
             one(alloc, stop)
         }
         Work::Update(number) => one(alloc, Action::Update(Timer::Named(number), Work::Keep)),
+        Work::Send(serial) => one(alloc, Action::Send(MachineId { slot: 0, serial }, Work::Keep)),
     }
 }
 

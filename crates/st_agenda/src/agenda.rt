@@ -3,7 +3,7 @@
 ghost use Rattle.std.specs.Prelude.{◌≡◌, ◌+◌, ◌-◌, ◌<◌, ◌≤◌, ◌^◌, [], ◌∷◌, ◌++◌, true, false, slice_get, Some, IfOk, IfErr, OnOk, OnErr, IsOk, ℕ, length, max, is_some};
 ghost use Rattle.std.specs.Option.{option_map, unwrap_or};
 ghost use Rattle.st_actions.specs.Counted.{starts_in};
-ghost use Rattle.st_actions.specs.Plan.{inserts_of};
+ghost use Rattle.st_actions.specs.Plan.{inserts_of, sends_of};
 ghost use Rattle.st_actions.specs.Taking.{all_settings_of};
 ghost use Rattle.st_timeouts.specs.Running.{running_of};
 ghost use Rattle.st_timeouts.specs.Timeouts.{name_of, live};
@@ -455,6 +455,7 @@ impl<C: Drop> Agenda<C> {
           staged = self.old.staged - count;
         } }
         ensures same_settings { all_settings_of actions.new ≡ all_settings_of actions.old }
+        ensures same_sends { sends_of actions.new ≡ sends_of actions.old }
     {
         self.pending.insert(count, actions);
         self.pending.in_order();
@@ -469,7 +470,8 @@ impl<C: Drop> Agenda<C> {
         requires once { AskedOnce (all_settings_of actions.old) }
         requires reserved { length (all_settings_of actions.old) ≤ self.old.reserved }
         requires numbers { self.old.schedule.next_number + numbers_taken self.old.schedule.running (all_settings_of actions.old) ≤ 2 ^ 63 }
-        ensures { self.new.schedule ≡ all_set_in now self.old.schedule (all_settings_of actions.old) }
+        ensures set { self.new.schedule ≡ all_set_in now self.old.schedule (all_settings_of actions.old) }
+        ensures same_sends { sends_of actions.new ≡ sends_of actions.old }
     {
         for index in 0..actions.len() {
             if let Some(setting) = take_setting(actions, index) {

@@ -1,6 +1,6 @@
 //! The events that wait: which comes next, what becomes of it, and where others come in.
 ghost use Rattle.std.specs.Prelude.{◌≡◌, ◌+◌, ◌-◌, ◌<◌, ◌≤◌, ◌^◌, true, false, [], ◌∷◌, ◌++◌, Some, IfOk, IfErr, OnOk, OnErr, is_some, length, map, max, option_copied};
-ghost use Rattle.st_actions.specs.Plan.{inserts_of};
+ghost use Rattle.st_actions.specs.Plan.{inserts_of, sends_of};
 ghost use Rattle.st_actions.specs.Taking.{all_settings_of};
 ghost use Rattle.st_agenda.specs.declared.slot.Slot.TheVariants as slot;
 ghost use Rattle.st_agenda.specs.Agenda.{items_in};
@@ -190,6 +190,7 @@ impl<C: Drop> Pending<C> {
           staged = self.old.staged - length (inserts_of actions.old);
         } }
         ensures same_settings { all_settings_of actions.new ≡ all_settings_of actions.old }
+        ensures same_sends { sends_of actions.new ≡ sends_of actions.old }
     {
         prove!(self.queue.before() <= self.queue.len());
         insert_at_cursor(&mut self.queue, count, actions, self.next_number);
@@ -268,6 +269,7 @@ fn insert_at_cursor<C: Drop>(
       staged = queue.old.staged - length (inserts_of actions.old);
     } }
     ensures same_settings { all_settings_of actions.new ≡ all_settings_of actions.old }
+    ensures same_sends { sends_of actions.new ≡ sends_of actions.old }
 {
     let mut left = count;
     let mut index = actions.len();

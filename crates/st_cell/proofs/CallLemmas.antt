@@ -18,8 +18,8 @@ use Rattle.st_core.specs.Run.{Meets}
 use Rattle.st_scheduled.specs.declared.step_answer.StepAnswer.{StepAnswer}
 use Rattle.st_scheduled.specs.declared.step_answer.StepAnswer.TheVariants as step
 use Rattle.st_scheduled.specs.Answered.{is_counted}
-use Rattle.st_scheduled.specs.ScheduledMachine.{ScheduledMachine, is_token_of, has_work}
-use Rattle.st_scheduled.specs.Serving.{content_of, refused_with, takes_memory_as, is_turn, retired, told_on, served_on, Tells, Serves}
+use Rattle.st_scheduled.specs.ScheduledMachine.{ScheduledMachine, is_token_of, has_event, has_message}
+use Rattle.st_scheduled.specs.Serving.{content_of, refused_with, takes_memory_as, is_turn, retired, served_idle, told_on, served_on, Tells, Serves}
 use Rattle.st_scheduled.proofs.CountLemmas.{takes_counted, turn_counted}
 use Rattle.st_cell.specs.declared.journal_entry.JournalEntry.{JournalEntry}
 use Rattle.st_cell.specs.declared.next.Next.{Next}
@@ -103,6 +103,8 @@ module _ {S C : Type 0} where
   next_done token (step.Stopped word) keeps is = refl
   next_done token (step.Replied taken) keeps is = refl
   next_done token (step.Collected shown) keeps is = refl
+  next_done token (step.TakenOut message) keeps is = refl
+  next_done token (step.Lost refusal) keeps is = refl
 
   pub next_refused : (token : Token) (answer : StepAnswer S C) (keeps : Bool) (refusal : Refusal) → done_as answer ≡ Err refusal
       → next_as token answer keeps ≡ Err (record { refusal = refusal; value = token })
@@ -115,6 +117,8 @@ module _ {S C : Type 0} where
   next_refused token (step.Stopped word) keeps refusal is = cc
   next_refused token (step.Replied taken) keeps refusal is = cc
   next_refused token (step.Collected shown) keeps refusal is = cc
+  next_refused token (step.TakenOut message) keeps refusal is = cc
+  next_refused token (step.Lost why) keeps refusal is = cc
 
 module _ {M S D C : Type 0} where
   -- where the machine alone changed of a cell that is another's equal, it alone changed of that
@@ -171,14 +175,21 @@ module _ {M S D C : Type 0} (callbacks : M → Callbacks S D C) where
   served_uncounted old new now answer (inl done) counted = ap is_counted done.0 ∙ counted
   served_uncounted old new now answer (inr none) counted = ap is_counted none.1
 
+  -- a machine that has no event stays, whether it has a message or not
+  idle_core : (sending : Bool) (old : ScheduledMachine M S D C)
+      → (if◌then◌else◌ {A = StepAnswer S C × ScheduledMachine M S D C} sending (step.Moved, old) (step.Rested, retired old)).1.core ≡ old.core
+  idle_core true old = refl
+  idle_core false old = refl
+
   -- a machine that has not ended after it was served had not ended before
   runs_by : (ended : Option (ℕ × ℕ)) (old new : ScheduledMachine M S D C) (now : ℕ) (answer : StepAnswer S C) → old.core.machine.ended ≡ ended
       → Serves callbacks old now answer new → new.core.machine.ended ≡ None → ended ≡ None
   runs_by None old new now answer is serves runs = refl
   runs_by (Some end) old new now answer is (inr none) runs = sym is ∙ (ap (λ (one : ScheduledMachine M S D C). one.core.machine.ended) (sym none.2) ∙ runs)
   runs_by (Some end) old new now answer is (inl done) runs =
-      let idle : has_work old.core ≡ false = ap (λ (one : Option (ℕ × ℕ)). is_none one && is_some (next_event_of old.core.machine)) is in
-      let same : (served_on callbacks old now).1.core ≡ old.core = ap (λ (work : Bool). (if work then told_on callbacks old (command.Turn now) else (step.Rested, retired old)).1.core) idle in
+      let idle : has_event old.core ≡ false = ap (λ (one : Option (ℕ × ℕ)). is_none one && is_some (next_event_of old.core.machine)) is in
+      let same : (served_on callbacks old now).1.core ≡ old.core = 
+      ap (λ (event : Bool). (if event then told_on callbacks old (command.Turn now) else served_idle old).1.core) idle ∙ idle_core (has_message old.core) old in
       sym is ∙ (sym (ap (λ (core : Machine M S D C). core.machine.ended) (ap (λ (one : ScheduledMachine M S D C). one.core) done.1 ∙ same)) ∙ runs)
 
   -- so there is room still
@@ -205,6 +216,8 @@ module _ {M S D C : Type 0} (callbacks : M → Callbacks S D C) where
   returned_as token (step.Stopped word) keeps = tt
   returned_as token (step.Replied taken) keeps = tt
   returned_as token (step.Collected shown) keeps = tt
+  returned_as token (step.TakenOut message) keeps = tt
+  returned_as token (step.Lost refusal) keeps = tt
 
   returned_by : (own : Bool) (old new : CellState M S D C) (token : Token) (now : ℕ) (result : Result Next (Refused Token))
       → TurnsBy callbacks own old token now result new → IfErr result (λ refused. refused.value ≡ token)

@@ -54,6 +54,8 @@ refused_uncounted step.Rested h = refl
 refused_uncounted (step.Stopped word) h = let same : false ≡ true = h in cc
 refused_uncounted (step.Replied taken) h = let same : false ≡ true = h in cc
 refused_uncounted (step.Collected shown) h = let same : false ≡ true = h in cc
+refused_uncounted (step.TakenOut message) h = let same : false ≡ true = h in cc
+refused_uncounted (step.Lost refusal) h = refl
 
 -- what is at most the next and is not the next
 below_next : (n most : ℕ) → n ≤ most + 1 → (n ≡ most + 1 → ⊥) → n ≤ most
@@ -348,6 +350,8 @@ module _ {M S D C : Type 0} where
     refused_same old now token keeps (step.Stopped word) refused is same = cc
     refused_same old now token keeps (step.Replied taken) refused is same = cc
     refused_same old now token keeps (step.Collected shown) refused is same = cc
+    refused_same old now token keeps (step.TakenOut message) refused is same = cc
+    refused_same old now token keeps (step.Lost refusal) refused is same = cc
 
     turns_by_refused : (own : Bool) (old new : CellState M S D C) (token : Token) (now : ℕ) (refused : Refused Token)
         → TurnsBy callbacks own old token now (Err refused) new → new ≡ old

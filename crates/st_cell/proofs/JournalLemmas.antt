@@ -41,6 +41,7 @@ module _ {S C : Type 0} where
   once_as entry content (answer.Reply taken) = omega arith
   once_as entry content (answer.Collect collected) = omega arith
   once_as entry content (answer.Stop stopped) = omega arith
+  once_as entry content (answer.TakeOut message) = omega arith
 
   once_by : (command : Command C) (said : Answer S C) → length (posted_by command said) ≤ 1
   once_by (command.Post entry content) said = once_as entry content said
@@ -49,6 +50,7 @@ module _ {S C : Type 0} where
   once_by (command.Reply tag content) said = omega arith
   once_by (command.Collect tag) said = omega arith
   once_by (command.Stop reason) said = omega arith
+  once_by command.TakeOut said = omega arith
 
   once_if : (test : Bool) (command : Command C) (said : Answer S C) → length (if test then posted_by command said else []) ≤ 1
   once_if true command said = once_by command said

@@ -44,6 +44,7 @@ call_takes_memory (command.Turn now) answer = is_counted answer || wants_numbers
 call_takes_memory (command.Reply tag content) answer = is_counted answer
 call_takes_memory (command.Collect tag) answer = is_counted answer
 call_takes_memory (command.Stop reason) answer = false
+call_takes_memory command.TakeOut answer = is_counted answer
 
 -- a port that posted an event has posted one more
 abbrev pub counted_at : ℕ → Bool → List ℕ → List ℕ

@@ -44,6 +44,7 @@ module _ {S C : Type 0} where
   posted_as entry content (answer.Reply taken) = []
   posted_as entry content (answer.Collect collected) = []
   posted_as entry content (answer.Stop stopped) = []
+  posted_as entry content (answer.TakeOut message) = []
 
   -- what was posted by a command that was answered so
   abbrev pub posted_by : Command C → Answer S C → List (Post C)
@@ -53,6 +54,7 @@ module _ {S C : Type 0} where
   posted_by (command.Reply tag content) answered = []
   posted_by (command.Collect tag) answered = []
   posted_by (command.Stop reason) answered = []
+  posted_by command.TakeOut answered = []
 
   -- what a port posted by an entry
   abbrev pub posted_in : ℕ → JournalEntry S C → List (Post C)

@@ -3,7 +3,9 @@ ghost use Rattle.std.specs.Prelude.{◌≡◌, Ok, IfOk};
 ghost use Rattle.st_core.specs.declared.answer.Answer.TheVariants as answer;
 
 use crate::JournalEntry;
-use st_core::{Answer, Collected, Command, PlainList, Refusal, Refused, Report, Turned};
+use st_core::{
+    Answer, Collected, Command, Message, PlainList, Refusal, Refused, Report, Turned,
+};
 use st_events::CopyContent;
 use std::alloc::{AllocError, Global};
 
@@ -22,6 +24,7 @@ fn copied_report<S: Copy>(report: &Report<S>, alloc: Global) -> Result<Report<S>
     let replied = copied_list(&report.replied, alloc)?;
     let inserted = copied_list(&report.inserted, alloc)?;
     let set = copied_list(&report.set, alloc)?;
+    let sent = copied_list(&report.sent, alloc)?;
     Ok(Report {
         event: report.event,
         done: report.done,
@@ -31,6 +34,7 @@ fn copied_report<S: Copy>(report: &Report<S>, alloc: Global) -> Result<Report<S>
         replied,
         inserted,
         set,
+        sent,
     })
 }
 
@@ -77,6 +81,28 @@ fn copied_posted<C: Drop, K: CopyContent<C>>(
     }
 }
 
+/// A copy of a message that was taken out, if one was.
+fn copied_taken<C: Drop, K: CopyContent<C>>(
+    taken: &Option<Message<C>>,
+    alloc: Global,
+    copier: &K,
+) -> Result<Option<Message<C>>, AllocError>
+    ensures { IfOk result (λ copy. copy ≡ taken.now) }
+{
+    match taken {
+        None => Ok(None),
+        Some(message) => {
+            let content = copier.copy_of(alloc, &message.content)?;
+            Ok(Some(Message {
+                sender: message.sender,
+                number: message.number,
+                target: message.target,
+                content,
+            }))
+        }
+    }
+}
+
 /// A copy of an answer.
 fn copied_answer<S: Copy + Drop, C: Drop, K: CopyContent<C>>(
     answer: &Answer<S, C>,
@@ -95,6 +121,7 @@ fn copied_answer<S: Copy + Drop, C: Drop, K: CopyContent<C>>(
             Ok(Answer::Collect(copied_collected(collected, alloc, copier)?))
         }
         Answer::Stop(stopped) => Ok(Answer::Stop(*stopped)),
+        Answer::TakeOut(taken) => Ok(Answer::TakeOut(copied_taken(taken, alloc, copier)?)),
     }
 }
 
@@ -115,6 +142,7 @@ fn copied_command<C: Drop, K: CopyContent<C>>(
         Command::Reply(tag, content) => Ok(Command::Reply(*tag, copier.copy_of(alloc, content)?)),
         Command::Collect(tag) => Ok(Command::Collect(*tag)),
         Command::Stop(reason) => Ok(Command::Stop(*reason)),
+        Command::TakeOut => Ok(Command::TakeOut),
     }
 }
 

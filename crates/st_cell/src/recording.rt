@@ -14,15 +14,15 @@ use crate::Next;
 use crate::journaled::Journaled;
 use st_core::{Answer, Collected, Command, Entry, Module, Reason, Refusal, Refused, Tag, Turned};
 use st_events::Token;
-use st_scheduled::{Posted, ServedOf, Ticked};
+use st_scheduled::{Posted, Served, ServedOf, Ticked};
 
 /// Whether it was refused that a machine is served, or done.
 fn done<M: Module>(served: ServedOf<M>) -> Result<(), Refusal>
     ensures { result ≡ done_as {C = M.Content} (served_as served) }
 {
     match served {
-        Ok(Some(_report)) => Ok(()),
-        Ok(None) => Ok(()),
+        Ok(Served::Turned(_report)) => Ok(()),
+        Ok(Served::Sending | Served::Rested) => Ok(()),
         Err(refusal) => Err(refusal),
     }
 }
@@ -170,12 +170,12 @@ impl<M: Module> Journaled<M> {
             return Err(Refusal::NoMemory);
         }
         match self.serve_scheduled(now) {
-            Ok(Some(report)) => {
+            Ok(Served::Turned(report)) => {
                 let answer = Answer::Turn(Ok(Turned::Reported(report)));
                 self.write(None, Command::Turn(now), answer);
                 Ok(())
             }
-            Ok(None) => Ok(()),
+            Ok(Served::Sending | Served::Rested) => Ok(()),
             Err(refusal) => Err(refusal),
         }
     }

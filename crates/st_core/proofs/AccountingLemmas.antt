@@ -38,6 +38,8 @@ use Rattle.st_core.specs.Tick.{with_expiries, expiring_of, tick_running}
 use Rattle.st_core.specs.Run.{Meets, Does, takes_memory, without_memory, step_of, Runs}
 use Rattle.st_core.specs.Lawful.{IsLawful}
 use Rattle.st_core.specs.Accounting.{waiting_in, finished_as, accepted_by, finished_by, accepted_in, finished_in, IsAccounted}
+use Rattle.std.proofs.lemmas.Bool.{and_parts}
+use Rattle.st_agenda.specs.Timing as timing
 use Rattle.st_core.proofs.TransitionLemmas.{enough_for_all}
 use Rattle.st_core.proofs.LawfulLemmas.{lawful_moment, does_meets, does_lawful}
 
@@ -208,7 +210,8 @@ module _ {S D C : Type 0} where
           finished_same (finished_by_done (postpone_of called.actions) number)
           (accounts_settled (with_moment machine now).latest machine.schedule number (postpone_of called.actions) called.changed
           (inserts_of called.actions) (settings_of called.actions) law_at.scheduled next (settings_once called.actions)
-          (enough_for_all machine.schedule.next_number (length (inserts_of called.actions)) (numbers_taken (running_on called.changed machine.schedule) (settings_of called.actions)) e))
+          (enough_for_all machine.schedule.next_number (length (inserts_of called.actions)) (numbers_taken (running_on called.changed machine.schedule) (settings_of called.actions))
+          (and_parts (timing.has_numbers machine.schedule.next_number (running_on called.changed machine.schedule) (inserts_of called.actions) (settings_of called.actions)) _ e).0))
       went_on_accounts number called next false e = accounts_unchanged
 
       concluded_accounts : (number : ℕ) (called : Called S D C) → option_map (λ (e : Event C). e.number) (next_in machine.schedule) ≡ Some number
@@ -241,6 +244,7 @@ module _ {S D C : Type 0} where
     without_memory_accounts (command.Reply tag content) = accounts_unchanged
     without_memory_accounts (command.Collect tag) = accounts_unchanged
     without_memory_accounts (command.Stop reason) = accounts_unchanged
+    without_memory_accounts command.TakeOut = accounts_unchanged
 
     -- a command to a machine that runs, and runs on
     step_accounts : (callbacks : Callbacks S D C) (command : Command C) → machine.ended ≡ None → (step_of callbacks machine command).1.ended ≡ None
@@ -256,6 +260,7 @@ module _ {S D C : Type 0} where
         (turn_accounts callbacks now (nat_lt now (2 ^ 63)) refl) still
     step_accounts callbacks (command.Reply tag content) runs still = accounts_unchanged
     step_accounts callbacks (command.Collect tag) runs still = accounts_unchanged
+    step_accounts callbacks command.TakeOut runs still = accounts_unchanged
     step_accounts callbacks (command.Stop reason) runs still =
         accounts_running answer.Stop machine.ended (λ refusal. Err refusal) machine (stop_running callbacks machine reason) runs (λ more. cc) still
 
@@ -281,6 +286,7 @@ module _ {S D C : Type 0} where
     step_runs machine (command.Turn now) still = unless_runs machine.ended _ machine (turn_running callbacks machine now) refl still
     step_runs machine (command.Reply tag content) still = still
     step_runs machine (command.Collect tag) still = still
+    step_runs machine command.TakeOut still = still
     step_runs machine (command.Stop reason) still = unless_runs machine.ended _ machine (stop_running callbacks machine reason) refl still
 
     met_runs : (without answer : Answer S C) (old new : MachineState S D C) (definition : Answer S C × MachineState S D C)

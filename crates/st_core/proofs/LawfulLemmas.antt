@@ -3,8 +3,7 @@ use Rattle.std.proofs.Common.{◌≡◌, ℕ, ◌+◌, ◌<◌, ◌^◌, Bool, t
 use Rattle.std.specs.Prelude.{Result, Ok, Err, nat_lt, max}
 use Rattle.std.specs.Option.{option_map}
 use Rattle.std.proofs.Math.Nat.{le-max_left}
-use Rattle.std.proofs.lemmas.Bool.{ltb-true, leb-true}
-use Rattle.st_events.specs.declared.action.Action.{Action}
+use Rattle.std.proofs.lemmas.Bool.{ltb-true, leb-true, and_parts}
 use Rattle.st_events.specs.declared.event.Event.{Event}
 use Rattle.st_events.specs.declared.init.Init.{Init}
 use Rattle.st_events.specs.declared.init.Init.TheVariants as init
@@ -12,7 +11,9 @@ use Rattle.st_events.specs.declared.machine_id.MachineId.{MachineId}
 use Rattle.st_events.specs.declared.refusal.Refusal.{Refusal}
 use Rattle.st_events.specs.declared.refused.Refused.{Refused}
 use Rattle.st_events.specs.declared.tag.Tag.{Tag}
-use Rattle.st_actions.specs.Plan.{replies_of, inserts_of, postpone_of, settings_of}
+use Rattle.st_actions.specs.Plan.{replies_of, inserts_of, postpone_of, settings_of, sends_of}
+use Rattle.st_outbox.proofs.OutboxLemmas.{lawful_first, lawful_sent, lawful_taken_out}
+use Rattle.st_core.specs.Messages.{take_out_of}
 use Rattle.st_requests.specs.declared.request.Request.{Request}
 use Rattle.st_requests.specs.Requests.{OneEach, AreOf, with_answer, with_answers, without_kept}
 use Rattle.st_requests.proofs.RequestLemmas.{one_each_opened, one_each_answer, one_each_kept, one_each_closed}
@@ -22,6 +23,7 @@ use Rattle.st_timeouts.specs.declared.running.Running.{Running as RunningTimeout
 use Rattle.st_agenda.specs.declared.schedule.Schedule.{Schedule}
 use Rattle.st_agenda.specs.Agenda.{inserted_in, running_on}
 use Rattle.st_agenda.specs.Timing.{numbers_taken}
+use Rattle.st_agenda.specs.Timing as timing
 use Rattle.st_agenda.proofs.LawfulSetting as schedule
 use Rattle.st_agenda.proofs.LawfulTurn.{settled_lawful, settled_next}
 use Rattle.st_core.specs.declared.answer.Answer.{Answer}
@@ -100,6 +102,17 @@ module _ {C : Type 0} where
   none_runs false next = refl
 
 module _ {S D C : Type 0} where
+  -- a message is taken out
+  pub lawful_out : (machine : MachineState S D C) → IsLawful machine → IsLawful (take_out_of machine).1
+  lawful_out machine law = record {
+    scheduled = law.scheduled;
+    one_each = law.one_each;
+    own = law.own;
+    sent = lawful_taken_out machine.id machine.outbox law.sent;
+    moment = law.moment;
+    over = law.over;
+  }
+
   -- ---- the parts of what commands do
   -- a moment comes
   pub lawful_moment : (machine : MachineState S D C) (now : ℕ) → now < 2 ^ 63 → IsLawful machine → IsLawful (with_moment machine now)
@@ -107,6 +120,7 @@ module _ {S D C : Type 0} where
     scheduled = schedule.lawful_later machine.latest (max machine.latest now) machine.schedule law.scheduled (le-max_left machine.latest now);
     one_each = law.one_each;
     own = law.own;
+    sent = law.sent;
     moment = both_early machine.latest now (2 ^ 63) law.moment early;
     over = law.over;
   }
@@ -118,6 +132,7 @@ module _ {S D C : Type 0} where
         scheduled = law.scheduled;
         one_each = one_each_answers machine.requests replies law.one_each;
         own = are_of_answers machine.id machine.schedule.next_number machine.requests replies law.own;
+        sent = law.sent;
         moment = law.moment;
         over = over_answers machine.schedule machine.requests machine.ended replies law.over;
       }
@@ -130,13 +145,17 @@ module _ {S D C : Type 0} where
       let postpone = postpone_of called.actions in
       let inserts = inserts_of called.actions in
       let settings = settings_of called.actions in
-      let reserved = leb-true (machine.schedule.next_number + (length inserts + numbers_taken (running_on called.changed machine.schedule) settings)) (2 ^ 63) numbers in
+      let running = running_on called.changed machine.schedule in
+      let enough = and_parts (timing.has_numbers machine.schedule.next_number running inserts settings) _ numbers in
+      let reserved = leb-true (machine.schedule.next_number + (length inserts + numbers_taken running settings)) (2 ^ 63) enough.0 in
       let once = settings_once called.actions in
+      let sends = sends_of called.actions in
       let after = with_settled machine number called in record {
         scheduled = settled_lawful machine.latest machine.schedule number postpone called.changed inserts settings law.scheduled next once reserved;
         one_each = law.one_each;
         own = are_of_later machine.id machine.schedule.next_number after.schedule.next_number machine.requests
             (settled_next machine.latest machine.schedule number postpone called.changed inserts settings law.scheduled next once reserved) law.own;
+        sent = lawful_sent machine.id machine.outbox sends (leb-true (machine.outbox.next_number + length sends) (2 ^ 63) enough.1) law.sent;
         moment = law.moment;
         over = not_over after.schedule machine.requests machine.ended runs;
       }
@@ -147,6 +166,7 @@ module _ {S D C : Type 0} where
     scheduled = schedule.lawful_empty machine.latest machine.schedule.next_number law.scheduled.bounded;
     one_each = one_each_closed reason machine.requests law.one_each;
     own = are_of_closed machine.id machine.schedule.next_number reason machine.requests law.own;
+    sent = law.sent;
     moment = law.moment;
     over = (refl, refl, refl, none_open_closed reason machine.requests);
   }
@@ -159,6 +179,7 @@ module _ {S D C : Type 0} where
         scheduled = schedule.lawful_posted machine.latest machine.schedule (posted_event machine entry content) refl reserved law.scheduled;
         one_each = opened_one_each machine.id machine.schedule.next_number entry machine.requests law.own law.one_each;
         own = opened_own machine.id machine.schedule.next_number entry machine.requests law.own;
+        sent = law.sent;
         moment = law.moment;
         over = not_over after.schedule after.requests machine.ended runs;
       }
@@ -169,6 +190,7 @@ module _ {S D C : Type 0} where
     scheduled = schedule.lawful_expired machine.latest machine.schedule law.scheduled;
     one_each = law.one_each;
     own = law.own;
+    sent = law.sent;
     moment = law.moment;
     over = not_over (with_expiries machine).schedule machine.requests machine.ended runs;
   }
@@ -215,6 +237,7 @@ module _ {S D C : Type 0} where
     scheduled = law.scheduled;
     one_each = one_each_answer tag content machine.requests law.one_each;
     own = are_of_answer machine.id machine.schedule.next_number machine.requests tag content law.own;
+    sent = law.sent;
     moment = law.moment;
     over = over_answer machine.schedule machine.requests machine.ended tag content law.over;
   }
@@ -224,6 +247,7 @@ module _ {S D C : Type 0} where
     scheduled = law.scheduled;
     one_each = one_each_kept tag machine.requests law.one_each;
     own = are_of_kept machine.id machine.schedule.next_number machine.requests tag law.own;
+    sent = law.sent;
     moment = law.moment;
     over = over_kept machine.schedule machine.requests machine.ended tag law.over;
   }
@@ -291,6 +315,7 @@ module _ {S D C : Type 0} where
   step_lawful callbacks machine (command.Reply tag content) law = reply_lawful machine tag content law
   step_lawful callbacks machine (command.Collect tag) law = collect_lawful machine tag law
   step_lawful callbacks machine (command.Stop reason) law = stop_lawful callbacks machine reason law
+  step_lawful callbacks machine command.TakeOut law = lawful_out machine law
 
   -- ---- starts
   -- a machine to which nothing was posted
@@ -300,18 +325,21 @@ module _ {S D C : Type 0} where
     scheduled = schedule.lawful_empty now first (omega (arith, reserved));
     one_each = tt;
     own = tt;
+    sent = lawful_first id;
     moment = early;
     over = tt;
   }
 
-  -- events are inserted, and what is asked of timers is done
+  -- events are inserted, what is asked of timers is done, and messages are sent
   pub with_begun_lawful : (machine : MachineState S D C) (called : Called S D C) → machine.ended ≡ None → machine.requests ≡ []
       → running_on called.changed machine.schedule ≡ machine.schedule.running
       → has_numbers machine called ≡ true → IsLawful machine → IsLawful (with_begun machine called.actions)
   with_begun_lawful machine called runs none running numbers law =
       let inserts = inserts_of called.actions in
       let settings = settings_of called.actions in
-      let reserved = leb-true (machine.schedule.next_number + (length inserts + numbers_taken (running_on called.changed machine.schedule) settings)) (2 ^ 63) numbers in
+      let sends = sends_of called.actions in
+      let enough = and_parts (timing.has_numbers machine.schedule.next_number (running_on called.changed machine.schedule) inserts settings) _ numbers in
+      let reserved = leb-true (machine.schedule.next_number + (length inserts + numbers_taken (running_on called.changed machine.schedule) settings)) (2 ^ 63) enough.0 in
       let same : numbers_taken (running_on called.changed machine.schedule) settings ≡ numbers_taken machine.schedule.running settings =
       ap (λ (one : List (RunningTimeout C)). numbers_taken one settings) running in
       let after = with_begun machine called.actions in record {
@@ -319,6 +347,7 @@ module _ {S D C : Type 0} where
             (schedule.lawful_inserted machine.latest machine.schedule inserts (omega (arith, reserved)) law.scheduled);
         one_each = law.one_each;
         own = none_own machine.id after.schedule.next_number machine.requests none;
+        sent = lawful_sent machine.id machine.outbox sends (leb-true (machine.outbox.next_number + length sends) (2 ^ 63) enough.1) law.sent;
         moment = law.moment;
         over = not_over after.schedule machine.requests machine.ended runs;
       }

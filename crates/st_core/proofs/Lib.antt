@@ -12,4 +12,5 @@ pub mod AccountingLemmas
 pub mod ChangeLemmas
 pub mod ReaderLemmas
 pub mod UntilIdleLemmas
-pub mod WorkLemmas
+pub mod OutboxLemmas
+pub mod SendingLemmas

@@ -13,7 +13,7 @@ use Rattle.st_core.specs.declared.start.Start.TheVariants.{Running}
 use Rattle.st_core.specs.declared.machine_state.MachineState.{MachineState}
 use Rattle.st_core.specs.Callbacks.{Callbacks, Called}
 use Rattle.st_core.specs.Start.{first_state, started_with, ended_with, begun_on, begun_as, with_begun, start_takes_memory, start_refused, start_report_of, Starts}
-use Rattle.st_core.specs.Transition.{has_numbers, inserted_by, decisions_of}
+use Rattle.st_core.specs.Transition.{has_numbers, inserted_by, sent_by, decisions_of}
 
 module _ (A : Type 0) {M S D C : Type 0} where
   of_both : (enough : Bool) (a b : Result (Start M S D C A) (Refused M)) → start_takes_memory a ≡ true → start_takes_memory b ≡ true
@@ -63,7 +63,7 @@ module _ (A : Type 0) {M S D C : Type 0} where
     -- the machine runs
     pub started_is : has_numbers machine called ≡ true
         → {after : MachineState S D C} {report : Report S} → after ≡ with_begun machine called.actions
-        → report ≡ start_report_of Started called.calls machine.state (inserted_by machine called.actions) (decisions_of (settings_of called.actions))
+        → report ≡ start_report_of Started called.calls machine.state (inserted_by machine called.actions) (decisions_of (settings_of called.actions)) (sent_by machine called.actions)
         → Starts {A = A} module_ (Ok (Running (record { module_ = module_; machine = after }) report)) (started_with module_ machine called)
     started_is h same_after same_report =
         rw (h, same_after, same_report) (inl refl)

@@ -11,6 +11,7 @@ use Rattle.st_events.specs.declared.insert.Insert.{Insert}
 use Rattle.st_events.specs.declared.refusal.Refusal.{Refusal}
 use Rattle.st_events.specs.declared.refusal.Refusal.TheVariants.{Exhausted, NoMemory}
 use Rattle.st_events.specs.declared.setting.Setting.{Setting}
+use Rattle.st_outbox.specs.declared.outbox.Outbox.{Outbox}
 use Rattle.st_requests.specs.declared.request.Request.{Request}
 use Rattle.st_agenda.specs.declared.schedule.Schedule.{Schedule}
 use Rattle.st_agenda.specs.Agenda.{settled_in}
@@ -23,7 +24,7 @@ use Rattle.st_core.specs.declared.turned.Turned.{Turned}
 use Rattle.st_core.specs.declared.turned.Turned.TheVariants.{Reported}
 use Rattle.st_core.specs.declared.machine_state.MachineState.{MachineState}
 use Rattle.st_core.specs.MachineState.{Machine}
-use Rattle.st_core.specs.Callbacks.{Callbacks, Called, or_old, differs, said_by, called_of, called_with, outcome_of, handled_with, entered_by, is_entered}
+use Rattle.st_core.specs.Callbacks.{Callbacks, Called, or_old, differs, said_by, called_of, called_with, entered_by, is_entered}
 use Rattle.st_core.specs.Gathering.{ComesTo, TurnsTo, turned_with}
 use Rattle.st_core.specs.declared.done.Done.{Done}
 use Rattle.st_core.specs.declared.gathered.Gathered.{Gathered}
@@ -204,15 +205,15 @@ module _ {S D C : Type 0} (callbacks : Callbacks S D C) (machine : MachineState 
 
 -- ---- what is left, by its parts
 module _ {S D C : Type 0} where
-  abbrev pub machine_of : MachineId → S → D → Schedule C → List (Request C) → ℕ → Option (ℕ × ℕ) → MachineState S D C
-  machine_of id state held schedule requests latest ended =
-      record { id = id; state = state; «data» = held; schedule = schedule; requests = requests; latest = latest; ended = ended }
+  abbrev pub machine_of : MachineId → S → D → Schedule C → List (Request C) → Outbox C → ℕ → Option (ℕ × ℕ) → MachineState S D C
+  machine_of id state held schedule requests outbox latest ended =
+      record { id = id; state = state; «data» = held; schedule = schedule; requests = requests; outbox = outbox; latest = latest; ended = ended }
 
-  pub machine_is : {id id2 : MachineId} {state state2 : S} {held held2 : D} {schedule schedule2 : Schedule C} {requests requests2 : List (Request C)} {latest latest2 : ℕ} {ended ended2 : Option (ℕ × ℕ)}
-      → id ≡ id2 → state ≡ state2 → held ≡ held2 → schedule ≡ schedule2 → requests ≡ requests2 → latest ≡ latest2 → ended ≡ ended2
-      → machine_of id state held schedule requests latest ended ≡ machine_of id2 state2 held2 schedule2 requests2 latest2 ended2
-  machine_is same_id same_state same_data same_schedule same_requests same_latest same_end =
-      rw (same_id, same_state, same_data, same_schedule, same_requests, same_latest, same_end) refl
+  pub machine_is : {id id2 : MachineId} {state state2 : S} {held held2 : D} {schedule schedule2 : Schedule C} {requests requests2 : List (Request C)} {outbox outbox2 : Outbox C} {latest latest2 : ℕ} {ended ended2 : Option (ℕ × ℕ)}
+      → id ≡ id2 → state ≡ state2 → held ≡ held2 → schedule ≡ schedule2 → requests ≡ requests2 → outbox ≡ outbox2 → latest ≡ latest2 → ended ≡ ended2
+      → machine_of id state held schedule requests outbox latest ended ≡ machine_of id2 state2 held2 schedule2 requests2 outbox2 latest2 ended2
+  machine_is same_id same_state same_data same_schedule same_requests same_outbox same_latest same_end =
+      rw (same_id, same_state, same_data, same_schedule, same_requests, same_outbox, same_latest, same_end) refl
 
 module _ {C : Type 0} (number : ℕ) where
   pub settled_is : {latest latest2 : ℕ} {schedule schedule2 : Schedule C} {postpone postpone2 changed changed2 : Bool} {inserts inserts2 : List (Insert C)} {settings settings2 : List (Setting C)}
@@ -236,6 +237,18 @@ enough_for_all next inserts timers h = grind (arith, h)
 
 pub fewer_inserts : (next inserts timers : ℕ) → nat_le (next + (inserts + timers)) (2 ^ 63) ≡ true → inserts ≤ 2 ^ 63
 fewer_inserts next inserts timers h = grind (arith, h)
+
+-- both are enough
+pub both_true : {one other : Bool} → one ≡ true → other ≡ true → (one && other) ≡ true
+both_true one_is other_is = rw (one_is, other_is) refl
+
+-- one of both is not
+pub first_false : (one other : Bool) → one ≡ false → (one && other) ≡ false
+first_false one other is = rw is refl
+
+pub second_false : (one other : Bool) → other ≡ false → (one && other) ≡ false
+second_false true other is = is
+second_false false other is = refl
 
 -- ---- answers that are no errors
 -- what holds of an answer that is no error

@@ -15,7 +15,7 @@ use Rattle.st_core.specs.declared.turns_end.TurnsEnd.TheVariants as end
 use Rattle.st_core.specs.declared.machine_state.MachineState.{MachineState}
 use Rattle.st_core.specs.MachineState.{Machine}
 use Rattle.st_core.specs.Callbacks.{Callbacks, called_of}
-use Rattle.st_core.specs.Choice.{is_ready_of, next_event_of}
+use Rattle.st_core.specs.Choice.{has_event_of, next_event_of}
 use Rattle.st_core.specs.Transition.{with_moment, transition_of, unless_refused, turn_running}
 use Rattle.st_core.specs.Stop.{unless_ended}
 use Rattle.st_core.specs.Run.{Does, Runs, turn_takes_memory}
@@ -53,7 +53,7 @@ turn_injective h = cc
 
 module _ {M S D C : Type 0} (callbacks : M → Callbacks S D C) where
   -- a turn of a machine that is ready, and that is not refused, reports
-  pub ready_reports : (old new : Machine M S D C) (now : ℕ) (turned : Turned S) → is_ready_of old.machine ≡ true
+  pub ready_reports : (old new : Machine M S D C) (now : ℕ) (turned : Turned S) → has_event_of old.machine ≡ true
       → Does callbacks old (command.Turn now) (answer.Turn (Ok turned)) new → (report : Report S) × (turned ≡ Reported report)
   ready_reports old new now (Reported report) ready does = (report, refl)
   ready_reports old new now Idle ready (inl (same, after)) =
@@ -78,7 +78,7 @@ module _ {M S D C : Type 0} (callbacks : M → Callbacks S D C) where
 
   -- one more turn was made
   pub one_turn_more : (now : ℕ) (old mid new : Machine M S D C) (reported : ℕ) (turned : Turned S) → TurnedSoFar now old reported mid
-      → is_ready_of mid.machine ≡ true → Does callbacks mid (command.Turn now) (answer.Turn (Ok turned)) new → TurnedSoFar now old (reported + 1) new
+      → has_event_of mid.machine ≡ true → Does callbacks mid (command.Turn now) (answer.Turn (Ok turned)) new → TurnedSoFar now old (reported + 1) new
   one_turn_more now old mid new reported turned so_far ready does =
       let (report, same) = ready_reports mid new now turned ready does in
       record {

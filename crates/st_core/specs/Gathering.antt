@@ -13,11 +13,12 @@ use Rattle.st_core.specs.declared.machine_state.MachineState.{MachineState}
 use Rattle.st_core.specs.Callbacks.{Called, or_old}
 use Rattle.st_core.specs.Run.{Meets, turn_takes_memory, turn_without_memory}
 
--- no reply was taken yet, and nothing is inserted or set
+-- no reply was taken yet, and nothing is inserted, set or sent
 pub record IsEmpty {S : Type 0} (gathered : Gathered S) : Type 0 where
   pub replied : gathered.replied.items ≡ []
   pub inserted : gathered.inserted ≡ []
   pub set : gathered.set ≡ []
+  pub sent : gathered.sent ≡ []
 
 -- the report that tells it
 abbrev pub report_with : {S : Type 0} → Option ℕ → Done → S → S → Gathered S → Report S
@@ -30,6 +31,7 @@ report_with event done before after gathered = record {
   replied = gathered.replied.items;
   inserted = gathered.inserted;
   set = gathered.set;
+  sent = gathered.sent;
 }
 
 -- what a turn answers that ended so, or was refused

@@ -12,4 +12,5 @@ pub mod Run
 pub mod Gathering
 pub mod UntilIdle
 pub mod Lawful
+pub mod Messages
 pub mod Accounting

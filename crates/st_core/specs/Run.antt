@@ -1,5 +1,5 @@
 -- A list of commands, from the machine before it to the machine after it.
-use Rattle.std.specs.Prelude.{◌≡◌, ℕ, ◌⊎◌, Bool, true, false, List, [], ◌∷◌, Result, Ok, Err}
+use Rattle.std.specs.Prelude.{◌≡◌, ℕ, ◌⊎◌, Bool, true, false, List, [], ◌∷◌, None, Result, Ok, Err}
 use Rattle.std.specs.Result.{is_err}
 use Rattle.st_requests.specs.declared.collected.Collected.TheVariants.{Gone}
 use Rattle.st_events.specs.declared.refused.Refused.{Refused}
@@ -19,6 +19,7 @@ use Rattle.st_core.specs.Stop.{stop_of}
 use Rattle.st_core.specs.Tick.{tick_of, tick_takes_memory}
 use Rattle.st_core.specs.Post.{post_of}
 use Rattle.st_core.specs.Replies.{reply_to, collect_of}
+use Rattle.st_core.specs.Messages.{take_out_of}
 
 -- a turn takes memory where there is an event to handle, also where too few numbers are left
 abbrev pub turn_takes_memory : {S : Type 0} → Result (Turned S) Refusal → Bool
@@ -52,6 +53,7 @@ module _ {S C : Type 0} where
   takes_memory (answer.Reply taken) = false
   takes_memory (answer.Collect collected) = false
   takes_memory (answer.Stop stopped) = false
+  takes_memory (answer.TakeOut message) = false
 
   -- whether an answer is a refusal
   abbrev pub is_refusal : Answer S C → Bool
@@ -61,6 +63,7 @@ module _ {S C : Type 0} where
   is_refusal (answer.Reply taken) = false
   is_refusal (answer.Collect collected) = false
   is_refusal (answer.Stop stopped) = is_err stopped
+  is_refusal (answer.TakeOut message) = false
 
   -- what a command answers that found no memory; of one that takes none it is never said
   abbrev pub without_memory : Command C → Answer S C
@@ -70,6 +73,7 @@ module _ {S C : Type 0} where
   without_memory (command.Reply tag content) = answer.Reply false
   without_memory (command.Collect tag) = answer.Collect Gone
   without_memory (command.Stop reason) = answer.Stop (Err NoMemory)
+  without_memory command.TakeOut = answer.TakeOut None
 
 -- the answer and the machine after are those of the definition; or the definition's answer takes
 -- memory, there was none, the answer says so, and the machine is as it was
@@ -93,6 +97,7 @@ module _ {S D C : Type 0} where
       (answer.Collect (collect_of machine tag).0, (collect_of machine tag).1)
   step_of callbacks machine (command.Stop reason) =
       (answer.Stop (stop_of callbacks machine reason).0, (stop_of callbacks machine reason).1)
+  step_of callbacks machine command.TakeOut = (answer.TakeOut (take_out_of machine).0, (take_out_of machine).1)
 
 -- a machine's callbacks are those of its module, by the module's own definitions
 module _ {M S D C : Type 0} (callbacks : M → Callbacks S D C) where

@@ -9,8 +9,9 @@ use Rattle.st_events.specs.declared.refused.Refused.{Refused}
 use Rattle.st_events.specs.declared.refusal.Refusal.{Refusal}
 use Rattle.st_events.specs.declared.refusal.Refusal.TheVariants.{NoMemory, Exhausted, Moment}
 use Rattle.st_events.specs.declared.timer.Timer.{Timer}
-use Rattle.st_actions.specs.Plan.{inserts_of, settings_of}
+use Rattle.st_actions.specs.Plan.{inserts_of, settings_of, sends_of}
 use Rattle.st_agenda.specs.Agenda.{inserted_in, all_set_in}
+use Rattle.st_outbox.specs.Outbox.{first_outbox, with_sent}
 use Rattle.st_core.specs.declared.call.Call.{Call}
 use Rattle.st_core.specs.declared.call.Call.TheVariants.{Terminate}
 use Rattle.st_core.specs.declared.done.Done.{Done}
@@ -21,12 +22,13 @@ use Rattle.st_core.specs.declared.start.Start.TheVariants.{Running, Ignored, Sto
 use Rattle.st_core.specs.declared.machine_state.MachineState.{MachineState}
 use Rattle.st_core.specs.Callbacks.{Callbacks, Called, begun_by}
 use Rattle.st_core.specs.Stop.{with_ended}
-use Rattle.st_core.specs.Transition.{has_numbers, inserted_by, decisions_of, comes_after_callbacks}
+use Rattle.st_core.specs.Transition.{has_numbers, inserted_by, sent_by, decisions_of, comes_after_callbacks}
 
 -- what a start reports: no event, how it ended, the calls after `init`'s, `init`'s state before and after,
--- what was inserted, and what was asked of timers; no request is open yet, so that no reply was taken
-abbrev pub start_report_of : {S : Type 0} → Done → List (Call S) → S → List ℕ → List (Timer × Decision) → Report S
-start_report_of done calls state inserted set = record {
+-- what was inserted, what was asked of timers, and what was sent; no request is open yet, so that no reply was
+-- taken
+abbrev pub start_report_of : {S : Type 0} → Done → List (Call S) → S → List ℕ → List (Timer × Decision) → List ℕ → Report S
+start_report_of done calls state inserted set sent = record {
   event = None;
   done = done;
   calls = calls;
@@ -35,6 +37,7 @@ start_report_of done calls state inserted set = record {
   replied = [];
   inserted = inserted;
   set = set;
+  sent = sent;
 }
 
 -- a machine to which nothing was posted, whose first event gets this number
@@ -45,14 +48,17 @@ first_state id state held now first = record {
   «data» = held;
   schedule = record { pending = []; postponed = []; running = []; next_number = first };
   requests = [];
+  outbox = first_outbox;
   latest = now;
   ended = None;
 }
 
--- what the actions of a start ask for is done: events are inserted, and then what is asked of timers is done
+-- what the actions of a start ask for is done: events are inserted, then what is asked of timers is done, and then
+-- messages are sent
 abbrev pub with_begun : {S D C : Type 0} → MachineState S D C → List (Action C) → MachineState S D C
 with_begun machine actions = record machine {
   schedule = all_set_in machine.latest (inserted_in machine.schedule (inserts_of actions)) (settings_of actions);
+  outbox = with_sent machine.id machine.outbox (sends_of actions);
 }
 
 module _ {M S D C A : Type 0} where
@@ -66,7 +72,7 @@ module _ {M S D C A : Type 0} where
       if has_numbers machine called
       then Ok (Running
       (record { module_ = module_; machine = with_begun machine called.actions })
-      (start_report_of Started called.calls machine.state (inserted_by machine called.actions) (decisions_of (settings_of called.actions))))
+      (start_report_of Started called.calls machine.state (inserted_by machine called.actions) (decisions_of (settings_of called.actions)) (sent_by machine called.actions)))
       else start_refused module_ Exhausted
 
   -- the first enter call stops: there is a machine, which has ended, and nothing was inserted or asked of timers
@@ -75,7 +81,7 @@ module _ {M S D C A : Type 0} where
       let word = callbacks.terminate_is reason machine.state machine.data in
       Ok (Running
       (record { module_ = module_; machine = with_ended machine reason word })
-      (start_report_of (Ended reason word) (called.calls ++ Terminate reason machine.state word ∷ []) machine.state [] []))
+      (start_report_of (Ended reason word) (called.calls ++ Terminate reason machine.state word ∷ []) machine.state [] [] []))
 
   -- what comes of the callbacks of a start
   abbrev pub begun_on : Callbacks S D C → M → MachineState S D C → Called S D C → Option ℕ → Result (Start M S D C A) (Refused M)

@@ -1,5 +1,5 @@
 -- One turn: the next event is handled, and the machine changes.
-use Rattle.std.specs.Prelude.{ℕ, ◌^◌, Bool, true, false, Option, Some, None, Result, Ok, Err, List, [], ◌∷◌, ◌++◌, map, max, nat_lt, if◌then◌else◌}
+use Rattle.std.specs.Prelude.{ℕ, ◌^◌, Bool, true, false, ◌&&◌, Option, Some, None, Result, Ok, Err, List, [], ◌∷◌, ◌++◌, map, max, nat_lt, if◌then◌else◌}
 use Rattle.st_events.specs.declared.action.Action.{Action}
 use Rattle.st_events.specs.declared.event.Event.{Event}
 use Rattle.st_events.specs.declared.refusal.Refusal.{Refusal}
@@ -11,11 +11,12 @@ use Rattle.st_events.specs.declared.decision.Decision.TheVariants as decision
 use Rattle.st_events.specs.declared.setting.Setting.{Setting}
 use Rattle.st_events.specs.declared.tag.Tag.{Tag}
 use Rattle.st_events.specs.declared.timer.Timer.{Timer}
-use Rattle.st_actions.specs.Plan.{replies_of, inserts_of, postpone_of, settings_of}
+use Rattle.st_actions.specs.Plan.{replies_of, inserts_of, postpone_of, settings_of, sends_of}
 use Rattle.st_requests.specs.Requests.{with_answers, taken_by}
 use Rattle.st_agenda.specs.Agenda.{settled_in, running_on}
 use Rattle.st_agenda.specs.Items.{numbered, numbers_of}
 use Rattle.st_agenda.specs.Timing as timing
+use Rattle.st_outbox.specs.Outbox.{messages_from, message_numbers, with_sent, has_message_numbers}
 use Rattle.st_core.specs.declared.call.Call.TheVariants.{Terminate}
 use Rattle.st_core.specs.declared.done.Done.{Done}
 use Rattle.st_core.specs.declared.done.Done.TheVariants.{Finished, PutOff, Ended}
@@ -80,17 +81,24 @@ module _ {S D C : Type 0} where
   -- what becomes of what waits and what runs, in the manual's order: the event is received, and the
   -- event time-out cancelled; by the actions the event is postponed or finished; at a state change none
   -- is postponed any more, and the state time-out is cancelled; events are inserted; what is asked of
-  -- timers is done
+  -- timers is done; and messages are sent
   abbrev pub with_settled : MachineState S D C → ℕ → Called S D C → MachineState S D C
   with_settled machine number called = record machine {
     schedule = settled_in machine.latest machine.schedule number (postpone_of called.actions) called.changed
         (inserts_of called.actions) (settings_of called.actions);
+    outbox = with_sent machine.id machine.outbox (sends_of called.actions);
   }
 
-  -- whether there are numbers enough for what actions insert and for the time-outs that they start, where others run on
+  -- whether there are numbers enough for what actions insert, for the time-outs that they start where others run on,
+  -- and for the messages that they send
   abbrev pub has_numbers : MachineState S D C → Called S D C → Bool
   has_numbers machine called =
       timing.has_numbers machine.schedule.next_number (running_on called.changed machine.schedule) (inserts_of called.actions) (settings_of called.actions)
+      && has_message_numbers machine.outbox (sends_of called.actions)
+
+  -- the numbers of the messages that actions send
+  abbrev pub sent_by : MachineState S D C → List (Action C) → List ℕ
+  sent_by machine actions = message_numbers (messages_from machine.id machine.outbox.next_number (sends_of actions))
 
   -- the numbers of the events that actions insert
   abbrev pub inserted_by : MachineState S D C → List (Action C) → List ℕ
@@ -107,6 +115,7 @@ module _ {S D C : Type 0} where
     replied = replied_by machine called.actions;
     inserted = inserted_by machine called.actions;
     set = decisions_of (settings_of called.actions);
+    sent = sent_by machine called.actions;
   }
 
   -- what a turn reports of an event at which the machine ends
@@ -120,6 +129,7 @@ module _ {S D C : Type 0} where
     replied = replied_by machine called.actions;
     inserted = [];
     set = [];
+    sent = [];
   }
 
   -- the machine goes on; where too few numbers are left, the turn is refused

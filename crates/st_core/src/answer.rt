@@ -1,7 +1,7 @@
 //! What a command is answered.
 
 use crate::Turned;
-use st_events::{Refusal, Refused};
+use st_events::{Message, Refusal, Refused};
 use st_requests::Collected;
 
 /// The answer to one command of a run: what the call itself answers.
@@ -21,4 +21,6 @@ pub enum Answer<S, C> {
     Collect(Collected<C>),
     /// The machine's last word.
     Stop(Result<u32, Refusal>),
+    /// The message that was taken out, if there was one.
+    TakeOut(Option<Message<C>>),
 }

@@ -1,6 +1,6 @@
 //! The replies of a list of actions are sent.
 ghost use Rattle.std.specs.Prelude.{◌≡◌, ◌+◌, ◌≤◌, ◌++◌, length, vec_capacity};
-ghost use Rattle.st_actions.specs.Plan.{replies_of, inserts_of};
+ghost use Rattle.st_actions.specs.Plan.{replies_of, inserts_of, sends_of};
 ghost use Rattle.st_actions.specs.Taking.{all_settings_of};
 ghost use Rattle.st_requests.specs.Requests.{with_answers, taken_by};
 
@@ -20,6 +20,7 @@ pub(crate) fn answer_each<C: Drop>(
     ensures taken { taken.new.items ≡ taken.old.items ++ taken_by requests.old (replies_of actions.old) }
     ensures same_inserts { inserts_of actions.new ≡ inserts_of actions.old }
     ensures same_settings { all_settings_of actions.new ≡ all_settings_of actions.old }
+    ensures same_sends { sends_of actions.new ≡ sends_of actions.old }
 {
     for index in 0..actions.len() {
         if let Some((tag, content)) = take_reply(actions, index) {

@@ -20,4 +20,6 @@ pub enum Command<C> {
     Collect(Tag),
     /// `Core::stop`.
     Stop(Reason),
+    /// `Core::take_out`.
+    TakeOut,
 }

@@ -27,6 +27,7 @@ pub(crate) fn note_decisions<C>(
 }
 
 /// The timers of which actions ask something, with what it is, where they are so many.
+#[inline(never)]
 fn decisions_of<C>(
     alloc: Global,
     count: usize,

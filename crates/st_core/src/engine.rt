@@ -1,17 +1,18 @@
 //! One machine.
 ghost use Rattle.std.specs.Prelude.{◌≡◌, ◌<◌, ◌^◌, IfOk, IfErr};
 ghost use Rattle.st_events.specs.declared.refusal.Refusal.TheVariants.{NoMemory};
-ghost use Rattle.st_core.specs.Choice.{is_ready_of, waiting_of, timers_of, next_due_of};
+ghost use Rattle.st_core.specs.Choice.{has_event_of, has_message_of, is_ready_of, waiting_of, timers_of, next_due_of};
 
 use st_agenda::Agenda;
 use st_events::{MachineId, Module, PlainList, Reason, Refusal, Tag, Timer};
+use st_outbox::Outgoing;
 use st_requests::Requests;
 use st_timeouts::Due;
 use std::alloc::Global;
 use std::marker::Model;
 
-/// One machine: a callback module with its state, its data, the events that wait, the time-outs that run
-/// and the requests that are open or kept.
+/// One machine: a callback module with its state, its data, the events that wait, the time-outs that run,
+/// the requests that are open or kept, and the messages that were not taken out yet.
 ///
 /// Contracts see the module and the machine state, a plain value with a list of events and expiries. It is
 /// always lawful: one that can come about.
@@ -26,6 +27,7 @@ pub struct Core<M: Module> {
     pub(crate) data: M::Data,
     pub(crate) agenda: Agenda<M::Content>,
     pub(crate) requests: Requests<M::Content>,
+    pub(crate) outgoing: Outgoing<M::Content>,
     pub(crate) latest: u64,
     // The reason and the last word, once the machine has ended.
     pub(crate) ended: Option<(Reason, u32)>,
@@ -45,22 +47,42 @@ impl<M: Module> Model for Core<M> {
         «data» = core.data;
         schedule = core.agenda.schedule;
         requests = core.requests;
+        outbox = core.outgoing.outbox;
         latest = core.latest;
         ended = core.ended;
       };
     } };
 
-    ghost invariant = { λ core. IsLawfulOf core.id core.agenda.schedule core.requests core.latest core.ended };
+    ghost invariant = { λ core. IsLawfulOf core.id core.agenda.schedule core.requests core.outgoing.outbox core.latest core.ended };
 }
 
 impl<M: Module> Core<M> {
-    /// Says whether the machine has not ended and there is an event that a turn would handle.
+    /// Says whether there is something to do for who serves the machine: an event that a turn would handle, or a
+    /// message to be taken out, which there may be after the end, too.
     ///
-    /// Ours: docs/TRANSITIONS.md, Next event.
+    /// Ours: docs/TRANSITIONS.md, Next event; docs/DECISIONS.md, Messages.
     pub fn is_ready(&self) -> bool
         ensures { result ≡ is_ready_of self.now.machine }
     {
+        self.has_event() || self.has_message()
+    }
+
+    /// Says whether the machine has not ended and there is an event that a turn would handle.
+    ///
+    /// Ours: docs/TRANSITIONS.md, Next event.
+    pub fn has_event(&self) -> bool
+        ensures { result ≡ has_event_of self.now.machine }
+    {
         self.ended.is_none() && self.agenda.has_next()
+    }
+
+    /// Says whether there is a message that `take_out` would take out, ended or not.
+    ///
+    /// Ours: docs/DECISIONS.md, Messages.
+    pub fn has_message(&self) -> bool
+        ensures { result ≡ has_message_of self.now.machine }
+    {
+        self.outgoing.has_messages()
     }
 
     /// The machine's id.

@@ -8,13 +8,14 @@ use st_events::{Decision, Kind, PlainList, Tag, Timer};
 use std::alloc::Global;
 
 /// What a report will tell: the callbacks that were made, the tags of the replies that were taken, the numbers of the
-/// events that are inserted, and what is asked of timers.
+/// events that are inserted, what is asked of timers, and the numbers of the messages that are sent.
 #[derive(Drop)]
 pub(crate) struct Gathered<S> {
     pub(crate) calls: Calls<S>,
     pub(crate) replied: Vec<Tag>,
     pub(crate) inserted: PlainList<u64>,
     pub(crate) set: PlainList<(Timer, Decision)>,
+    pub(crate) sent: PlainList<u64>,
 }
 
 impl<S: Drop> Gathered<S> {
@@ -28,6 +29,7 @@ impl<S: Drop> Gathered<S> {
             replied: Vec::new(alloc),
             inserted: PlainList::new(alloc),
             set: PlainList::new(alloc),
+            sent: PlainList::new(alloc),
         }
     }
 
@@ -46,6 +48,7 @@ impl<S: Drop> Gathered<S> {
             replied,
             inserted,
             set,
+            sent,
         } = self;
         Report {
             event,
@@ -56,6 +59,7 @@ impl<S: Drop> Gathered<S> {
             replied: PlainList::from(replied),
             inserted,
             set,
+            sent,
         }
     }
 }

@@ -16,6 +16,7 @@ mod entry;
 mod gathered;
 mod laws;
 mod machine_state;
+mod messages;
 mod new_data;
 mod numbers;
 mod one_inline;
@@ -25,6 +26,7 @@ mod prepared;
 mod replies;
 mod report;
 mod run;
+mod sending;
 mod snapshot;
 mod start;
 mod stop;
@@ -54,9 +56,10 @@ pub use snapshot::Snapshot;
 pub use st_agenda::{Item, Schedule};
 pub use st_events::{
     Action, Actions, Decision, EnterAction, EnterActions, EnterOutcome, Event, Init, Kind,
-    MOMENT_LIMIT, MachineId, Module, NUMBER_LIMIT, Outcome, PlainList, Reason, Refusal, Refused,
-    Replies, SmallList, Tag, Time, Timer,
+    MOMENT_LIMIT, MachineId, Message, Module, NUMBER_LIMIT, Outcome, PlainList, Reason, Refusal,
+    Refused, Replies, SmallList, Tag, Time, Timer,
 };
+pub use st_outbox::Outbox;
 pub use st_requests::{Collected, Held, Request, RequestState};
 pub use st_timeouts::{Due, Running};
 pub use start::Start;

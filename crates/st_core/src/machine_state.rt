@@ -2,6 +2,7 @@
 
 use st_agenda::Schedule;
 use st_events::{MachineId, PlainList, Reason};
+use st_outbox::Outbox;
 use st_requests::Request;
 
 /// A machine as a plain value, without its callback module: what contracts speak of, and what a snapshot is.
@@ -19,6 +20,8 @@ pub struct MachineState<S, D, C> {
     pub schedule: Schedule<C>,
     /// The requests that are open, and the replies and reasons that are kept, in the order in which they were opened.
     pub requests: PlainList<Request<C>>,
+    /// The messages that it has sent and that were not taken out yet, and the number that its next message gets.
+    pub outbox: Outbox<C>,
     /// The latest moment that it has seen, in milliseconds.
     pub latest: u64,
     /// The reason and the last word, once it has ended.

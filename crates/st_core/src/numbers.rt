@@ -1,4 +1,4 @@
-//! The numbers of events that are inserted.
+//! The numbers of events that are inserted, and of messages that are sent.
 ghost use Rattle.std.specs.Prelude.{◌≡◌, ◌+◌, ◌≤◌, ◌^◌, [], IfOk, OnOk};
 ghost use Rattle.std.specs.List.{range_with_len};
 
@@ -23,6 +23,7 @@ pub(crate) fn note_numbers(
 }
 
 /// So many numbers, from the first one on.
+#[inline(never)]
 fn numbers_from(alloc: Global, first: u64, count: usize) -> Result<PlainList<u64>, AllocError>
     requires { first + count ≤ 2 ^ 63 }
     ensures { IfOk result (λ numbers. numbers ≡ range_with_len first count) }

@@ -24,4 +24,6 @@ pub struct Report<S> {
     pub inserted: PlainList<u64>,
     /// The timers that were set, cancelled or updated, each with the last that was asked of it, in the order of these.
     pub set: PlainList<(Timer, Decision)>,
+    /// The numbers of the messages that were sent, in order.
+    pub sent: PlainList<u64>,
 }

@@ -24,6 +24,7 @@ impl<M: Module> Core<M> {
             Command::Reply(tag, content) => Answer::Reply(self.reply(tag, content)),
             Command::Collect(tag) => Answer::Collect(self.collect(tag)),
             Command::Stop(reason) => Answer::Stop(self.stop(reason)),
+            Command::TakeOut => Answer::TakeOut(self.take_out()),
         }
     }
 

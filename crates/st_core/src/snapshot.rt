@@ -16,8 +16,8 @@ pub type Snapshot<M> = MachineState<
 
 impl<M: Module> Core<M> {
     /// The whole machine as a value of its own: state, data, what waits, what is postponed, which time-outs run, the
-    /// requests with their replies, the latest moment, the next number, and how it ended. The module copies the data
-    /// and the contents.
+    /// requests with their replies, the messages that were not taken out yet, the latest moment, the next numbers, and how
+    /// it ended. The module copies the data and the contents.
     ///
     /// Nothing changes. Refused with `NoMemory` where memory is wanted and there is none.
     ///
@@ -32,6 +32,7 @@ impl<M: Module> Core<M> {
     {
         let schedule = self.agenda.copy(self.alloc, &self.module)?;
         let requests = self.requests.copy(&self.module)?;
+        let outbox = self.outgoing.copy(self.alloc, &self.module)?;
         let data = self.module.copy_data(self.alloc, &self.data)?;
         Ok(MachineState {
             id: self.id,
@@ -39,6 +40,7 @@ impl<M: Module> Core<M> {
             data,
             schedule,
             requests,
+            outbox,
             latest: self.latest,
             ended: self.ended,
         })

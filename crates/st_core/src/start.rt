@@ -9,9 +9,11 @@ use crate::gathered::Gathered;
 use crate::new_data::replace;
 use crate::opening::Opening;
 use crate::prepared::prepare;
+use crate::sending::send_each;
 use crate::{Call, Core, Done, OneInline, Report};
 use st_agenda::Agenda;
 use st_events::{Actions, Init, MOMENT_LIMIT, MachineId, Module, Reason, Refusal, Refused};
+use st_outbox::Outgoing;
 use st_requests::Requests;
 use std::alloc::Global;
 
@@ -35,9 +37,9 @@ impl<M: Module> Core<M> {
     /// requests name it.
     ///
     /// With enter calls the first state is entered, with itself as the old one. What the actions of `init`
-    /// and then of `enter` ask for is done: events are inserted, and then timers are set. There is no event
-    /// that could be postponed, so a Postpone is ignored. Where the enter call stops, there is a machine, which
-    /// has ended.
+    /// and then of `enter` ask for is done: events are inserted, then timers are set, and then messages are
+    /// sent. There is no event that could be postponed, so a Postpone is ignored. Where the enter call stops, there
+    /// is a machine, which has ended.
     ///
     /// Refused with `Moment` at 2^63 or later, before `init` is called, with `Exhausted` where too few
     /// numbers are left for these events and time-outs, and with `NoMemory` where memory is wanted. A
@@ -159,13 +161,22 @@ impl<M: Module> Core<M> {
             → Starts opening.module result (started_with opening.module (first_state opening.id state «data» opening.now opening.first) called) }
     {
         let mut agenda = Agenda::new(opening.alloc, opening.first);
-        let counts = match prepare(opening.alloc, &mut agenda, false, actions, &mut gathered) {
+        let mut outgoing = Outgoing::new(opening.alloc);
+        let counts = match prepare(
+            opening.alloc,
+            &mut agenda,
+            &mut outgoing,
+            false,
+            actions,
+            &mut gathered,
+        ) {
             Ok(counts) => counts,
             Err(refusal) => return Err(Refused::new(refusal, opening.module)),
         };
         // Nothing fails from here on.
         agenda.insert(counts.inserts, actions);
         agenda.set_all(opening.now, actions);
+        send_each(&mut outgoing, opening.id, counts.sends, actions);
         let core = Core {
             alloc: opening.alloc,
             module: opening.module,
@@ -174,6 +185,7 @@ impl<M: Module> Core<M> {
             data,
             agenda,
             requests: Requests::new(opening.alloc),
+            outgoing,
             latest: opening.now,
             ended: None,
         };
@@ -212,6 +224,7 @@ impl<M: Module> Core<M> {
             data,
             agenda: Agenda::new(opening.alloc, opening.first),
             requests: Requests::new(opening.alloc),
+            outgoing: Outgoing::new(opening.alloc),
             latest: opening.now,
             ended: Some((reason, word)),
         };

@@ -16,6 +16,7 @@ use crate::course::Course;
 use crate::gathered::{Gathered, handle_alone};
 use crate::new_data::{or_old, replace};
 use crate::prepared::prepare;
+use crate::sending::send_each;
 use crate::{Call, Core, Done, Turned};
 use st_events::{Actions, MOMENT_LIMIT, Module, Outcome, Reason, Refusal};
 
@@ -232,6 +233,7 @@ impl<M: Module> Core<M> {
         let counts = match prepare(
             self.alloc,
             &mut self.agenda,
+            &mut self.outgoing,
             course.changed,
             actions,
             gathered,
@@ -248,6 +250,7 @@ impl<M: Module> Core<M> {
         self.agenda.settle(course.number, postpone, course.changed);
         self.agenda.insert(counts.inserts, actions);
         self.agenda.set_all(self.latest, actions);
+        send_each(&mut self.outgoing, self.id, counts.sends, actions);
         Ok(done_by(postpone))
     }
 

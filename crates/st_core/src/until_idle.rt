@@ -22,7 +22,7 @@ impl<M: Module> Core<M> {
         ensures stopped { HasStopped at_most result self.new.machine }
     {
         let mut reported = 0;
-        while reported < at_most && self.is_ready() {
+        while reported < at_most && self.has_event() {
             if let Err(refusal) = self.turn(now) {
                 return Turns {
                     reported,
@@ -43,7 +43,7 @@ impl<M: Module> Core<M> {
     {
         if self.ended.is_some() {
             TurnsEnd::Ended
-        } else if self.is_ready() {
+        } else if self.has_event() {
             TurnsEnd::AtMost
         } else {
             TurnsEnd::Idle

@@ -6,6 +6,7 @@ use Rattle.st_events.specs.declared.event.Event.{Event}
 use Rattle.st_events.specs.declared.kind.Kind.{Kind}
 use Rattle.st_events.specs.declared.kind.Kind.TheVariants as kind
 use Rattle.st_events.specs.declared.machine_id.MachineId.{MachineId}
+use Rattle.st_events.specs.declared.message.Message.{Message}
 use Rattle.st_events.specs.declared.refusal.Refusal.{Refusal}
 use Rattle.st_events.specs.declared.time.Time.TheVariants.{After, Infinity}
 use Rattle.st_events.specs.declared.timer.Timer.{Timer}
@@ -32,15 +33,16 @@ use Rattle.st_timeouts.specs.declared.due.Due.TheVariants.{Zero, At}
 use Rattle.st_timeouts.specs.declared.running.Running.{Running as RunningTimeout}
 use Rattle.st_agenda.specs.declared.item.Item.{Item}
 use Rattle.st_agenda.specs.declared.item.Item.TheVariants.{Received, Posted, Expiry}
+use Rattle.st_outbox.specs.Outbox.{first_outbox}
 use Rattle.st_core.specs.declared.machine_state.MachineState.{MachineState}
 use Rattle.st_core.specs.MachineState.{Machine}
 use Rattle.st_core.specs.Callbacks.{Callbacks}
-use Rattle.st_core.specs.Choice.{is_ready_of, waiting_of, timers_of}
+use Rattle.st_core.specs.Choice.{has_event_of, is_ready_of, waiting_of, timers_of}
 use Rattle.st_core.specs.Start.{start_of, start_refused, Starts}
 use Rattle.st_core.specs.Stop.{stop_of}
 use Rattle.st_core.specs.Run.{takes_memory, step_of, Runs}
 use Rattle.st_core.specs.Accounting.{accepted_in, finished_in}
-use Rattle.st_core_tests.specs.WorkedTable.{foreign_tag, handled_by_table, enters_by_table, entered_by_table, begun_by_table}
+use Rattle.st_core_tests.specs.WorkedTable.{foreign_tag, other_machine, third_machine, handled_by_table, enters_by_table, entered_by_table, begun_by_table}
 use Rattle.st_core.proofs.RunLemmas.{answers_of, runs_with_memory}
 
 -- the callbacks of the module with this number
@@ -73,7 +75,8 @@ runs_of : (number : ℕ) (before : MachineState ℕ ℕ ℕ) (commands : List (C
     → Runs table_of (with_table number before) commands (answers_of table_of (with_table number before) commands).0 (answers_of table_of (with_table number before) commands).1
 runs_of number before commands = runs_with_memory table_of (with_table number before) commands
 
--- a machine in which nothing waits: its state and data, the latest moment and the next number
+-- a machine in which nothing waits, and which has sent nothing: its state and data, the latest moment and the next
+-- number
 abbrev at_rest : ℕ → ℕ → ℕ → ℕ → MachineState ℕ ℕ ℕ
 at_rest state held latest next = record {
   id = id;
@@ -81,6 +84,7 @@ at_rest state held latest next = record {
   «data» = held;
   schedule = record { pending = []; postponed = []; running = []; next_number = next };
   requests = [];
+  outbox = first_outbox;
   latest = latest;
   ended = None;
 }
@@ -115,6 +119,7 @@ report number kind before after done inserted = record {
   replied = [];
   inserted = inserted;
   set = [];
+  sent = [];
 }
 
 abbrev cast : ℕ → Command ℕ
@@ -434,6 +439,7 @@ start_report inserted set = record {
   replied = [];
   inserted = inserted;
   set = set;
+  sent = [];
 }
 
 start_runs : started 0 12 1 ≡ Ok (Running (record { module_ = 50; machine = at_rest 0 7 12 1 }) (start_report [] []))
@@ -867,6 +873,128 @@ a_reply_takes_no_memory = refl
 
 a_collect_takes_no_memory : takes_memory (step_of table fresh (collect 1)).0 ≡ false
 a_collect_takes_no_memory = refl
+
+-- ---- messages
+abbrev take_out : Command ℕ
+take_out = command.TakeOut
+
+-- a message of the machine
+abbrev message : ℕ → MachineId → ℕ → Message ℕ
+message number target content = record { sender = id; number = number; target = target; content = content }
+
+-- it is taken out
+abbrev taken : ℕ → MachineId → ℕ → Answer ℕ ℕ
+taken number target content = answer.TakeOut (Some (message number target content))
+
+abbrev none_taken : Answer ℕ ℕ
+none_taken = answer.TakeOut None
+
+-- a cast in the first state is finished, and messages with these numbers are sent
+abbrev sending : ℕ → List ℕ → Answer ℕ ℕ
+sending number sent = reported (record (report number kind.Cast 0 0 Finished []) { sent = sent })
+
+-- a machine with messages that were not taken out yet, and the number that its next message gets
+abbrev with_outbox : MachineState ℕ ℕ ℕ → List (Message ℕ) → ℕ → MachineState ℕ ℕ ℕ
+with_outbox machine messages next = record machine { outbox = record { messages = messages; next_number = next } }
+
+-- two messages are sent, in the order of their actions
+abbrev two_messages : List (Message ℕ)
+two_messages = message 1 other_machine 5 ∷ message 2 third_machine 6 ∷ []
+
+abbrev with_two : MachineState ℕ ℕ ℕ → MachineState ℕ ℕ ℕ
+with_two machine = with_outbox machine two_messages 3
+
+messages_are_sent : RunsOf 50 fresh (cast 52 ∷ turn 0 ∷ []) (posted 1 ∷ sending 1 (1 ∷ 2 ∷ []) ∷ []) (with_two (at_rest 0 7 0 2))
+messages_are_sent = runs_of 50 fresh (cast 52 ∷ turn 0 ∷ [])
+
+-- one is taken out, the other after the end, and then there is none
+abbrev sent_and_taken : List (Command ℕ)
+sent_and_taken = cast 52 ∷ turn 0 ∷ take_out ∷ command.Stop 4 ∷ turn 0 ∷ take_out ∷ take_out ∷ []
+
+messages_are_taken_out : RunsOf 50 fresh sent_and_taken
+    (posted 1 ∷ sending 1 (1 ∷ 2 ∷ []) ∷ taken 1 other_machine 5 ∷ answer.Stop (Ok 7)
+    ∷ not_turned (refusal.Stopped 4) ∷ taken 2 third_machine 6 ∷ none_taken ∷ [])
+    (at_end (with_outbox (at_rest 0 7 0 2) [] 3) 4 7)
+messages_are_taken_out = runs_of 50 fresh sent_and_taken
+
+-- a machine is ready while it has a message, also after its end, though a turn finds no event; without one it rests
+message_is_ready : is_ready_of (with_two (at_rest 0 7 0 2)) ≡ true
+message_is_ready = refl
+
+message_is_ready_after_the_end : is_ready_of (at_end (with_two (at_rest 0 7 0 2)) 4 7) ≡ true
+message_is_ready_after_the_end = refl
+
+message_is_no_event : has_event_of (with_two (at_rest 0 7 0 2)) ≡ false
+message_is_no_event = refl
+
+message_does_not_wait : waiting_of (with_two (at_rest 0 7 0 2)) ≡ 0
+message_does_not_wait = refl
+
+rests_without_message : is_ready_of (with_outbox (at_rest 0 7 0 2) [] 3) ≡ false
+rests_without_message = refl
+
+a_turn_finds_no_message : RunsOf 50 (with_two (at_rest 0 7 0 2)) (turn 4 ∷ []) (idle ∷ []) (with_two (at_rest 0 7 4 2))
+a_turn_finds_no_message = runs_of 50 (with_two (at_rest 0 7 0 2)) (turn 4 ∷ [])
+
+-- with an event, a time-out and a message, whatever their order in the list
+one_of_each_is_sent : RunsOf 50 fresh (cast 53 ∷ turn 3 ∷ [])
+    (posted 1
+    ∷ reported (record (report 1 kind.Cast 0 1 Finished (2 ∷ [])) {
+      set = (timer.Named 5, decision.Set (After 5)) ∷ [];
+      sent = 1 ∷ [];
+    }) ∷ [])
+    (with_outbox
+    (with_timers (with_items (at_rest 1 7 3 4) (Received (record { number = 2; kind = kind.Internal; content = 20 }) ∷ []) [])
+    (runs (timer.Named 5) 3 (At 8) ∷ []))
+    (message 1 other_machine 7 ∷ [])
+    2)
+one_of_each_is_sent = runs_of 50 fresh (cast 53 ∷ turn 3 ∷ [])
+
+-- a turn that stops sends nothing, and what was sent stays; nor does one whose enter call stops
+a_stop_sends_nothing : RunsOf 50 (with_two fresh) (cast 15 ∷ turn 0 ∷ []) (posted 1 ∷ ended 1 7 ∷ []) (at_end (with_two (at_rest 0 7 0 2)) 9 7)
+a_stop_sends_nothing = runs_of 50 (with_two fresh) (cast 15 ∷ turn 0 ∷ [])
+
+entering_stops_and_sends_nothing : RunsOf 72 (with_two fresh) (cast 53 ∷ turn 0 ∷ [])
+    (posted 1
+    ∷ reported (record (report 1 kind.Cast 0 1 (Ended 4 7) []) {
+      calls = Handle 1 kind.Cast 0 ∷ Enter 0 1 ∷ Terminate 4 1 7 ∷ [];
+    }) ∷ [])
+    (at_end (with_two (at_rest 1 7 0 2)) 4 7)
+entering_stops_and_sends_nothing = runs_of 72 (with_two fresh) (cast 53 ∷ turn 0 ∷ [])
+
+-- the messages of a start are numbered from 1 on
+start_sends : started 12 0 1
+    ≡ Ok (Running
+    (record { module_ = 50; machine = with_outbox (at_rest 0 7 0 1) (message 1 other_machine 5 ∷ []) 2 })
+    (record (start_report [] []) { sent = 1 ∷ [] }))
+start_sends = refl
+
+-- one message number is left: a turn that sends two is refused, and all is as it was; one that sends one is not
+abbrev one_message_left : MachineState ℕ ℕ ℕ
+one_message_left = with_outbox fresh [] 9223372036854775807
+
+message_numbers_end : RunsOf 50 one_message_left (cast 52 ∷ turn 4 ∷ take_out ∷ [])
+    (posted 1 ∷ not_turned Exhausted ∷ none_taken ∷ [])
+    (with_items (with_outbox (at_rest 0 7 0 2) [] 9223372036854775807) (Posted (cast_event 1 52) ∷ []) [])
+message_numbers_end = runs_of 50 one_message_left (cast 52 ∷ turn 4 ∷ take_out ∷ [])
+
+the_last_message_is_sent : RunsOf 50 one_message_left (cast 55 ∷ turn 4 ∷ take_out ∷ cast 55 ∷ turn 5 ∷ [])
+    (posted 1 ∷ sending 1 (9223372036854775807 ∷ []) ∷ taken 9223372036854775807 other_machine 8 ∷ posted 2 ∷ not_turned Exhausted ∷ [])
+    (with_items (with_outbox (at_rest 0 7 4 3) [] 9223372036854775808) (Posted (cast_event 2 55) ∷ []) [])
+the_last_message_is_sent = runs_of 50 one_message_left (cast 55 ∷ turn 4 ∷ take_out ∷ cast 55 ∷ turn 5 ∷ [])
+
+-- a take-out takes no memory
+a_take_out_takes_no_memory : takes_memory (step_of table (with_two fresh) take_out).0 ≡ false
+a_take_out_takes_no_memory = refl
+
+-- a turn that sends and finds no memory sends nothing, and tried again it sends the same
+abbrev about_to_send : MachineState ℕ ℕ ℕ
+about_to_send = with_items (at_rest 0 7 0 2) (Posted (cast_event 1 52) ∷ []) []
+
+sent_once : RunsOf 50 about_to_send (turn 0 ∷ turn 0 ∷ [])
+    (not_turned NoMemory ∷ sending 1 (1 ∷ 2 ∷ []) ∷ [])
+    (with_two (at_rest 0 7 0 2))
+sent_once = (with_table 50 about_to_send, inr (refl, refl, refl), runs_of 50 about_to_send (turn 0 ∷ []))
 
 -- ---- the accounting
 -- a postponed cast, one that inserts two and is postponed, a time-out: what is accepted and what is finished

@@ -10,6 +10,7 @@ use Rattle.st_events.specs.declared.enter_outcome.EnterOutcome.TheVariants as en
 use Rattle.st_events.specs.declared.init.Init.{Init}
 use Rattle.st_events.specs.declared.init.Init.TheVariants as init
 use Rattle.st_events.specs.declared.kind.Kind.TheVariants.{Cast, Internal}
+use Rattle.st_events.specs.declared.machine_id.MachineId.{MachineId}
 use Rattle.st_events.specs.declared.outcome.Outcome.{Outcome}
 use Rattle.st_events.specs.declared.outcome.Outcome.TheVariants.{NextState, KeepState, KeepStateAndData, RepeatState, RepeatStateAndData, Stop, StopAndReply}
 use Rattle.st_events.specs.declared.tag.Tag.{Tag}
@@ -31,6 +32,14 @@ third_tag = record { machine = record { slot = 0; serial = 1 }; request = 3 }
 -- a request to another machine
 abbrev pub foreign_tag : Tag
 foreign_tag = record { machine = record { slot = 0; serial = 2 }; request = 1 }
+
+-- another machine
+abbrev pub other_machine : MachineId
+other_machine = record { slot = 1; serial = 2 }
+
+-- a third machine
+abbrev pub third_machine : MachineId
+third_machine = record { slot = 2; serial = 3 }
 
 -- five actions, one more than a list holds without memory
 abbrev pub five_actions : List (Action ℕ)
@@ -56,6 +65,28 @@ six_requests =
     Update (timer.Named 1) 4 ∷ Set (timer.Named 5) (After 20) 0 ∷ Cancel (timer.Named 1) ∷ Send foreign_tag.machine 0
     ∷ Update (timer.Named 5) 3 ∷ Update timer.State 4 ∷ []
 
+-- two messages, with another action between
+abbrev pub two_sends : List (Action ℕ)
+two_sends = Send other_machine 5 ∷ Postpone false ∷ Send third_machine 6 ∷ []
+
+-- a message, a setting of a timer and an insert
+abbrev pub send_set_insert : List (Action ℕ)
+send_set_insert = Send other_machine 7 ∷ Set (timer.Named 5) (After 5) 0 ∷ NextEvent Internal 20 ∷ []
+
+-- five messages, one more than a list holds without memory, the fourth to the machine itself
+abbrev pub five_sends : List (Action ℕ)
+five_sends =
+    Send other_machine 1 ∷ Send third_machine 2 ∷ Send other_machine 3 ∷ Send first_tag.machine 4 ∷ Send foreign_tag.machine 5 ∷ []
+
+-- what `handle` answers to the contents that send
+abbrev pub handled_by_sending : ℕ → ℕ → Outcome ℕ ℕ ℕ
+handled_by_sending content held =
+    if content == 52 then KeepStateAndData two_sends
+    else (if content == 53 then NextState 1 held send_set_insert
+    else (if content == 54 then KeepStateAndData five_sends
+    else (if content == 55 then KeepStateAndData (Send other_machine 8 ∷ [])
+    else KeepStateAndData [])))
+
 -- what `handle` answers to the contents that update and cancel
 abbrev pub handled_by_updating : ℕ → ℕ → Outcome ℕ ℕ ℕ
 handled_by_updating content held =
@@ -68,7 +99,7 @@ handled_by_updating content held =
     else (if content == 49 then KeepStateAndData (Update timer.State 4 ∷ [])
     else (if content == 50 then NextState 1 held (Update timer.State 4 ∷ [])
     else (if content == 51 then KeepStateAndData six_requests
-    else KeepStateAndData []))))))))
+    else handled_by_sending content held))))))))
 
 -- what `handle` answers to the contents that ask for more than a list holds without memory
 abbrev pub handled_at_length : ℕ → ℕ → Outcome ℕ ℕ ℕ
@@ -201,4 +232,5 @@ begun_by_table arg =
     else (if arg == 9 then init.Ok 0 7 actions_of_each_kind
     else (if arg == 10 then init.Ok 0 7 (Update (timer.Named 5) 4 ∷ [])
     else (if arg == 11 then init.Ok 0 7 (Set (timer.Named 5) (After 5) 43 ∷ [])
-    else init.Stop arg))))))))))
+    else (if arg == 12 then init.Ok 0 7 (Send other_machine 5 ∷ [])
+    else init.Stop arg)))))))))))

@@ -11,6 +11,7 @@ mod host;
 mod journal;
 mod long_lists;
 mod machine;
+mod messages;
 mod postponing;
 mod requests;
 mod reserved;

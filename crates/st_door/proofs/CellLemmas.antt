@@ -3,7 +3,7 @@ use Rattle.std.proofs.Common.{◌≡◌, ◌≢◌, ℕ, ◌+◌, Bool, true, fa
 use Rattle.std.specs.Prelude.{Result, Ok, Err, is_some}
 use Rattle.std.specs.Option.{option_map}
 use Rattle.std.proofs.lemmas.Bool.{cases_Bool}
-use Rattle.st_core.specs.Choice.{is_ready_of}
+use Rattle.st_core.specs.Choice.{has_event_of}
 use Rattle.st_core.specs.Callbacks.{Callbacks, callbacks_of}
 use Rattle.st_core.specs.Run.{step_of}
 use Rattle.st_core.specs.declared.answer.Answer.TheVariants as answer
@@ -17,7 +17,7 @@ use Rattle.st_events.specs.declared.refused.Refused.{Refused}
 use Rattle.st_events.specs.declared.token.Token.{Token}
 use Rattle.st_scheduled.specs.declared.outstanding.Outstanding.{Outstanding}
 use Rattle.st_scheduled.specs.declared.step_answer.StepAnswer.{StepAnswer}
-use Rattle.st_scheduled.specs.ScheduledMachine.{id_of, token_of, is_token_of, same_id, has_wake}
+use Rattle.st_scheduled.specs.ScheduledMachine.{id_of, has_message, token_of, is_token_of, same_id, has_wake}
 use Rattle.st_scheduled.specs.Serving.{content_of, refused_with, hands_out, is_full, told_as, told_on}
 use Rattle.st_events.proofs.ComparedLemmas.{same_number}
 use Rattle.st_scheduled.proofs.TokensCompared.{some_is, same_id_self}
@@ -50,7 +50,10 @@ told-left old (answer.Post (Err refused)) core stays = sym (stays refused.refusa
 told-left old (answer.Tick (Ok expired)) core stays = refl
 told-left old (answer.Tick (Err refusal)) core stays = sym (stays refusal refl)
 told-left old (answer.Turn (Ok (Reported report))) core stays = refl
-told-left old (answer.Turn (Ok Idle)) core stays = refl
+told-left old (answer.Turn (Ok Idle)) core stays = elim (cases_Bool (has_message core)) [
+  | inl sending ↦ rw sending refl
+  | inr none ↦ rw none refl
+]
 told-left old (answer.Turn (Err refusal)) core stays = sym (stays refusal refl)
 told-left old (answer.Reply taken) core stays = refl
 told-left old (answer.Collect shown) core stays = elim (cases_Bool (hands_out shown)) [
@@ -59,6 +62,8 @@ told-left old (answer.Collect shown) core stays = elim (cases_Bool (hands_out sh
 ]
 told-left old (answer.Stop (Ok word)) core stays = refl
 told-left old (answer.Stop (Err refusal)) core stays = sym (stays refusal refl)
+told-left old (answer.TakeOut None) core stays = refl
+told-left old (answer.TakeOut (Some message)) core stays = refl
 
 -- a refusal changes nothing
 stays-refused : (cell : DoorCellState) (command : Command DoorContent) (refusal : Refusal) → refusal_in (told_in cell command).0 ≡ Some refusal
@@ -84,7 +89,10 @@ entry-told old command (answer.Post (Err refused)) core = (refl, omega arith)
 entry-told old command (answer.Tick (Ok expired)) core = (refl, refl)
 entry-told old command (answer.Tick (Err refusal)) core = (refl, omega arith)
 entry-told old command (answer.Turn (Ok (Reported report))) core = (refl, refl)
-entry-told old command (answer.Turn (Ok Idle)) core = (refl, omega arith)
+entry-told old command (answer.Turn (Ok Idle)) core = elim (cases_Bool (has_message core)) [
+  | inl sending ↦ rw sending (refl, omega arith)
+  | inr none ↦ rw none (refl, omega arith)
+]
 entry-told old command (answer.Turn (Err refusal)) core = (refl, omega arith)
 entry-told old command (answer.Reply taken) core = (refl, refl)
 entry-told old command (answer.Collect shown) core = elim (cases_Bool (hands_out shown)) [
@@ -93,6 +101,8 @@ entry-told old command (answer.Collect shown) core = elim (cases_Bool (hands_out
 ]
 entry-told old command (answer.Stop (Ok word)) core = (refl, refl)
 entry-told old command (answer.Stop (Err refusal)) core = (refl, omega arith)
+entry-told old command (answer.TakeOut None) core = (refl, omega arith)
+entry-told old command (answer.TakeOut (Some message)) core = (refl, refl)
 
 -- the callbacks of a door's module
 abbrev given : Door → Callbacks DoorState DoorData DoorContent
@@ -155,7 +165,7 @@ own-token scheduled token same = own-of (id_of scheduled) scheduled.token token 
 
 -- the turn of a door that is ready leaves the definition's machine, and its entry
 pub turned : (cell new : DoorCellState) (token : Token) (moment : ℕ) (result : Result Next (Refused Token))
-    → is_full cell.scheduled ≡ false → is_ready_of (machine_in cell) ≡ true → token_of cell.scheduled ≡ Some token
+    → is_full cell.scheduled ≡ false → has_event_of (machine_in cell) ≡ true → token_of cell.scheduled ≡ Some token
     → turn_refusal result ≢ Some NoMemory
     → Turns (callbacks_of ghosts eq-value.it) cell token moment result new
     → HasTold (command.Turn moment) cell new

@@ -4,7 +4,7 @@ use Rattle.std.specs.List.{sum_by, find, flat_map}
 use Rattle.std.proofs.lemmas.Bool.{cases_Bool}
 use Rattle.std.proofs.lemmas.List.{length-set}
 use Rattle.std.proofs.lemmas.List.Sums.{sum_by-cons}
-use Rattle.st_core.specs.Choice.{is_ready_of, next_due_of}
+use Rattle.st_core.specs.Choice.{has_event_of, next_due_of}
 use Rattle.st_core.specs.Run.{step_of}
 use Rattle.st_core.specs.Tick.{expiring_of}
 use Rattle.st_core.specs.Transition.{with_moment}
@@ -148,7 +148,7 @@ quiet-before machine due next bounded first seen runs is = λ moment less.
     (tick-nothing door_callbacks machine moment runs (omega (arith, less, bounded)) (nothing-expires (with_moment machine moment).latest next machine.schedule.pending machine.schedule.running is now)) refl
 
 -- ---- what is read off a door
-ready-by : (end : Option (ℕ × ℕ)) (moment : ℕ) (machine : DoorMachine) → is_ready_of (later_by end moment machine) ≡ is_ready_of machine
+ready-by : (end : Option (ℕ × ℕ)) (moment : ℕ) (machine : DoorMachine) → has_event_of (later_by end moment machine) ≡ has_event_of machine
 ready-by None moment machine = refl
 ready-by (Some end) moment machine = refl
 
@@ -170,7 +170,7 @@ by_history f None moment machine same = same
 by_history f (Some history) moment machine same = refl
 
 pub ready-caught : (moment : ℕ) (door : NamedDoor) → is_ready_door (caught_up moment door) ≡ is_ready_door door
-ready-caught moment door = by_history (λ (machine : DoorMachine). is_ready_of machine) door.history moment door.machine (ready-by door.machine.ended moment door.machine)
+ready-caught moment door = by_history (λ (machine : DoorMachine). has_event_of machine) door.history moment door.machine (ready-by door.machine.ended moment door.machine)
 
 pub id-caught : (moment : ℕ) (door : NamedDoor) → (caught_up moment door).machine.id ≡ door.machine.id
 id-caught moment door = by_history (λ (machine : DoorMachine). machine.id) door.history moment door.machine (id-by door.machine.ended moment door.machine)
@@ -332,14 +332,14 @@ none-seen late moment due (door ∷ doors) order less bounded are =
 
 -- ---- doors of which no time-out expires
 ready-none : (machine : DoorMachine) (moment : ℕ) → count_in (step_of door_callbacks machine (command.Tick moment)).0 ≡ 0
-    → is_ready_of (step_of door_callbacks machine (command.Tick moment)).1 ≡ is_ready_of machine
+    → has_event_of (step_of door_callbacks machine (command.Tick moment)).1 ≡ has_event_of machine
 ready-none machine moment none = elim (cases_ended machine.ended) [
   | inl runs ↦ elim (cases_Bool (nat_lt moment (2 ^ 63))) [
     | inl early ↦
         let count = rw (runs, early) at none in
         let nothing : expiring_of (with_moment machine moment) ≡ [] = length_zero (expiring_of (with_moment machine moment)) count in
         let same = tick-nothing door_callbacks machine moment runs (grind (arith, early)) nothing in
-        ap (λ (told : DoorAnswer × DoorMachine). is_ready_of told.1) same ∙ ready-by machine.ended moment machine
+        ap (λ (told : DoorAnswer × DoorMachine). has_event_of told.1) same ∙ ready-by machine.ended moment machine
     | inr late ↦ rw (runs, late) refl
   ]
   | inr ended ↦ rw ended.1 refl

@@ -88,6 +88,7 @@ module _ {S D C : Type 0} where
     latest-told machine (command.Reply tag content) = omega arith
     latest-told machine (command.Collect tag) = omega arith
     latest-told machine (command.Stop reason) = latest-unless machine.ended _ machine (stop_running callbacks machine reason) (omega arith)
+    latest-told machine command.TakeOut = omega arith
 
     -- ---- a machine that has ended stays so
     pub ended-told : (machine : MachineState S D C) (command : Command C) (end : ℕ × ℕ) → machine.ended ≡ Some end → (step_of callbacks machine command).1.ended ≡ Some end
@@ -97,6 +98,7 @@ module _ {S D C : Type 0} where
     ended-told machine (command.Reply tag content) end is = is
     ended-told machine (command.Collect tag) end is = is
     ended-told machine (command.Stop reason) end is = rw is refl
+    ended-told machine command.TakeOut end is = is
 
   -- ---- a machine that has seen a moment
   ended-later_by : (end : Option (ℕ × ℕ)) (moment : ℕ) (machine : MachineState S D C) → (later_by end moment machine).ended ≡ machine.ended

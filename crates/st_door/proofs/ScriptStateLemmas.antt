@@ -14,7 +14,7 @@ use Rattle.st_core.specs.declared.answer.Answer.TheVariants as answer
 use Rattle.st_core.specs.declared.command.Command.{Command}
 use Rattle.st_core.specs.declared.command.Command.TheVariants as command
 use Rattle.st_core.specs.Start.{first_state, start_of}
-use Rattle.st_core.specs.Choice.{is_ready_of}
+use Rattle.st_core.specs.Choice.{has_event_of}
 use Rattle.st_core.specs.declared.report.Report.{Report}
 use Rattle.st_core.specs.declared.start.Start.TheVariants.{Running}
 use Rattle.st_door.specs.Door.{init_of}
@@ -277,12 +277,12 @@ new-place script acted name code free started = elim (cases_Bool (nat_lt script.
 -- a door that starts: its id is the next one, and it is at rest
 pub started-state : (script : ScriptState) (code : List ℕ) (core : DoorCore) (report : Report DoorState)
     → Ok (Running core report) ≡ door_start_of script code
-    → (core.machine.id ≡ next_id_of script) × (is_ready_of core.machine ≡ false)
+    → (core.machine.id ≡ next_id_of script) × (has_event_of core.machine ≡ false)
 started-state script code core report started = elim (cases_Bool (nat_lt script.moment (2 ^ 63))) [
   | inl early ↦
       let went = rw early at started in
       let same : core.machine ≡ first_state (next_id_of script) Locked (record { code = code; buttons = [] }) script.moment 1 = cc in
-      (ap (λ (machine : DoorMachine). machine.id) same, ap (λ (machine : DoorMachine). is_ready_of machine) same)
+      (ap (λ (machine : DoorMachine). machine.id) same, ap (λ (machine : DoorMachine). has_event_of machine) same)
   | inr late ↦ let went = rw late at started in cc
 ]
 

@@ -108,6 +108,7 @@ id-told machine (command.Turn moment) = id-unless machine.ended _ machine (turn_
 id-told machine (command.Reply tag content) = refl
 id-told machine (command.Collect tag) = refl
 id-told machine (command.Stop reason) = id-unless machine.ended _ machine (stop_running door_callbacks machine reason) refl
+id-told machine command.TakeOut = refl
 
 -- ---- what a refusal leaves
 -- a machine that has ended stays, and one that runs does where a refused call leaves it
@@ -158,6 +159,7 @@ told-refused machine (command.Reply tag content) refusal refused = cc
 told-refused machine (command.Collect tag) refusal refused = cc
 told-refused machine (command.Stop reason) refusal refused =
     stays-unless machine.ended _ refusal_by machine (stop_running door_callbacks machine reason) refusal (λ none. cc) refused
+told-refused machine command.TakeOut refusal refused = cc
 
 -- nor is it recorded
 pub refused-not-recorded : (said : DoorAnswer) (refusal : Refusal) → refusal_in said ≡ Some refusal → is_recorded said ≡ false
@@ -172,6 +174,7 @@ refused-not-recorded (answer.Reply taken) refusal refused = cc
 refused-not-recorded (answer.Collect shown) refusal refused = cc
 refused-not-recorded (answer.Stop (Ok word)) refusal refused = cc
 refused-not-recorded (answer.Stop (Err why)) refusal refused = refl
+refused-not-recorded (answer.TakeOut message) refusal refused = cc
 
 -- a history stays where nothing is recorded
 history-same : (command : Command DoorContent) (said : DoorAnswer) (history : Option History) → is_recorded said ≡ false → history_told command said history ≡ history

@@ -1,9 +1,9 @@
 -- The doors of a script, in order of registration.
-use Rattle.std.specs.Prelude.{◌≡◌, ℕ, zero, suc, ◌+◌, ◌<◌, ◌≤◌, ◌⊎◌, Bool, true, false, List, [], ◌∷◌, Option, Some, None, Result, Ok, Err, ◌++◌, map, find, length, bytes_eq, slice_index_or, ◌==◌, if◌then◌else◌}
+use Rattle.std.specs.Prelude.{◌≡◌, ℕ, zero, suc, ◌+◌, ◌<◌, ◌≤◌, ◌⊎◌, Bool, true, false, List, [], ◌∷◌, Option, Some, None, is_some, Result, Ok, Err, ◌++◌, map, find, length, bytes_eq, slice_index_or, ◌==◌, if◌then◌else◌}
 use Rattle.std.specs.List.{list_any, sum_by}
 use Rattle.st_core.specs.declared.machine_state.MachineState.{MachineState}
 use Rattle.st_core.specs.Callbacks.{Callbacks}
-use Rattle.st_core.specs.Choice.{is_ready_of}
+use Rattle.st_core.specs.Choice.{has_event_of}
 use Rattle.st_core.specs.Post.{next_tag}
 use Rattle.st_core.specs.Run.{step_of}
 use Rattle.st_core.specs.declared.answer.Answer.{Answer}
@@ -97,11 +97,17 @@ names_of doors = map (λ door. door.name) doors
 
 -- whether a turn of the door would handle an event
 abbrev pub is_ready_door : NamedDoor → Bool
-is_ready_door door = is_ready_of door.machine
+is_ready_door door = has_event_of door.machine
 
 -- the door is told a command: what it answers, and the machine after it
 abbrev pub told_of : Command DoorContent → NamedDoor → DoorAnswer × DoorMachine
 told_of command door = step_of door_callbacks door.machine command
+
+-- whether a door is served by a command: a turn, or a take-out
+abbrev pub serves : Command DoorContent → Bool
+serves (command.Turn moment) = true
+serves command.TakeOut = true
+serves _ = false
 
 -- whether a command that was answered so is kept in a history: it was taken, and did not collect in vain
 abbrev pub is_recorded : DoorAnswer → Bool
@@ -116,6 +122,7 @@ is_recorded (answer.Reply taken) = true
 is_recorded (answer.Collect collected) = hands_out collected
 is_recorded (answer.Stop (Ok word)) = true
 is_recorded (answer.Stop (Err refusal)) = false
+is_recorded (answer.TakeOut message) = is_some message
 
 -- the port by which a command comes: a post comes by the door's one port
 abbrev pub port_of : Command DoorContent → Option ℕ
@@ -125,6 +132,7 @@ port_of (command.Turn moment) = None
 port_of (command.Reply tag content) = None
 port_of (command.Collect tag) = None
 port_of (command.Stop reason) = None
+port_of command.TakeOut = None
 
 -- the entry of a command that was answered so, with this number, if it is kept
 abbrev pub recorded : ℕ → Command DoorContent → DoorAnswer → List DoorEntry
@@ -172,6 +180,7 @@ refusal_in (answer.Turn turned) = refusal_by turned
 refusal_in (answer.Reply taken) = None
 refusal_in (answer.Collect collected) = None
 refusal_in (answer.Stop stopped) = refusal_by stopped
+refusal_in (answer.TakeOut message) = None
 
 -- how many time-outs expire at a tick: none where it is refused, as that of an ended door is
 abbrev pub count_by : Result ℕ Refusal → ℕ
@@ -186,6 +195,7 @@ count_in (answer.Turn turned) = 0
 count_in (answer.Reply taken) = 0
 count_in (answer.Collect collected) = 0
 count_in (answer.Stop stopped) = 0
+count_in (answer.TakeOut message) = 0
 
 -- the length that content says, if it says one
 abbrev pub length_of : DoorContent → Option ℕ
@@ -209,6 +219,7 @@ length_in (answer.Tick ticked) = None
 length_in (answer.Turn turned) = None
 length_in (answer.Reply taken) = None
 length_in (answer.Stop stopped) = None
+length_in (answer.TakeOut message) = None
 
 -- a button is pressed
 abbrev pub presses : ℕ → Command DoorContent

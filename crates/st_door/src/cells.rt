@@ -1,6 +1,6 @@
 //! What is done with the cell of a door, through its one port.
 ghost use Rattle.std.specs.Prelude.{◌≡◌, ◌≤◌, true, false, max, length, IfOk, OnOk, OnErr};
-ghost use Rattle.st_core.specs.Choice.{is_ready_of, waiting_of};
+ghost use Rattle.st_core.specs.Choice.{has_event_of, waiting_of};
 ghost use Rattle.st_core.specs.Run.{step_of};
 ghost use Rattle.st_core.specs.declared.command.Command.TheVariants as command;
 ghost use Rattle.st_scheduled.specs.Serving.{is_full};
@@ -162,7 +162,7 @@ pub(crate) fn collect(cell: &mut Cell<Door>, tag: Tag) -> Result<DoorAnswer, All
 /// Serves a door that is ready, by its token.
 pub(crate) fn turn(cell: &mut Cell<Door>, moment: u64) -> Result<(), AllocError>
     requires ready { is_full cell.old.scheduled ≡ false }
-    requires work { is_ready_of (machine_in cell.old) ≡ true }
+    requires work { has_event_of (machine_in cell.old) ≡ true }
     ensures told { OnOk result (HasTold (command.Turn moment) cell.old cell.new) }
 
     ensures unchanged { OnErr result (cell.new ≡ cell.old) }

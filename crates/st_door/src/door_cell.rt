@@ -1,11 +1,10 @@
 //! A door of a script: its machine in a cell of its own.
 ghost use Rattle.std.specs.Prelude.{◌≡◌, ◌≤◌, ◌^◌, true, false, IfOk, IfErr, OnOk, OnErr, MatchResult};
 ghost use Rattle.std.specs.Io.KnownBytes.{Appends};
-ghost use Rattle.st_core.specs.Choice.{is_ready_of};
+ghost use Rattle.st_core.specs.Choice.{has_event_of};
 ghost use Rattle.st_core.specs.Run.{step_of};
 ghost use Rattle.st_core.specs.declared.command.Command.TheVariants as command;
-ghost use Rattle.st_scheduled.specs.Serving.{is_turn};
-ghost use Rattle.st_door.specs.Doors.{door_at_first, door_callbacks, told_kept};
+ghost use Rattle.st_door.specs.Doors.{door_at_first, door_callbacks, told_kept, serves};
 ghost use Rattle.st_door.specs.Late.{IsQuietUntil, is_late};
 ghost use Rattle.st_door.specs.ScriptFault.{IsOfInput, write_failures_after};
 ghost use Rattle.st_door.specs.Streams.{AppendsFront};
@@ -96,10 +95,10 @@ impl DoorCell {
         }
     }
 
-    /// Tells the door a command that is no turn, and answers its answer. Where memory is wanted and there is none, the
+    /// Tells the door a command that is no turn and no take-out, and answers its answer. Where memory is wanted and there is none, the
     /// door stays.
     pub(crate) fn tell(&mut self, command: Command<DoorContent>) -> Result<DoorAnswer, AllocError>
-        requires { is_turn command ≡ false }
+        requires { serves command ≡ false }
         ensures answer { IfOk result (λ answer. answer ≡ (step_of door_callbacks self.old.machine command).0) }
         ensures told { OnOk result (self.new ≡ told_kept command self.old) }
 
@@ -109,7 +108,7 @@ impl DoorCell {
         match command {
             Command::Post(entry, content) => post(&mut *self.cell, entry, content),
             Command::Tick(moment) => tick(&mut *self.cell, moment),
-            Command::Turn(_) => unreachable!(),
+            Command::Turn(_) | Command::TakeOut => unreachable!(),
             Command::Reply(tag, content) => reply(&mut *self.cell, tag, content),
             Command::Collect(tag) => collect(&mut *self.cell, tag),
             Command::Stop(reason) => stop(&mut *self.cell, reason),
@@ -118,7 +117,7 @@ impl DoorCell {
 
     /// Gives the door, which is ready, a turn. Where memory is wanted and there is none, the door stays.
     pub(crate) fn turn(&mut self, moment: u64) -> Result<(), AllocError>
-        requires { is_ready_of self.old.machine ≡ true }
+        requires { has_event_of self.old.machine ≡ true }
         ensures told { OnOk result (self.new ≡ told_kept (command.Turn moment) self.old) }
 
         ensures unchanged { OnErr result (self.new ≡ self.old) }

@@ -2,8 +2,7 @@
 ghost use Rattle.std.specs.Prelude.{◌≡◌, ◌<◌, ◌≤◌, ◌^◌, true, false, [], ◌∷◌, ◌++◌, None, is_some, IfOk, IfErr, OnOk, OnErr, MatchResult, IfSome, IfNone, length, slice_set, slice_index_or, string_bytes};
 ghost use Rattle.std.specs.Io.KnownBytes.{Appends};
 ghost use Rattle.st_core.specs.declared.command.Command.TheVariants as command;
-ghost use Rattle.st_scheduled.specs.Serving.{is_turn};
-ghost use Rattle.st_door.specs.Doors.{NamedDoor, door_named, IsFirst, has_name, door_of, without_door, is_ready_door, kept_of, told_of, told_door};
+ghost use Rattle.st_door.specs.Doors.{NamedDoor, door_named, IsFirst, has_name, door_of, without_door, is_ready_door, kept_of, told_of, told_door, serves};
 ghost use Rattle.st_door.specs.Late.{IsQuietUntil, is_late};
 ghost use Rattle.st_door.specs.Printing.{status_of, names_text};
 ghost use Rattle.st_door.specs.ScriptFault.{IsOfInput, write_failures_after};
@@ -127,7 +126,7 @@ impl Doors {
         requires { place < length self.now }
         ensures { (d : NamedDoor) → result ≡ is_ready_door (slice_index_or self.now place d) }
     {
-        self.entry_at(place).1.core().is_ready()
+        self.entry_at(place).1.core().has_event()
     }
 
     /// Says whether the door at a place has ended.
@@ -163,7 +162,7 @@ impl Doors {
         command: Command<DoorContent>,
     ) -> Result<DoorAnswer, AllocError>
         requires place { place < length self.old }
-        requires no_turn { is_turn command ≡ false }
+        requires no_turn { serves command ≡ false }
         ensures answer { IfOk result (λ answer. (d : NamedDoor) → answer ≡ (told_of command (slice_index_or self.old place d)).0) }
         ensures told { OnOk result ((d : NamedDoor) → self.new ≡ slice_set self.old place (told_door command (slice_index_or self.old place d))) }
 

@@ -2,8 +2,7 @@
 ghost use Rattle.std.specs.Prelude.{◌≡◌, ◌<◌, ◌≤◌, ◌^◌, ℕ, true, false, [], ◌∷◌, ◌++◌, None, is_some, IfOk, IfErr, OnOk, OnErr, MatchResult, IfSome, IfNone, length, slice_set, slice_index_or, string_bytes};
 ghost use Rattle.std.specs.Io.KnownBytes.{Appends};
 ghost use Rattle.st_core.specs.declared.command.Command.TheVariants as command;
-ghost use Rattle.st_scheduled.specs.Serving.{is_turn};
-ghost use Rattle.st_door.specs.Doors.{NamedDoor, door_named, IsFirst, has_name, door_of, kept_of, without_door, is_ready_door, told_of, told_door, all_expired_of, ticked_doors, SameLabels, door_limit};
+ghost use Rattle.st_door.specs.Doors.{NamedDoor, door_named, IsFirst, has_name, door_of, kept_of, without_door, is_ready_door, told_of, told_door, all_expired_of, ticked_doors, SameLabels, door_limit, serves};
 ghost use Rattle.st_door.specs.Late.{IsInTime, IsQuietUntil, caught_up};
 ghost use Rattle.st_door.specs.Printing.{status_of, names_text};
 ghost use Rattle.st_door.specs.ScriptFault.{IsOfInput, write_failures_after};
@@ -127,7 +126,7 @@ impl LateDoors {
         command: Command<DoorContent>,
     ) -> Result<DoorAnswer, AllocError>
         requires place { place < length self.old }
-        requires no_turn { is_turn command ≡ false }
+        requires no_turn { serves command ≡ false }
         ensures answer { IfOk result (λ answer. (d : NamedDoor) → answer ≡ (told_of command (slice_index_or self.old place d)).0) }
         ensures told { OnOk result ((d : NamedDoor) → self.new ≡ slice_set self.old place (told_door command (slice_index_or self.old place d))) }
 

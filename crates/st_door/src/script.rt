@@ -1,7 +1,6 @@
 //! A script between two of its lines.
 ghost use Rattle.std.specs.Prelude.{◌≡◌, ◌≤◌, ◌<◌, ℕ, false, None, Ok, Err, IfOk, IfErr, OnOk, OnErr, MatchResult, IfNone, IfSome, length, slice_index_or, slice_set};
-ghost use Rattle.st_scheduled.specs.Serving.{is_turn};
-ghost use Rattle.st_door.specs.Doors.{NamedDoor, IsFirst, SameLabels, door_limit, door_of, has_name, told_of, told_door, all_expired_of};
+ghost use Rattle.st_door.specs.Doors.{NamedDoor, IsFirst, SameLabels, door_limit, door_of, has_name, told_of, told_door, all_expired_of, serves};
 ghost use Rattle.st_door.specs.Printing.{status_of};
 ghost use Rattle.st_door.specs.ScriptFault.{IsOfInput, write_failures_after};
 ghost use Rattle.st_door.specs.Streams.{AppendsFront};
@@ -122,7 +121,7 @@ impl Script {
         name: &str,
         command: Command<DoorContent>,
     ) -> Result<Effect, AllocError>
-        requires { is_turn command ≡ false }
+        requires { serves command ≡ false }
         ensures effect { IfOk result (λ effect. effect ≡ (commanded_of self.old name.now command).0) }
         ensures script { OnOk result (self.new ≡ (commanded_of self.old name.now command).1) }
     {
@@ -262,7 +261,7 @@ impl Script {
         command: Command<DoorContent>,
     ) -> Result<DoorAnswer, AllocError>
         requires place { place < length self.old.doors }
-        requires no_turn { is_turn command ≡ false }
+        requires no_turn { serves command ≡ false }
         ensures answer { IfOk result (λ answer. (d : NamedDoor) → answer ≡ (told_of command (slice_index_or self.old.doors place d)).0) }
         ensures told { OnOk result ((d : NamedDoor) → self.new ≡ record self.old { doors = slice_set self.old.doors place (told_door command (slice_index_or self.old.doors place d)) }) }
     {

@@ -49,6 +49,7 @@ finished number calls before after set = record {
   replied = [];
   inserted = [];
   set = set;
+  sent = [];
 }
 
 -- the report of a start that enters the locked door; no timer is set
@@ -62,6 +63,7 @@ begun = record {
   replied = [];
   inserted = [];
   set = [];
+  sent = [];
 }
 
 abbrev started : DoorStart

@@ -3,6 +3,7 @@
 mod agenda;
 mod host;
 mod long_list;
+mod outbox;
 mod queue;
 mod requests;
 mod timeouts;

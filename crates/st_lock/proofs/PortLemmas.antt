@@ -17,10 +17,11 @@ use Rattle.st_core.specs.MachineState.{Machine}
 use Rattle.st_core.specs.Run.{step_on}
 use Rattle.st_scheduled.specs.declared.outstanding.Outstanding.{Outstanding}
 use Rattle.st_scheduled.specs.declared.posted.Posted.{Posted}
-use Rattle.st_scheduled.specs.declared.step_answer.StepAnswer.TheVariants.{Posted as PostedAs}
+use Rattle.st_scheduled.specs.declared.step_answer.StepAnswer.TheVariants.{Posted as PostedAs, Moved, Rested}
+use Rattle.st_scheduled.specs.declared.step_answer.StepAnswer.{StepAnswer}
 use Rattle.st_scheduled.specs.Answered.{posted_as}
-use Rattle.st_scheduled.specs.ScheduledMachine.{ScheduledMachine, has_work, id_of}
-use Rattle.st_scheduled.specs.Serving.{content_of, counted, is_full, issued, needs_count, refused_with, told_as, told_on, wake_of}
+use Rattle.st_scheduled.specs.ScheduledMachine.{ScheduledMachine, has_message, has_work, id_of}
+use Rattle.st_scheduled.specs.Serving.{content_of, counted, is_full, issued, needs_count, refused_with, retired, told_as, told_on, wake_of}
 use Rattle.st_events.specs.declared.refusal.Refusal.TheVariants.{Exhausted}
 use Rattle.st_scheduled.proofs.LeftStates.{step_id}
 use Rattle.st_cell.specs.declared.journal.Journal.{Journal}
@@ -38,6 +39,12 @@ token_named id count false None = tt
 token_named id count work (Some outstanding) = tt
 
 module _ {M S D C : Type 0} where
+  -- a machine that has no event answers no post, whether it has a message or not
+  idle_posts : (sending : Bool) (old : ScheduledMachine M S D C) (number : ℕ) (wake : Option Token)
+      → ◌≡◌ {A = StepAnswer S C} (PostedAs number wake) (if◌then◌else◌ {A = StepAnswer S C × ScheduledMachine M S D C} sending (Moved, old) (Rested, retired old)).0 → ⊥
+  idle_posts true old number wake is = cc
+  idle_posts false old number wake is = cc
+
   -- the token that is handed out with a post's number names the machine
   told_named : (old : ScheduledMachine M S D C) (answered : Answer S C) (core : Machine M S D C) → core.machine.id ≡ id_of old
       → (number : ℕ) (wake : Option Token) → PostedAs number wake ≡ (told_as old answered core).0 → IfSome wake (λ (one : Token). one.machine ≡ id_of old)
@@ -49,12 +56,13 @@ module _ {M S D C : Type 0} where
   told_named old (answer.Tick (Ok expired)) core same number wake is = absurd cc
   told_named old (answer.Tick (Err refusal)) core same number wake is = absurd cc
   told_named old (answer.Turn (Ok (Reported report))) core same number wake is = absurd cc
-  told_named old (answer.Turn (Ok Idle)) core same number wake is = absurd cc
+  told_named old (answer.Turn (Ok Idle)) core same number wake is = absurd (idle_posts (has_message core) (record old { core = core }) number wake is)
   told_named old (answer.Turn (Err refusal)) core same number wake is = absurd cc
   told_named old (answer.Reply taken) core same number wake is = absurd cc
   told_named old (answer.Collect shown) core same number wake is = absurd cc
   told_named old (answer.Stop (Ok word)) core same number wake is = absurd cc
   told_named old (answer.Stop (Err refusal)) core same number wake is = absurd cc
+  told_named old (answer.TakeOut message) core same number wake is = absurd cc
 
   -- also where the count may be full
   full_named : (full : Bool) (old : ScheduledMachine M S D C) (content : Option C) (answered : Answer S C) (core : Machine M S D C) → core.machine.id ≡ id_of old

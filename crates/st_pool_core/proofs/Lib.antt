@@ -1,4 +1,4 @@
--- Lemmas on tokens, run queues and hands, on machines and on what they are told, and on pools.
+-- Lemmas on tokens, run queues and hands, on machines and on what they are told, on pools, and on messages.
 pub mod QueueLemmas
 pub mod QueueCounts
 pub mod IdLemmas
@@ -12,3 +12,10 @@ pub mod PoolLemmas
 pub mod BalanceLemmas
 pub mod PlayLemmas
 pub mod OpeningLemmas
+pub mod TransitLemmas
+pub mod CarryingLemmas
+pub mod CarriedLemmas
+pub mod DeliveryLemmas
+pub mod MessageLemmas
+pub mod HandLemmas
+mod WorkedMessages

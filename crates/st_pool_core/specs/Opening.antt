@@ -1,8 +1,9 @@
 -- A pool as it begins.
-use Rattle.std.specs.Prelude.{◌≡◌, ◌⊎◌, ℕ, zero, suc, Bool, false, ◌&&◌, nat_lt, None, List, [], ◌∷◌, map}
+use Rattle.std.specs.Prelude.{◌≡◌, ◌⊎◌, ℕ, zero, suc, Bool, false, ◌&&◌, nat_lt, None, List, [], ◌∷◌, map, replicate}
 use Rattle.st_events.specs.declared.refusal.Refusal.{Refusal}
 use Rattle.st_events.specs.declared.refusal.Refusal.TheVariants.{NoMemory, NotPossible}
 use Rattle.st_events.specs.declared.machine_id.MachineId.{MachineId}
+use Rattle.st_outbox.specs.Outbox.{AreFrom}
 use Rattle.st_core.specs.MachineState.{Machine}
 use Rattle.st_pool_core.specs.PoolState.{PoolState, OneEach}
 use Rattle.st_pool_core.specs.Queues.{WorkerState}
@@ -16,6 +17,10 @@ idle_workers (suc count) = record { queue = []; hand = None } ∷ idle_workers c
 -- the id of a machine
 abbrev pub core_id : {M S D C : Type 0} → Machine M S D C → MachineId
 core_id core = core.machine.id
+
+-- a machine's outbox has its own messages alone
+abbrev pub HasItsOwn : {M S D C : Type 0} → Machine M S D C → Type 0
+HasItsOwn core = AreFrom core.machine.id core.machine.outbox.messages
 
 -- a pool may have 1 to 16 workers
 abbrev pub may_have : ℕ → Bool
@@ -32,4 +37,5 @@ abbrev pub opened : {M S D C : Type 0} → ℕ → List (Machine M S D C) → Po
 opened workers cores = record {
   machines = map scheduled_at_first cores;
   queues = record { shared = []; workers = idle_workers workers };
+  transit = replicate workers None;
 }

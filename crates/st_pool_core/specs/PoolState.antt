@@ -1,15 +1,17 @@
 -- A pool as a plain value: its machines, and where their tokens stand.
 use Rattle.std.specs.Prelude.{◌≡◌, ℕ, Bool, false, if◌then◌else◌, Option, Some, None, List, [], ◌∷◌, ◌++◌, map, position}
 use Rattle.st_events.specs.declared.machine_id.MachineId.{MachineId}
+use Rattle.st_events.specs.declared.message.Message.{Message}
 use Rattle.st_events.specs.declared.token.Token.{Token}
-use Rattle.st_scheduled.specs.ScheduledMachine.{same_id, callers_token, ScheduledMachine, id_of, token_of, is_token_of, is_with_callers_of}
+use Rattle.st_scheduled.specs.ScheduledMachine.{same_id, callers_token, ScheduledMachine, has_message, id_of, token_of, is_token_of, is_with_callers_of}
 use Rattle.st_pool_core.specs.Queues.{Queues}
 
--- the machines, in the order in which they came, and the run queues with the workers' hands; a token that is in no
--- run queue and no hand is with callers, which is noted at its machine
+-- the machines, in the order in which they came; the run queues with the workers' hands; and what each worker
+-- carries. A token that is in no run queue and no hand is with callers, which is noted at its machine
 pub record PoolState (M S D C : Type 0) : Type 0 where
   pub machines : List (ScheduledMachine M S D C)
   pub queues : Queues
+  pub transit : List (Option (Message C))
 
 module _ {M S D C : Type 0} where
   -- the machine of an id
@@ -49,6 +51,10 @@ module _ {M S D C : Type 0} where
   -- whether a token is with callers
   abbrev pub is_with_callers : List (ScheduledMachine M S D C) → Token → Bool
   is_with_callers machines token = holds_of (is_with_callers_of token) (machine_of token.machine machines)
+
+  -- whether the machine of an id has a message that was not taken out yet
+  abbrev pub has_messages : List (ScheduledMachine M S D C) → MachineId → Bool
+  has_messages machines id = holds_of (λ (one : ScheduledMachine M S D C). has_message one.core) (machine_of id machines)
 
   -- the outstanding token of a machine that may be there
   abbrev pub token_at : Option (ScheduledMachine M S D C) → Option Token

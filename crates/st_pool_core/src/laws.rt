@@ -1,6 +1,6 @@
-//! Laws of pools, for every callback module: each is shown once, and calling it does nothing. All but the first speak of
-//! the definitions alone.
-ghost use Rattle.std.specs.Prelude.{◌≡◌, ℕ, true, None, Some, List, map};
+//! Laws of pools, for every callback module: each is shown once, and calling it does nothing. But for those of a pool at
+//! hand they speak of the definitions alone.
+ghost use Rattle.std.specs.Prelude.{◌≡◌, ◌≤◌, ℕ, true, Some, List, All, length, map};
 ghost use Rattle.st_events.specs.declared.machine_id.MachineId.{MachineId};
 ghost use Rattle.st_events.specs.declared.token.Token.{Token};
 ghost use Rattle.st_core.specs.Callbacks.{Callbacks};
@@ -8,19 +8,21 @@ ghost use Rattle.st_core.specs.MachineState.{Machine};
 ghost use Rattle.st_pool_core.specs.declared.step.Step.{Step};
 ghost use Rattle.st_scheduled.specs.declared.step_answer.StepAnswer.{StepAnswer};
 ghost use Rattle.st_pool_core.specs.Balance.{IsBalanced, times_in};
-ghost use Rattle.st_pool_core.specs.Opening.{opened};
+ghost use Rattle.st_pool_core.specs.Deliveries.{CarriesOwn, KeepsMessages};
+ghost use Rattle.st_pool_core.specs.Opening.{opened, HasItsOwn};
 ghost use Rattle.st_pool_core.specs.Play.{Plays, EachWentThroughItsOwn};
 ghost use Rattle.st_scheduled.specs.ScheduledMachine.{ScheduledMachine, token_of, has_work};
 ghost use Rattle.st_pool_core.specs.PoolState.{PoolState, OneEach, machine_of};
 ghost use Rattle.st_pool_core.specs.Queues.{hand_in};
+ghost use Rattle.st_pool_core.specs.Transit.{transit_of};
 ghost use Rattle.st_scheduled.specs.Serving.{scheduled_at_first};
 
 use crate::PoolWorld;
 use st_events::Module;
 
 /// Each pool is balanced. No two machines have one id; a token that is outstanding stands once, with callers, in a run
-/// queue or in a hand, and no other token stands anywhere; and a machine that has not ended has an outstanding token
-/// exactly where it has work.
+/// queue or in a hand, and no other token stands anywhere; and each machine that has work, ended or not, has an
+/// outstanding token.
 ///
 /// Ours: docs/TRANSITIONS.md, Balanced pools.
 pub fn a_pool_is_balanced<M: Module>(world: &PoolWorld<M>)
@@ -68,6 +70,41 @@ pub fn no_machine_has_two_workers<M: Module>(_module: &M)
 /// Ours: docs/TRANSITIONS.md, Balanced pools.
 pub fn no_ready_machine_is_stranded<M: Module>(_module: &M)
     ensures { (pool : PoolState M M.State M.Data M.Content) (id : MachineId) (machine : ScheduledMachine M M.State M.Data M.Content)
-        → IsBalanced pool → machine_of id pool.machines ≡ Some machine → machine.core.machine.ended ≡ None → has_work machine.core ≡ true
+        → IsBalanced pool → machine_of id pool.machines ≡ Some machine → has_work machine.core ≡ true
         → (token : Token) × (token_of machine ≡ Some token) × (times_in token pool ≡ 1) }
+{}
+
+/// In each pool a worker that carries a message has the token of the machine that sent it, and each machine's outbox
+/// has its own messages alone.
+///
+/// Ours: docs/TRANSITIONS.md, Messages.
+pub fn a_pool_carries_its_own<M: Module>(world: &PoolWorld<M>)
+    ensures { CarriesOwn world.now }
+{
+    let _ = &world.alloc;
+}
+
+/// In a new pool no message is in transit, and each machine's messages are its own where they were before.
+///
+/// Ours: docs/TRANSITIONS.md, Messages.
+pub fn a_new_pool_carries_nothing<M: Module>(_module: &M)
+    ensures { (workers : ℕ) (cores : List (Machine M M.State M.Data M.Content)) → All HasItsOwn cores → CarriesOwn (opened workers cores) }
+{}
+
+/// Messages go their way in a play. Of each machine, what was in transit and in its outbox and what it sends is, in this
+/// order, what is delivered, then what is in transit, then what is in its outbox; what it sends is what its reports
+/// list; each message that arrives is a post among its target's own commands, in order; and each other one is lost
+/// since its target has ended, has no number left, or is not there.
+///
+/// Ours: docs/TRANSITIONS.md, Messages.
+pub fn a_play_keeps_messages<M: Module>(_module: &M)
+    ensures { (callbacks : M → Callbacks M.State M.Data M.Content) (old new : PoolState M M.State M.Data M.Content) (steps : List (Step M.Content)) (answers : List (StepAnswer M.State M.Content))
+        → IsBalanced old → CarriesOwn old → Plays callbacks old steps answers new → KeepsMessages callbacks old steps answers new }
+{}
+
+/// Of each machine of a pool one message at most is in transit.
+///
+/// Ours: docs/TRANSITIONS.md, Messages.
+pub fn a_machine_has_one_message_in_transit<M: Module>(_module: &M)
+    ensures { (pool : PoolState M M.State M.Data M.Content) (id : MachineId) → IsBalanced pool → CarriesOwn pool → length (transit_of id pool.transit) ≤ 1 }
 {}

@@ -1,18 +1,26 @@
 //! The machines of a pool, by id.
 ghost use Rattle.std.specs.Prelude.{◌≡◌, ◌<◌, length, map, None, IfOk, IfErr, IfSome, IfNone, option_copied};
+ghost use Rattle.st_core.specs.declared.command.Command.TheVariants as command;
 ghost use Rattle.st_core.specs.Callbacks.{callbacks_of};
 ghost use Rattle.st_pool_core.specs.Opening.{core_id};
-ghost use Rattle.st_pool_core.specs.PoolState.{place_of, machine_of, changed_for, is_with_callers, with_callers_in};
+ghost use Rattle.st_pool_core.specs.PoolState.{place_of, machine_of, changed_for, is_with_callers, has_messages, with_callers_in};
+ghost use Rattle.st_scheduled.specs.Answered.{posted_as, taken_out_as};
 ghost use Rattle.st_scheduled.specs.ScheduledMachine.{moved};
 ghost use Rattle.st_scheduled.specs.Serving.{scheduled_at_first};
 ghost use Rattle.st_pool_core.specs.Machines.{TellsOne, ServesOne};
 
 use indexmap::IndexSet;
-use st_core::{Command, Core};
-use st_events::{MachineId, Module, PlainList, Token};
-use st_scheduled::{AnswerOf, ScheduledMachine, StepAnswer};
+use st_core::{Command, Core, Entry};
+use st_events::{MachineId, Message, Module, PlainList, Refusal, Refused, Token};
+use st_scheduled::{AnswerOf, Posted, ScheduledMachine, StepAnswer};
 use std::alloc::{AllocError, Global};
 use std::marker::Model;
+
+/// What a machine answers to a take-out, or why it refused.
+type TakenOutOf<M> = Result<Option<Message<<M as Module>::Content>>, Refusal>;
+
+/// What a machine answers to a post, or why it refused.
+type PostedOf<M> = Result<Posted, Refused<<M as Module>::Content>>;
 
 /// The machines of a pool, in the order in which they came. One is found by its id in one hashed look-up.
 #[derive(Drop)]
@@ -79,6 +87,16 @@ impl<M: Module> Machines<M> {
         }
     }
 
+    /// Says whether the machine of an id has a message that was not taken out yet.
+    pub(crate) fn has_messages(&self, id: MachineId) -> bool
+        ensures { result ≡ has_messages self.now id }
+    {
+        match self.get(id) {
+            Some(machine) => machine.core().has_message(),
+            None => false,
+        }
+    }
+
     /// Notes of a machine's outstanding token whether it is with callers; where the machine is not there, nothing.
     pub(crate) fn move_token(&mut self, id: MachineId, with_callers: bool)
         ensures { self.new ≡ changed_for id (moved with_callers) self.old }
@@ -106,6 +124,36 @@ impl<M: Module> Machines<M> {
             }
             None => Err(command),
         }
+    }
+
+    /// Takes the first message of the machine of an id out, and answers what it answers; where the machine is not there, it
+    /// answers `None`.
+    pub(crate) fn take_out(&mut self, id: MachineId) -> Option<TakenOutOf<M>>
+        ensures told { IfSome result (λ answer. TellsOne (callbacks_of M.Module M.State.eq) self.old id command.TakeOut (taken_out_as answer) self.new) }
+
+        ensures missing { IfNone result ((machine_of id self.old ≡ None) × (self.new ≡ self.old)) }
+    {
+        let place = self.place_of(id)?;
+        let machine = &mut self.all[place];
+        Some(machine.take_out())
+    }
+
+    /// Posts an event to the machine of an id, and answers what it answers; where the machine is not there, it answers
+    /// `None`.
+    pub(crate) fn post(
+        &mut self,
+        id: MachineId,
+        entry: Entry,
+        content: M::Content,
+    ) -> Option<PostedOf<M>>
+        ensures told { IfSome result (λ answer. TellsOne (callbacks_of M.Module M.State.eq) self.old id (command.Post entry content) (posted_as answer) self.new) }
+        ensures returned { IfSome result (λ answer. IfErr answer (λ refused. refused.value ≡ content)) }
+
+        ensures missing { IfNone result ((machine_of id self.old ≡ None) × (self.new ≡ self.old)) }
+    {
+        let place = self.place_of(id)?;
+        let machine = &mut self.all[place];
+        Some(machine.post(entry, content))
     }
 
     /// Serves the machine of an id at a moment, in milliseconds, and says whether it keeps its token; where the machine

@@ -1,14 +1,15 @@
 //! A pool begins.
-ghost use Rattle.std.specs.Prelude.{◌≡◌, true, map, MatchOption, IfOk, IfErr};
-ghost use Rattle.st_pool_core.specs.Opening.{core_id, may_have, opened, IsWhyNotOpened};
+ghost use Rattle.std.specs.Prelude.{◌≡◌, true, map, MatchOption, IfOk, IfErr, All};
+ghost use Rattle.st_pool_core.specs.Opening.{core_id, may_have, opened, HasItsOwn, IsWhyNotOpened};
 ghost use Rattle.st_pool_core.specs.PoolState.{OneEach};
 ghost use Rattle.st_scheduled.specs.Serving.{scheduled_at_first};
 
 use crate::machines::Machines;
 use crate::pool::Pool;
 use crate::run_queues::RunQueues;
+use crate::transit::Transit;
 use indexmap::IndexSet;
-use st_core::Core;
+use st_core::{Core, a_machine_is_lawful};
 use st_events::{MachineId, Module, Refusal, Refused};
 use std::alloc::{AllocError, Global};
 
@@ -38,6 +39,15 @@ fn ids_of<M: Module>(
     Ok(Some(ids))
 }
 
+/// Each machine's outbox has its own messages alone, since it is lawful. Nothing is done.
+fn send_own<M: Module>(cores: &[Core<M>])
+    ensures { All HasItsOwn cores.now }
+{
+    for core in cores {
+        a_machine_is_lawful(core);
+    }
+}
+
 impl<M: Module> Pool<M> {
     /// A pool of so many workers, 1 to 16, and these machines; where that is not possible, the machines come back.
     pub(crate) fn new(
@@ -47,6 +57,7 @@ impl<M: Module> Pool<M> {
     ) -> Result<Pool<M>, Refused<Vec<Core<M>>>>
         ensures opened { IfOk result (λ pool. pool ≡ opened workers cores.items) }
         ensures possible { IfOk result (λ pool. (may_have workers ≡ true) × OneEach (map scheduled_at_first cores.items)) }
+        ensures own { IfOk result (λ pool. All HasItsOwn cores.items) }
 
         ensures refusals { IfErr result (λ refused. IsWhyNotOpened workers cores.items refused.refusal) }
         ensures returned { IfErr result (λ refused. refused.value ≡ cores) }
@@ -62,8 +73,16 @@ impl<M: Module> Pool<M> {
         let Ok(queues) = RunQueues::new(alloc, workers) else {
             return Err(Refused::new(Refusal::NoMemory, cores));
         };
+        let Ok(transit) = Transit::new(alloc, workers) else {
+            return Err(Refused::new(Refusal::NoMemory, cores));
+        };
+        send_own(&cores);
         match Machines::new(alloc, ids, cores) {
-            Ok(machines) => Ok(Pool { machines, queues }),
+            Ok(machines) => Ok(Pool {
+                machines,
+                queues,
+                transit,
+            }),
             Err(cores) => Err(Refused::new(Refusal::NoMemory, cores)),
         }
     }

@@ -1,25 +1,28 @@
 //! A pool, and each of its steps.
-ghost use Rattle.std.specs.Prelude.{◌≡◌, None};
+ghost use Rattle.std.specs.Prelude.{◌≡◌, ◌↔◌, true, None};
 ghost use Rattle.st_events.specs.declared.refusal.Refusal.TheVariants.{NoMemory, NotPossible};
 ghost use Rattle.st_core.specs.Callbacks.{callbacks_of};
 ghost use Rattle.st_pool_core.specs.declared.step.Step.TheVariants as step;
 ghost use Rattle.st_pool_core.specs.Balance.{IsBalanced};
+ghost use Rattle.st_pool_core.specs.Deliveries.{CarriesOwn};
 ghost use Rattle.st_scheduled.specs.Serving.{refused_with};
 ghost use Rattle.st_pool_core.specs.Step.{TellsIn, DoesStep};
 
 use crate::Step;
 use crate::machines::Machines;
 use crate::run_queues::RunQueues;
-use st_core::Command;
-use st_events::{MachineId, Module, Refusal, Token};
+use crate::transit::Transit;
+use st_core::{Command, Entry};
+use st_events::{MachineId, Message, Module, Refusal, Token};
 use st_scheduled::{AnswerOf, StepAnswer, content_of};
 use std::marker::Model;
 
-/// The machines of a pool, and where their tokens stand.
+/// The machines of a pool, where their tokens stand, and what the workers carry.
 #[derive(Drop)]
 pub(crate) struct Pool<M: Module> {
     pub(crate) machines: Machines<M>,
     pub(crate) queues: RunQueues,
+    pub(crate) transit: Transit<M::Content>,
 }
 
 impl<M: Module> Model for Pool<M> {
@@ -27,7 +30,7 @@ impl<M: Module> Model for Pool<M> {
 
     ghost Value = { PoolState M M.State M.Data M.Content };
 
-    ghost view = { λ pool. record { machines = pool.machines; queues = pool.queues } };
+    ghost view = { λ pool. record { machines = pool.machines; queues = pool.queues; transit = pool.transit } };
 }
 
 /// What a step is answered that is not possible and holds no content.
@@ -44,10 +47,18 @@ fn no_memory<S, C>() -> StepAnswer<S, C>
     StepAnswer::refused(Refusal::NoMemory, None)
 }
 
+/// Says whether a refusal is one for want of memory.
+fn is_no_memory(refusal: Refusal) -> bool
+    ensures { result ≡ true ↔ refusal ≡ NoMemory }
+{
+    matches!(refusal, Refusal::NoMemory)
+}
+
 impl<M: Module> Pool<M> {
     /// Does a step.
     pub(crate) fn step(&mut self, step: Step<M::Content>) -> AnswerOf<M>
-        requires { IsBalanced self.old }
+        requires balanced { IsBalanced self.old }
+        requires own { CarriesOwn self.old }
         ensures { DoesStep (callbacks_of M.Module M.State.eq) self.old step result self.new }
     {
         match step {
@@ -61,6 +72,8 @@ impl<M: Module> Pool<M> {
             Step::Stop(id, reason) => self.tell(id, Command::Stop(reason)),
             Step::Reply(id, tag, content) => self.tell(id, Command::Reply(tag, content)),
             Step::Collect(id, tag) => self.tell(id, Command::Collect(tag)),
+            Step::Carry(worker) => self.carry(worker),
+            Step::Deliver(worker) => self.deliver(worker),
         }
     }
 
@@ -99,11 +112,14 @@ impl<M: Module> Pool<M> {
         }
     }
 
-    /// A worker serves the machine of the token in its hand, at a moment in milliseconds.
+    /// A worker that carries no message serves the machine of the token in its hand, at a moment in milliseconds.
     fn turn(&mut self, worker: usize, now: u64) -> AnswerOf<M>
         requires { IsBalanced self.old }
         ensures { DoesStep (callbacks_of M.Module M.State.eq) self.old (step.Turn worker now) result self.new }
     {
+        if self.transit.is_carrying(worker) {
+            return not_possible();
+        }
         let Some(token) = self.queues.hand(worker) else {
             return not_possible();
         };
@@ -116,10 +132,13 @@ impl<M: Module> Pool<M> {
         answer
     }
 
-    /// The token in a worker's hand goes to the end of the worker's own lane.
+    /// The token in the hand of a worker that carries no message goes to the end of the worker's own lane.
     fn put_back(&mut self, worker: usize) -> AnswerOf<M>
         ensures { DoesStep (callbacks_of M.Module M.State.eq) self.old (step.PutBack worker) result self.new }
     {
+        if self.transit.is_carrying(worker) {
+            return not_possible();
+        }
         let Some(token) = self.queues.hand(worker) else {
             return not_possible();
         };
@@ -130,15 +149,73 @@ impl<M: Module> Pool<M> {
         StepAnswer::Moved
     }
 
-    /// The token in a worker's hand goes to callers.
+    /// The token in the hand of a worker that carries no message goes to callers.
     fn drop_token(&mut self, worker: usize) -> AnswerOf<M>
         ensures { DoesStep (callbacks_of M.Module M.State.eq) self.old (step.Drop worker) result self.new }
     {
+        if self.transit.is_carrying(worker) {
+            return not_possible();
+        }
         let Some(token) = self.queues.hand(worker) else {
             return not_possible();
         };
         self.queues.set_hand(worker, None);
         self.machines.move_token(token.machine, true);
         StepAnswer::Moved
+    }
+
+    /// A worker that carries no message takes up the first one of the machine of the token in its hand.
+    fn carry(&mut self, worker: usize) -> AnswerOf<M>
+        requires { CarriesOwn self.old }
+        ensures { DoesStep (callbacks_of M.Module M.State.eq) self.old (step.Carry worker) result self.new }
+    {
+        if self.transit.is_carrying(worker) {
+            return not_possible();
+        }
+        let Some(token) = self.queues.hand(worker) else {
+            return not_possible();
+        };
+        if !self.machines.has_messages(token.machine) {
+            return not_possible();
+        }
+        match self.machines.take_out(token.machine) {
+            None => not_possible(),
+            Some(Ok(message)) => {
+                self.transit.set(worker, message);
+                StepAnswer::Moved
+            }
+            Some(Err(refusal)) => StepAnswer::refused(refusal, None),
+        }
+    }
+
+    /// The message that a worker carries is posted to its target as an info; or it is lost, where the target is not there
+    /// or refuses it. Where there is no memory, the worker carries it still.
+    fn deliver(&mut self, worker: usize) -> AnswerOf<M>
+        ensures { DoesStep (callbacks_of M.Module M.State.eq) self.old (step.Deliver worker) result self.new }
+    {
+        let Some(message) = self.transit.take(worker) else {
+            return not_possible();
+        };
+        let Message {
+            sender,
+            number,
+            target,
+            content,
+        } = message;
+        match self.machines.post(target, Entry::Info, content) {
+            None => StepAnswer::Lost(Refusal::NoSuchMachine),
+            Some(Ok(posted)) => StepAnswer::posted(Ok(posted)),
+            Some(Err(refused)) if is_no_memory(refused.refusal) => {
+                let message = Message {
+                    sender,
+                    number,
+                    target,
+                    content: refused.value,
+                };
+                self.transit.set(worker, Some(message));
+                no_memory()
+            }
+            Some(Err(refused)) => StepAnswer::Lost(refused.refusal),
+        }
     }
 }

@@ -3,11 +3,13 @@ ghost use Rattle.std.specs.Prelude.{◌≡◌, true, map, option_copied, IfOk, I
 ghost use Rattle.std.specs.Option.{option_map};
 ghost use Rattle.st_events.specs.declared.refusal.Refusal.TheVariants.{NoMemory};
 ghost use Rattle.st_core.specs.Callbacks.{callbacks_of};
+ghost use Rattle.st_pool_core.specs.Deliveries.{KeepsMessages};
 ghost use Rattle.st_pool_core.specs.Opening.{may_have, opened, IsWhyNotOpened};
 ghost use Rattle.st_pool_core.specs.Play.{Plays, EachWentThroughItsOwn};
 ghost use Rattle.st_pool_core.specs.PoolState.{OneEach, machine_of, token_at, is_with_callers, with_callers_in};
 ghost use Rattle.st_scheduled.specs.ScheduledMachine.{core_of, count_of};
 ghost use Rattle.st_pool_core.specs.Queues.{hand_in, queue_in};
+ghost use Rattle.st_pool_core.specs.Transit.{message_in};
 ghost use Rattle.st_scheduled.specs.Serving.{scheduled_at_first};
 ghost use Rattle.st_scheduled.specs.Answered.{is_refused};
 ghost use Rattle.st_pool_core.specs.Step.{DoesStep};
@@ -15,16 +17,17 @@ ghost use Rattle.st_pool_core.specs.Step.{DoesStep};
 use crate::pool::Pool;
 use crate::{Step, StepAnswer};
 use st_core::Core;
-use st_events::{MachineId, Module, PlainList, Refusal, Refused, Token};
+use st_events::{MachineId, Message, Module, PlainList, Refusal, Refused, Token};
 use std::alloc::Global;
 use std::marker::Model;
 
-/// Any number of machines, the tokens that say which of them has work, the run queues and the workers' hands, as one
-/// sequential object that takes no lock: it plays any list of steps.
+/// Any number of machines, the tokens that say which of them has work, the run queues, the workers' hands and the
+/// messages that they carry, as one sequential object that takes no lock: it plays any list of steps.
 ///
 /// It is always balanced: a machine that has work has one outstanding token, and each outstanding token stands in one
 /// place, with callers, in a run queue or in a hand. So no machine that has work is stranded, and no machine has two
-/// workers.
+/// workers. And a worker that carries a message has the token of the machine that sent it. So of each machine one
+/// message at most is in transit, and its messages stay in their order.
 ///
 /// Ours: docs/DECISIONS.md, The pool's steps.
 #[derive(Drop)]
@@ -36,12 +39,13 @@ pub struct PoolWorld<M: Module> {
 impl<M: Module> Model for PoolWorld<M> {
     ghost use Rattle.st_pool_core.specs.PoolState.{PoolState};
     ghost use Rattle.st_pool_core.specs.Balance.{IsBalanced};
+    ghost use Rattle.st_pool_core.specs.Deliveries.{CarriesOwn};
 
     ghost Value = { PoolState M M.State M.Data M.Content };
 
     ghost view = { λ world. world.pool };
 
-    ghost invariant = { λ world. IsBalanced world.pool };
+    ghost invariant = { λ world. IsBalanced world.pool × CarriesOwn world.pool };
 }
 
 impl<M: Module> PoolWorld<M> {
@@ -86,7 +90,10 @@ impl<M: Module> PoolWorld<M> {
 
     /// Does steps in order, and answers their answers. A step that is refused stands among them with its refusal.
     ///
-    /// Each machine goes through its own commands, those that the steps gave it, and through no others.
+    /// Each machine goes through its own commands, those that the steps gave it, and through no others. No message is lost
+    /// unseen, and none comes twice: what a machine sent is, in order, what was delivered of it, what is in transit, and
+    /// its outbox; each delivered message is one post at its target, in order, or is lost for a reason that its step
+    /// answers.
     ///
     /// Refused with `NoMemory` where there is no memory for the answers: then nothing is done, and the steps come back.
     ///
@@ -97,6 +104,7 @@ impl<M: Module> PoolWorld<M> {
     ) -> Result<Vec<StepAnswer<M::State, M::Content>>, Refused<Vec<Step<M::Content>>>>
         ensures played { IfOk result (λ answers. Plays (callbacks_of M.Module M.State.eq) self.old steps.items answers.items self.new) }
         ensures own { IfOk result (λ answers. EachWentThroughItsOwn (callbacks_of M.Module M.State.eq) self.old steps.items answers.items self.new) }
+        ensures messages { IfOk result (λ answers. KeepsMessages (callbacks_of M.Module M.State.eq) self.old steps.items answers.items self.new) }
 
         ensures unchanged { IfErr result (λ refused. (refused.refusal ≡ NoMemory) × (refused.value ≡ steps) × (self.new ≡ self.old)) }
     {
@@ -171,6 +179,15 @@ impl<M: Module> PoolWorld<M> {
         ensures { result ≡ hand_in self.now.queues worker }
     {
         self.pool.queues.hand(worker)
+    }
+
+    /// The message that a worker carries; `None` where the worker is not there or carries none.
+    ///
+    /// Ours: docs/DECISIONS.md, Messages.
+    pub fn carried(&self, worker: usize) -> Option<&Message<M::Content>>
+        ensures { option_copied result ≡ message_in self.now.transit worker }
+    {
+        self.pool.transit.message(worker)
     }
 
     /// The tokens of a lane, the first one in front; `None` where there is no such lane. Lane 0 is the shared run queue,

@@ -4,6 +4,7 @@ mod balance;
 mod ended;
 mod host;
 mod memory;
+mod messages;
 mod opened;
 mod plain;
 mod played;

@@ -1,4 +1,4 @@
--- A turn of a machine that is ready takes a number of the count where its moment is in range, or is refused for want of one.
+-- A turn of a machine that has an event takes a number of the count where its moment is in range, or is refused for want of one.
 use Rattle.std.proofs.Common.{◌≡◌, ℕ, Bool, true, false, if◌then◌else◌, Option, Some, None, refl, sym, ◌&&◌}
 use Rattle.std.specs.Prelude.{Result, Ok, Err, is_some, is_none, nat_lt, ◌^◌}
 use Rattle.st_events.specs.declared.event.Event.{Event}
@@ -10,7 +10,7 @@ use Rattle.st_core.specs.declared.report.Report.{Report}
 use Rattle.st_core.specs.declared.turned.Turned.{Turned}
 use Rattle.st_core.specs.declared.turned.Turned.TheVariants.{Reported}
 use Rattle.st_core.specs.Callbacks.{Callbacks, Called, called_of}
-use Rattle.st_core.specs.Choice.{is_ready_of, next_event_of}
+use Rattle.st_core.specs.Choice.{has_event_of, next_event_of}
 use Rattle.st_core.specs.Stop.{unless_ended}
 use Rattle.st_core.specs.Transition.{has_numbers, report_of, with_called, with_settled, concluded, transition_of, unless_refused, turn_running, turn_of, with_moment}
 use Rattle.st_scheduled.specs.Serving.{needs_count}
@@ -52,7 +52,7 @@ module _ {S D C : Type 0} where
       let at = with_moment machine now in
       running_needs (nat_lt now (2 ^ 63)) machine (transition_of callbacks at (next_event_of at)) (transition_needs callbacks at (next_event_of at) ready)
 
-  -- a machine that is ready
-  pub ready_needs : (callbacks : Callbacks S D C) (machine : MachineState S D C) (now : ℕ) → is_ready_of machine ≡ true
+  -- a machine that has an event
+  pub ready_needs : (callbacks : Callbacks S D C) (machine : MachineState S D C) (now : ℕ) → has_event_of machine ≡ true
       → nat_lt now (2 ^ 63) ≡ needs_count {S = S} {C = C} (answer.Turn (turn_of callbacks machine now).0)
   ready_needs callbacks machine now ready = ready_by machine.ended callbacks machine now ready

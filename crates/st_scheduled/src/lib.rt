@@ -5,6 +5,7 @@
 mod outstanding;
 mod posted;
 mod scheduled_machine;
+mod served;
 mod step_answer;
 mod telling;
 mod ticked;
@@ -12,8 +13,9 @@ mod ticked;
 pub use outstanding::Outstanding;
 pub use posted::Posted;
 pub use scheduled_machine::ScheduledMachine;
+pub use served::Served;
 pub use st_core::{
-    Collected, Command, Core, Entry, MachineId, Module, Reason, Refusal, Refused, Report, Tag,
+    Collected, Command, Core, Entry, MachineId, Message, Module, Reason, Refusal, Refused, Report, Tag,
 };
 pub use st_events::Token;
 pub use step_answer::{AnswerOf, StepAnswer};

@@ -1,11 +1,11 @@
 //! What a step of a pool, or a call of one machine, is answered.
 ghost use Rattle.std.specs.Prelude.{◌≡◌};
 ghost use Rattle.st_scheduled.specs.Serving.{refused_with};
-ghost use Rattle.st_scheduled.specs.Answered.{posted_as, ticked_as, served_as, replied_as, collected_as, stopped_as};
+ghost use Rattle.st_scheduled.specs.Answered.{posted_as, ticked_as, served_as, replied_as, collected_as, stopped_as, taken_out_as};
 
-use crate::{Posted, Ticked};
+use crate::{Posted, Served, Ticked};
 use st_core::{Module, Report};
-use st_events::{Refusal, Refused, Token};
+use st_events::{Message, Refusal, Refused, Token};
 use st_requests::Collected;
 
 /// What a step is answered at a machine of this module.
@@ -20,7 +20,8 @@ pub enum StepAnswer<S, C> {
     Posted { number: u64, wake: Option<Token> },
     /// How many time-outs expired, and the token that was issued, if one was: the caller has it.
     Ticked { expired: u64, wake: Option<Token> },
-    /// The token is where the step takes it.
+    /// The token is where the step takes it; or it stays with who serves the machine, which has no event for a turn, but a
+    /// message to be taken out.
     Moved,
     /// What the turn did.
     Turned(Report<S>),
@@ -34,6 +35,10 @@ pub enum StepAnswer<S, C> {
     Collected(Collected<C>),
     /// Why the step was refused, with the content that it held. Nothing changed.
     Refused(Refused<Option<C>>),
+    /// The message that was taken out of the machine, if there was one.
+    TakenOut(Option<Message<C>>),
+    /// The message was lost: its target was not there, or refused it for this reason.
+    Lost(Refusal),
 }
 
 impl<S, C> StepAnswer<S, C> {
@@ -76,15 +81,17 @@ impl<S, C> StepAnswer<S, C> {
         }
     }
 
-    /// What came of it that the machine was served: what its turn did, or that it rests.
+    /// What came of it that the machine was served: what its turn did, that it has a message to be taken out, or that it
+    /// rests.
     ///
     /// Ours: docs/DECISIONS.md, The pool's steps.
-    pub fn served(answer: Result<Option<Report<S>>, Refusal>) -> StepAnswer<S, C>
+    pub fn served(answer: Result<Served<S>, Refusal>) -> StepAnswer<S, C>
         ensures { result ≡ served_as answer }
     {
         match answer {
-            Ok(Some(report)) => StepAnswer::Turned(report),
-            Ok(None) => StepAnswer::Rested,
+            Ok(Served::Turned(report)) => StepAnswer::Turned(report),
+            Ok(Served::Sending) => StepAnswer::Moved,
+            Ok(Served::Rested) => StepAnswer::Rested,
             Err(refusal) => StepAnswer::refused(refusal, None),
         }
     }
@@ -121,6 +128,18 @@ impl<S, C> StepAnswer<S, C> {
     {
         match answer {
             Ok(word) => StepAnswer::Stopped(word),
+            Err(refusal) => StepAnswer::refused(refusal, None),
+        }
+    }
+
+    /// What a take-out answered.
+    ///
+    /// Ours: docs/DECISIONS.md, The pool's steps.
+    pub fn taken_out(answer: Result<Option<Message<C>>, Refusal>) -> StepAnswer<S, C>
+        ensures { result ≡ taken_out_as answer }
+    {
+        match answer {
+            Ok(message) => StepAnswer::TakenOut(message),
             Err(refusal) => StepAnswer::refused(refusal, None),
         }
     }

@@ -1,17 +1,17 @@
 //! A machine that workers serve is told commands, and served.
-ghost use Rattle.std.specs.Prelude.{◌≡◌, ℕ, true, false, ◌||◌, IfErr};
+ghost use Rattle.std.specs.Prelude.{◌≡◌, ℕ, true, false, ◌||◌, Ok, IfErr};
 ghost use Rattle.st_events.specs.declared.tag.Tag.{Tag};
 ghost use Rattle.st_core.specs.declared.command.Command.TheVariants as command;
 ghost use Rattle.st_core.specs.declared.entry.Entry.{Entry};
 ghost use Rattle.st_core.specs.Callbacks.{callbacks_of};
 ghost use Rattle.st_core.specs.Run.{step_on};
-ghost use Rattle.st_scheduled.specs.Answered.{posted_as, ticked_as, served_as, replied_as, collected_as, stopped_as, is_counted, wants_numbers};
+ghost use Rattle.st_scheduled.specs.Answered.{posted_as, ticked_as, served_as, replied_as, collected_as, stopped_as, taken_out_as, is_counted, wants_numbers};
 ghost use Rattle.st_scheduled.specs.ScheduledMachine.{id_of};
-ghost use Rattle.st_scheduled.specs.Serving.{content_of, needs_count, told_on, served_on, Tells, Serves};
+ghost use Rattle.st_scheduled.specs.Serving.{content_of, needs_count, told_on, served_idle, served_on, Tells, Serves};
 
-use crate::{AnswerOf, Posted, ScheduledMachine, StepAnswer, Ticked};
-use st_core::{Collected, Command, Entry, Held, Report, Turned};
-use st_events::{MOMENT_LIMIT, Module, NUMBER_LIMIT, Reason, Refusal, Refused, Tag};
+use crate::{AnswerOf, Posted, ScheduledMachine, Served, StepAnswer, Ticked};
+use st_core::{Collected, Command, Entry, Held, Turned};
+use st_events::{MOMENT_LIMIT, Message, Module, NUMBER_LIMIT, Reason, Refusal, Refused, Tag};
 
 /// The content of a command, if it has one.
 ///
@@ -21,12 +21,16 @@ pub fn content_of<C: Drop>(command: Command<C>) -> Option<C>
 {
     match command {
         Command::Post(_, content) | Command::Reply(_, content) => Some(content),
-        Command::Tick(_) | Command::Turn(_) | Command::Collect(_) | Command::Stop(_) => None,
+        Command::Tick(_)
+        | Command::Turn(_)
+        | Command::Collect(_)
+        | Command::Stop(_)
+        | Command::TakeOut => None,
     }
 }
 
-/// What a machine that was served answers: what its turn did; or none, where it had no work and its token was retired.
-pub type ServedOf<M> = Result<Option<Report<<M as Module>::State>>, Refusal>;
+/// What a machine that was served answers, or why it was not.
+pub type ServedOf<M> = Result<Served<<M as Module>::State>, Refusal>;
 
 impl<M: Module> ScheduledMachine<M> {
     /// Says whether a post would take a number of the count, or be refused for want of one.
@@ -47,7 +51,7 @@ impl<M: Module> ScheduledMachine<M> {
     fn turn_needs_count(&self, now: u64) -> bool
         ensures { result ≡ needs_count (step_on (callbacks_of M.Module M.State.eq) self.now.core (command.Turn now)).0 }
     {
-        self.core.is_ready() && now < MOMENT_LIMIT
+        self.core.has_event() && now < MOMENT_LIMIT
     }
 
     /// Says whether a collect would take a number of the count, or be refused for want of one.
@@ -171,18 +175,29 @@ impl<M: Module> ScheduledMachine<M> {
                 if !self.has_work() {
                     self.token = None;
                 }
-                Ok(Some(report))
+                Ok(Served::Turned(report))
             }
-            Ok(Turned::Idle) => {
-                self.token = None;
-                Ok(None)
-            }
+            Ok(Turned::Idle) => Ok(self.serve_idle()),
             Err(refusal) => Err(refusal),
         }
     }
 
-    /// Serves the machine: one turn at a moment, in milliseconds, if it has work; else its token is retired, and it
-    /// answers `None`.
+    /// The machine has no event for a turn: its token stays as long as there is a message to be taken out, and else is
+    /// retired.
+    fn serve_idle(&mut self) -> Served<M::State>
+        ensures answer { served_as (Ok result) ≡ (served_idle self.old).0 }
+        ensures left { self.new ≡ (served_idle self.old).1 }
+    {
+        if self.core.has_message() {
+            return Served::Sending;
+        }
+        self.token = None;
+        Served::Rested
+    }
+
+    /// Serves the machine: one turn at a moment, in milliseconds, if there is an event for it. Without one it looks at no
+    /// moment: `Sending` says that there is a message to be taken out, and the token stays; else the token is retired, and
+    /// the answer is `Rested`.
     ///
     /// Refused as `Core::turn` is, and with `Exhausted` where no further command can be counted; then nothing changes.
     ///
@@ -191,9 +206,8 @@ impl<M: Module> ScheduledMachine<M> {
         ensures served { Serves (callbacks_of M.Module M.State.eq) self.old now (served_as result) self.new }
         ensures same_id { id_of self.new ≡ id_of self.old }
     {
-        if !self.has_work() {
-            self.token = None;
-            return Ok(None);
+        if !self.core.has_event() {
+            return Ok(self.serve_idle());
         }
         self.turn(now)
     }
@@ -257,6 +271,36 @@ impl<M: Module> ScheduledMachine<M> {
         }
     }
 
+    /// Says whether a take-out would give a message.
+    ///
+    /// Ours: docs/DECISIONS.md, The journal's memory.
+    pub fn takes_take_out(&self) -> bool
+        ensures { result ≡ is_counted (told_on (callbacks_of M.Module M.State.eq) self.now command.TakeOut).0 }
+    {
+        self.core.has_message() && !self.is_full()
+    }
+
+    /// Takes out the first message that the machine has sent and that was not taken out yet, as `Core::take_out` does, if
+    /// there is one. Its token stays. One that gives none is not counted.
+    ///
+    /// Refused with `Exhausted` where there is a message and no further command can be counted; then nothing changes.
+    /// It takes no memory.
+    ///
+    /// Ours: docs/DECISIONS.md, Messages.
+    pub fn take_out(&mut self) -> Result<Option<Message<M::Content>>, Refusal>
+        ensures told { Tells (callbacks_of M.Module M.State.eq) self.old command.TakeOut (taken_out_as result) self.new }
+    {
+        let has_message = self.core.has_message();
+        if self.is_full() && has_message {
+            return Err(Refusal::Exhausted);
+        }
+        let message = self.core.take_out();
+        if has_message {
+            self.count += 1;
+        }
+        Ok(message)
+    }
+
     /// Tells the machine a command.
     ///
     /// Refused as the command's own call is; then nothing changes, and the command's content comes back.
@@ -273,6 +317,7 @@ impl<M: Module> ScheduledMachine<M> {
             Command::Reply(tag, content) => StepAnswer::replied(self.reply(tag, content)),
             Command::Collect(tag) => StepAnswer::collected(self.collect(tag)),
             Command::Stop(reason) => StepAnswer::stopped(self.stop(reason)),
+            Command::TakeOut => StepAnswer::taken_out(self.take_out()),
         }
     }
 }

@@ -67,6 +67,7 @@ turns place now number kind before after done set = record {
     replied = [];
     inserted = [];
     set = set;
+    sent = [];
   })));
 }
 
@@ -175,3 +176,27 @@ stopped_is : entry_line names 5 (tells 12 (command.Stop 70) (answer.Stop (Ok 2))
     ≡ codes "        12      - stop                      -         70 word:2\n"
 unfolding digits
 stopped_is = refl
+
+-- a turn that sends two messages, and a take-out of the first
+abbrev other_id : MachineId
+other_id = record { slot = 1; serial = 2 }
+
+sent_is : entry_line names 5 (tells 13 (command.Turn 5) (answer.Turn (Ok (Reported (record {
+    event = Some 6;
+    done = Finished;
+    calls = Handle 6 kind.Cast locked ∷ [];
+    before = locked;
+    after = locked;
+    replied = [];
+    inserted = [];
+    set = [];
+    sent = 1 ∷ 2 ∷ [];
+  })))))
+    ≡ codes "        13      - turn                      5          6 cast locked locked finished 0 0 0 sent 2\n"
+unfolding digits
+sent_is = refl
+
+taken_out_is : entry_line names 5 (tells 14 command.TakeOut (answer.TakeOut (Some (record { sender = id; number = 1; target = other_id; content = 7 }))))
+    ≡ codes "        14      - take                      -          1 to 1 2\n"
+unfolding digits
+taken_out_is = refl

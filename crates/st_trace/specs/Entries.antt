@@ -17,6 +17,7 @@ module _ {C : Type 0} where
   word_of (command.Reply tag content) = codes "reply"
   word_of (command.Collect tag) = codes "collect"
   word_of (command.Stop reason) = codes "stop"
+  word_of command.TakeOut = codes "take"
 
   -- the latest moment that a machine has seen after a command, by the latest before it: ticks and turns are handed one
   abbrev pub latest_after : ℕ → Command C → ℕ
@@ -26,6 +27,7 @@ module _ {C : Type 0} where
   latest_after latest (command.Reply tag content) = latest
   latest_after latest (command.Collect tag) = latest
   latest_after latest (command.Stop reason) = latest
+  latest_after latest command.TakeOut = latest
 
   -- the moment that stands in the line of a command: the latest after it, for ticks and turns alone
   abbrev pub moment_of : ℕ → Command C → Option ℕ
@@ -35,6 +37,7 @@ module _ {C : Type 0} where
   moment_of latest (command.Reply tag content) = None
   moment_of latest (command.Collect tag) = None
   moment_of latest (command.Stop reason) = None
+  moment_of latest command.TakeOut = None
 
 module _ {S C : Type 0} where
   -- what an answer says that a turn did
@@ -47,9 +50,10 @@ module _ {S C : Type 0} where
   report_as (answer.Reply taken) = None
   report_as (answer.Collect collected) = None
   report_as (answer.Stop stopped) = None
+  report_as (answer.TakeOut message) = None
 
   -- the number that an answer tells: of a post that of its event, of a tick how many time-outs expired, of a turn that of the
-  -- event that it handled
+  -- event that it handled, of a take-out that of the message
   abbrev pub number_as : Answer S C → Option ℕ
   number_as (answer.Post (Ok number)) = Some number
   number_as (answer.Post (Err refused)) = None
@@ -61,6 +65,8 @@ module _ {S C : Type 0} where
   number_as (answer.Reply taken) = None
   number_as (answer.Collect collected) = None
   number_as (answer.Stop stopped) = None
+  number_as (answer.TakeOut (Some message)) = Some message.number
+  number_as (answer.TakeOut None) = None
 
   -- the number that stands in the line of a command that was answered so
   abbrev pub number_by : Command C → Answer S C → Option ℕ
@@ -70,6 +76,7 @@ module _ {S C : Type 0} where
   number_by (command.Reply tag content) answered = Some tag.request
   number_by (command.Collect tag) answered = Some tag.request
   number_by (command.Stop reason) answered = Some reason
+  number_by command.TakeOut answered = number_as answered
 
   -- the number that stands in an entry's line
   abbrev pub number_of : JournalEntry S C → Option ℕ

@@ -1,7 +1,8 @@
 -- What stands at the end of an entry's line.
-use Rattle.std.specs.Prelude.{ℕ, true, false, Option, Some, None, Ok, Err, List, [], ◌∷◌, ◌++◌, codes, decimal, length}
+use Rattle.std.specs.Prelude.{ℕ, true, false, ◌==◌, if◌then◌else◌, Option, Some, None, Ok, Err, List, [], ◌∷◌, ◌++◌, codes, decimal, length}
 use Rattle.st_events.specs.declared.kind.Kind.{Kind}
 use Rattle.st_events.specs.declared.kind.Kind.TheVariants as kind
+use Rattle.st_events.specs.declared.machine_id.MachineId.{MachineId}
 use Rattle.st_events.specs.declared.timer.Timer.{Timer}
 use Rattle.st_events.specs.declared.timer.Timer.TheVariants as timer
 use Rattle.st_requests.specs.declared.collected.Collected.{Collected}
@@ -57,6 +58,7 @@ taken_text (answer.Reply true) = codes "yes"
 taken_text (answer.Reply false) = codes "no"
 taken_text (answer.Collect collected) = hyphen
 taken_text (answer.Stop stopped) = hyphen
+taken_text (answer.TakeOut message) = hyphen
 
 -- what was handed out
 abbrev pub collected_text : {C : Type 0} → Collected C → List ℕ
@@ -73,6 +75,7 @@ handed_text (answer.Turn turned) = hyphen
 handed_text (answer.Reply taken) = hyphen
 handed_text (answer.Collect collected) = collected_text collected
 handed_text (answer.Stop stopped) = hyphen
+handed_text (answer.TakeOut message) = hyphen
 
 -- a machine's last word
 abbrev pub stopped_text : {S C : Type 0} → Answer S C → List ℕ
@@ -83,6 +86,20 @@ stopped_text (answer.Reply taken) = hyphen
 stopped_text (answer.Collect collected) = hyphen
 stopped_text (answer.Stop (Ok word)) = codes "word:" ++ decimal word
 stopped_text (answer.Stop (Err refusal)) = hyphen
+stopped_text (answer.TakeOut message) = hyphen
+
+-- which machine it is
+abbrev pub id_text : MachineId → List ℕ
+id_text id = decimal id.slot ++ (codes " " ++ decimal id.serial)
+
+-- to whom the message goes that was taken out
+abbrev pub out_text : {S C : Type 0} → Answer S C → List ℕ
+out_text (answer.TakeOut (Some message)) = codes "to " ++ id_text message.target
+out_text _ = hyphen
+
+-- how many messages a turn sent, if it sent some
+abbrev pub sent_text : List ℕ → List ℕ
+sent_text numbers = if length numbers == 0 then [] else codes " sent " ++ decimal (length numbers)
 
 module _ {S : Type 0} where
   -- the kind of the event that a turn handled: its first callback was handed it
@@ -97,11 +114,16 @@ module _ {S : Type 0} where
   counts_text report =
       decimal (length report.replied) ++ (codes " " ++ (decimal (length report.inserted) ++ (codes " " ++ decimal (length report.set))))
 
+  -- its counts, and how many messages it sent
+  abbrev pub numbers_text : Report S → List ℕ
+  numbers_text report = counts_text report ++ sent_text report.sent
+
   module _ (names : S → List ℕ) where
-    -- what a turn did: the kind of its event, the states before and after it, how it ended, and its counts
+    -- what a turn did: the kind of its event, the states before and after it, how it ended, its counts, and how many
+    -- messages it sent
     abbrev pub report_text : Report S → List ℕ
     report_text report =
-        handled_text report.calls ++ (codes " " ++ (names report.before ++ (codes " " ++ (names report.after ++ (codes " " ++ (done_text report.done ++ (codes " " ++ counts_text report)))))))
+        handled_text report.calls ++ (codes " " ++ (names report.before ++ (codes " " ++ (names report.after ++ (codes " " ++ (done_text report.done ++ (codes " " ++ numbers_text report)))))))
 
     -- what a turn did, if it did something
     abbrev pub turned_text : Option (Report S) → List ℕ
@@ -117,6 +139,7 @@ module _ {S : Type 0} where
       rest_by (command.Reply tag content) answered = taken_text answered
       rest_by (command.Collect tag) answered = handed_text answered
       rest_by (command.Stop reason) answered = stopped_text answered
+      rest_by command.TakeOut answered = out_text answered
 
       -- the end of an entry's line
       abbrev pub rest_of : JournalEntry S C → List ℕ

@@ -17,6 +17,7 @@ pub(crate) fn word<C>(command: &Command<C>) -> &'static str
         Command::Reply(_, _) => "reply",
         Command::Collect(_) => "collect",
         Command::Stop(_) => "stop",
+        Command::TakeOut => "take",
     }
 }
 
@@ -53,6 +54,7 @@ fn answered_number<S, C>(answer: &Answer<S, C>) -> Option<u64>
         Answer::Post(Ok(number)) => Some(*number),
         Answer::Tick(Ok(expired)) => Some(*expired),
         Answer::Turn(Ok(Turned::Reported(report))) => report.event,
+        Answer::TakeOut(Some(message)) => Some(message.number),
         _ => None,
     }
 }

@@ -1,12 +1,12 @@
 //! What stands at the end of an entry's line.
 ghost use Rattle.std.specs.Prelude.{◌≡◌, IfOk, string_bytes};
-ghost use Rattle.st_trace.specs.Rest.{posted_text, timer_text, kind_text, done_text, handled_text, counts_text, report_text, taken_text, collected_text, handed_text, stopped_text, turned_text, rest_of};
+ghost use Rattle.st_trace.specs.Rest.{posted_text, timer_text, kind_text, done_text, handled_text, counts_text, numbers_text, report_text, taken_text, collected_text, handed_text, stopped_text, sent_text, out_text, turned_text, rest_of};
 ghost use Rattle.st_trace.specs.Entries.{report_as};
 
 use crate::StateNames;
 use st_cell::{Answer, Collected, Command, Entry, JournalEntry, Report, Turned};
 use st_core::{Call, Calls, Done};
-use st_events::{Kind, Timer};
+use st_events::{Kind, PlainList, Timer};
 use std::alloc::{AllocError, Global};
 
 /// What stands where there is nothing to tell.
@@ -79,6 +79,27 @@ fn counts<S>(alloc: Global, report: &Report<S>) -> Result<String, AllocError>
     format!(in alloc; "{replied} {inserted} {set}")
 }
 
+/// How many messages a turn sent, if it sent some.
+fn sent(alloc: Global, numbers: &PlainList<u64>) -> Result<String, AllocError>
+    ensures { IfOk result (λ text. string_bytes text ≡ sent_text numbers.now) }
+{
+    let count = numbers.len();
+    if count == 0 {
+        return Ok(String::new(alloc));
+    }
+    format!(in alloc; " sent {count}")
+}
+
+/// The counts of a turn, and how many messages it sent, if it sent some.
+fn numbers<S>(alloc: Global, report: &Report<S>) -> Result<String, AllocError>
+    ensures { IfOk result (λ text. string_bytes text ≡ numbers_text report.now) }
+{
+    let sent = sent(alloc, &report.sent)?;
+    let mut text = counts(alloc, report)?;
+    text.push_str(sent.as_str())?;
+    Ok(text)
+}
+
 /// What a turn did.
 fn reported<S: Copy, N: StateNames<S>>(
     alloc: Global,
@@ -91,8 +112,8 @@ fn reported<S: Copy, N: StateNames<S>>(
     let before = names.name(report.before);
     let after = names.name(report.after);
     let done = done(alloc, report.done)?;
-    let counts = counts(alloc, report)?;
-    format!(in alloc; "{kind} {before} {after} {done} {counts}")
+    let numbers = numbers(alloc, report)?;
+    format!(in alloc; "{kind} {before} {after} {done} {numbers}")
 }
 
 /// What a turn did that was answered so.
@@ -151,6 +172,21 @@ fn stopped<S, C>(alloc: Global, answer: &Answer<S, C>) -> Result<String, AllocEr
     }
 }
 
+/// To whom the message goes that was taken out.
+fn taken_out<S, C>(alloc: Global, answer: &Answer<S, C>) -> Result<String, AllocError>
+    ensures { IfOk result (λ text. string_bytes text ≡ out_text answer.now) }
+{
+    match answer {
+        Answer::TakeOut(Some(message)) => {
+            let target = message.target;
+            let slot = target.slot;
+            let serial = target.serial;
+            format!(in alloc; "to {slot} {serial}")
+        }
+        _ => String::from_str(alloc, HYPHEN),
+    }
+}
+
 /// What stands at the end of an entry's line.
 pub(crate) fn rest<S: Copy, C, N: StateNames<S>>(
     alloc: Global,
@@ -166,5 +202,6 @@ pub(crate) fn rest<S: Copy, C, N: StateNames<S>>(
         Command::Reply(_, _) => String::from_str(alloc, taken(&entry.answer)),
         Command::Collect(_) => handed(alloc, &entry.answer),
         Command::Stop(_) => stopped(alloc, &entry.answer),
+        Command::TakeOut => taken_out(alloc, &entry.answer),
     }
 }

@@ -20,6 +20,7 @@ pub fn handled(number: u64, kind: Kind, before: u32, after: u32) -> Did {
         replied: Few::none(),
         inserted: Few::none(),
         set: Few::none(),
+        sent: Few::none(),
     }
 }
 
@@ -34,6 +35,7 @@ pub fn started(state: u32) -> Did {
         replied: Few::none(),
         inserted: Few::none(),
         set: Few::none(),
+        sent: Few::none(),
     }
 }
 
@@ -58,6 +60,7 @@ impl Did {
             More::Cancels(timer) => self.asking(timer, Decision::Cancel),
             More::Updates(timer) => self.asking(timer, Decision::Update),
             More::Replies(tag) => self.replying(tag),
+            More::Sends(number) => self.sending(number),
         }
     }
 
@@ -118,6 +121,14 @@ impl Did {
     fn replying(self, tag: Tag) -> Did {
         Did {
             replied: self.replied.and(tag),
+            ..self
+        }
+    }
+
+    /// A message with this number is sent.
+    fn sending(self, number: u64) -> Did {
+        Did {
+            sent: self.sent.and(number),
             ..self
         }
     }

@@ -14,7 +14,8 @@ use std::alloc::Global;
 use std::fmt::Debug;
 use std::process::Abort;
 
-/// How a machine starts, the numbers of the events that its `init` inserts, and what it asks of timers.
+/// How a machine starts, the numbers of the events that its `init` inserts, what it asks of timers, and the numbers of
+/// the messages that it sends.
 /// The number of the first event may be left out, and then it is 1.
 #[derive(Drop)]
 pub struct Begin<M> {
@@ -24,6 +25,7 @@ pub struct Begin<M> {
     pub first: Option<u64>,
     pub inserted: &'static [u64],
     pub set: &'static [(Timer, Decision)],
+    pub sent: &'static [u64],
 }
 
 /// Makes the call of a start.
@@ -76,6 +78,7 @@ fn wanted_of<M: Module>(begin: &Begin<M>, state: u32) -> Did {
     let did = Did {
         inserted: Few::of(begin.inserted),
         set: Few::of(begin.set),
+        sent: Few::of(begin.sent),
         ..started(state)
     };
     if begin.module.enters() {
@@ -121,8 +124,12 @@ fn has_begun<M: Module<State = u32, Data = u32, Content = u32>>(
     core: &Core<M>,
     begin: &Begin<M>,
 ) {
+    let has_event = !begin.inserted.is_empty() || comes_at_once(begin.set);
+    let has_message = !begin.sent.is_empty();
     let wanted = Seen {
-        is_ready: !begin.inserted.is_empty() || comes_at_once(begin.set),
+        is_ready: has_event || has_message,
+        has_event,
+        has_message,
         state: core.state(),
         held: *core.data(),
         latest: begin.now,

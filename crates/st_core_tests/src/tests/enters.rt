@@ -87,6 +87,7 @@ fn a_repeated_state_keeps_its_time_out(rt: HostRuntime) {
     ];
     let end = Seen {
         is_ready: true,
+        has_event: true,
         ..at_rest(0, 7, 5)
     };
     let timers = [(Timer::State, 2, Due::At(5))];
@@ -169,6 +170,7 @@ fn the_actions_of_an_enter_call_follow_those_of_the_event(rt: HostRuntime) {
     ];
     let end = Seen {
         is_ready: true,
+        has_event: true,
         ..postponing(1, 1, 7, 4)
     };
     let timers = [
@@ -198,6 +200,7 @@ fn memory_is_wanted_inside_an_enter_call(rt: HostRuntime) {
     ];
     let end = Seen {
         is_ready: true,
+        has_event: true,
         ..postponing(3, 1, 7, 0)
     };
     answers_are(rt, &begin_as(63), &rows, &end);
@@ -219,13 +222,23 @@ fn has_ended<T: Machine>(rt: &Host<impl Abort>, machine: &mut T) {
     play(rt, machine, &rows);
 }
 
+/// Looks at a start with this argument, the first enter call of which stops: there is a machine, which has ended and sent
+/// nothing.
+pub fn stops_at_its_start(rt: &Host<impl Abort>, alloc: Global, arg: u32) {
+    let begin = Begin {
+        arg,
+        ..begin_as(70)
+    };
+    let (mut core, report) = running(rt, alloc, &begin);
+    reports(rt, &report, &started(0).entered().ended(4, 7));
+    has_ended(rt, &mut core);
+}
+
 /// The first enter call stops: there is a machine, and it has ended.
 #[test]
 fn the_first_enter_call_stops(rt: HostRuntime) {
     let rt = Host::new(rt);
-    let (mut core, report) = running(&rt, rt.alloc(), &begin_as(70));
-    reports(&rt, &report, &started(0).entered().ended(4, 7));
-    has_ended(&rt, &mut core);
+    stops_at_its_start(&rt, rt.alloc(), 0);
     rt.end();
 }
 

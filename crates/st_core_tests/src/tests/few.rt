@@ -1,7 +1,7 @@
 //! Short lists as values that can be copied and compared.
 use std::alloc::AllocError;
 
-/// How many elements a list has, and the first three. No list of a test is longer.
+/// How many elements a list has, and the first three.
 #[derive(Copy, Debug, PartialEq, Eq)]
 pub struct Few<T> {
     pub count: usize,
@@ -42,7 +42,7 @@ impl<T: Copy> Few<T> {
         self.count <= 3
     }
 
-    /// One more element behind these, which are two at most.
+    /// One more element behind these.
     pub fn and(self, element: T) -> Few<T> {
         if self.first.is_none() {
             Few {
@@ -56,10 +56,15 @@ impl<T: Copy> Few<T> {
                 second: Some(element),
                 ..self
             }
-        } else {
+        } else if self.third.is_none() {
             Few {
                 count: 3,
                 third: Some(element),
+                ..self
+            }
+        } else {
+            Few {
+                count: self.count.saturating_add(1),
                 ..self
             }
         }

@@ -56,6 +56,7 @@ fn a_handle_asks_for_all_kinds(rt: HostRuntime) {
     ];
     let end = Seen {
         is_ready: true,
+        has_event: true,
         waiting: 4,
         ..at_rest(1, 7, 4)
     };
@@ -99,6 +100,7 @@ fn an_enter_call_asks_for_all_kinds(rt: HostRuntime) {
     };
     let end = Seen {
         is_ready: true,
+        has_event: true,
         waiting: 5,
         ..at_rest(1, 7, 3)
     };
@@ -147,6 +149,7 @@ fn an_entered_start_asks_for_all_kinds(rt: HostRuntime) {
     };
     let end = Seen {
         is_ready: true,
+        has_event: true,
         waiting: 2,
         ..at_rest(0, 7, 12)
     };

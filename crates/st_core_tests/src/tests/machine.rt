@@ -57,6 +57,7 @@ fn call<M: Module<State = u32, Content = u32>>(core: &mut Core<M>, told: Told) -
         Told::Reply(tag, content) => Answer::Reply(core.reply(tag, content)),
         Told::Collect(tag) => Answer::Collect(core.collect(tag)),
         Told::Stop(reason) => Answer::Stop(core.stop(reason)),
+        Told::TakeOut => Answer::TakeOut(core.take_out()),
     }
 }
 
@@ -64,6 +65,8 @@ fn call<M: Module<State = u32, Content = u32>>(core: &mut Core<M>, told: Told) -
 pub fn see<M: Module<State = u32, Data = u32>>(core: &Core<M>) -> Seen {
     Seen {
         is_ready: core.is_ready(),
+        has_event: core.has_event(),
+        has_message: core.has_message(),
         state: core.state(),
         held: *core.data(),
         latest: core.latest(),

@@ -91,11 +91,8 @@ fn a_refused_turn_changes_nothing(rt: HostRuntime) {
     let last = Turns(0, 2, Kind::Cast, 0, 1, &[PutsOff, Inserts(3), Inserts(4)]);
     let before = Seen {
         is_ready: true,
-        state: 0,
-        held: 7,
-        latest: 0,
-        waiting: 2,
-        ended: None,
+        has_event: true,
+        ..postponing(2, 0, 7, 0)
     };
     stays_behind::<Core<Table>>(&rt, rt.alloc(), &rows, &last, &before);
     rt.end();
@@ -228,6 +225,7 @@ fn inserts_need_numbers(rt: HostRuntime) {
     };
     let end = Seen {
         is_ready: true,
+        has_event: true,
         waiting: 2,
         ..at_rest(0, 7, 3)
     };

@@ -124,6 +124,7 @@ fn replies_of_an_enter_call_come_later(rt: HostRuntime) {
     };
     let end = Seen {
         is_ready: true,
+        has_event: true,
         waiting: 1,
         ..at_rest(1, 7, 0)
     };

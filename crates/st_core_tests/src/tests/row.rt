@@ -24,6 +24,8 @@ pub enum More {
     Updates(Timer),
     /// A request is answered.
     Replies(Tag),
+    /// A message with this number is sent.
+    Sends(u64),
 }
 
 impl Clone for More {

@@ -9,6 +9,8 @@ use std::process::Abort;
 #[derive(Copy, Debug, PartialEq, Eq)]
 pub struct Seen {
     pub is_ready: bool,
+    pub has_event: bool,
+    pub has_message: bool,
     pub state: u32,
     pub held: u32,
     pub latest: u64,

@@ -2,7 +2,8 @@
 use super::few::Few;
 use super::host::{Host, same};
 use st_core::{
-    Answer, Call, Calls, Collected, Decision, Done, Reason, Refusal, Report, Tag, Timer, Turned,
+    Answer, Call, Calls, Collected, Decision, Done, MachineId, Message, Reason, Refusal, Report,
+    Tag, Timer, Turned,
 };
 use std::alloc::AllocError;
 use std::process::Abort;
@@ -35,10 +36,27 @@ pub enum Shown {
     /// A stop is accepted, and the machine has this last word.
     Stopped(u32),
     NotStopped(Refusal),
+    /// A message is taken out, or there is none.
+    TakenOut(Option<Taken>),
 }
 
 impl Clone for Shown {
     fn clone(&self) -> Result<Shown, AllocError> {
+        Ok(*self)
+    }
+}
+
+/// A message that is taken out: its sender, its number, its target and its content.
+#[derive(Copy, Debug, PartialEq, Eq)]
+pub struct Taken {
+    pub sender: MachineId,
+    pub number: u64,
+    pub target: MachineId,
+    pub content: u32,
+}
+
+impl Clone for Taken {
+    fn clone(&self) -> Result<Taken, AllocError> {
         Ok(*self)
     }
 }
@@ -54,6 +72,7 @@ pub struct Did {
     pub replied: Few<Tag>,
     pub inserted: Few<u64>,
     pub set: Few<(Timer, Decision)>,
+    pub sent: Few<u64>,
 }
 
 impl Clone for Did {
@@ -83,6 +102,7 @@ pub fn read_report(report: &Report<u32>) -> Did {
         replied: Few::of(report.replied.as_slice()),
         inserted: Few::of(report.inserted.as_slice()),
         set: Few::of(report.set.as_slice()),
+        sent: Few::of(report.sent.as_slice()),
     }
 }
 
@@ -93,6 +113,16 @@ fn read_collected(collected: &Collected<u32>) -> Shown {
         Collected::Reply(content) => Shown::Collected(*content),
         Collected::Stopped(reason) => Shown::Closed(*reason),
         Collected::Gone => Shown::Gone,
+    }
+}
+
+/// A message, as a value that can be compared.
+fn read_message(message: &Message<u32>) -> Taken {
+    Taken {
+        sender: message.sender,
+        number: message.number,
+        target: message.target,
+        content: message.content,
     }
 }
 
@@ -110,6 +140,8 @@ pub fn read(answer: &Answer<u32, u32>) -> Shown {
         Answer::Collect(collected) => read_collected(collected),
         Answer::Stop(Ok(word)) => Shown::Stopped(*word),
         Answer::Stop(Err(refusal)) => Shown::NotStopped(*refusal),
+        Answer::TakeOut(None) => Shown::TakenOut(None),
+        Answer::TakeOut(Some(message)) => Shown::TakenOut(Some(read_message(message))),
     }
 }
 
@@ -141,8 +173,8 @@ impl Shown {
         self.refusal() == Some(Refusal::NoMemory)
     }
 
-    /// Says whether a command answers so only where it has taken memory. A stop, a reply and a collect take
-    /// none, nor does a post that is refused, a tick at which nothing expires, or a turn before its callback.
+    /// Says whether a command answers so only where it has taken memory. A stop, a reply, a collect and a take-out
+    /// take none, nor does a post that is refused, a tick at which nothing expires, or a turn before its callback.
     pub fn takes_memory(&self) -> bool {
         match self {
             Shown::Posted(_) | Shown::Reported(_) | Shown::NotTurned(Refusal::Exhausted) => true,

@@ -13,7 +13,10 @@ use super::told::Told::{Call, Cast, Stop, Tick};
 use super::told::{FIRST, ID, SECOND};
 use st_core::Time::After;
 use st_core::Timer::Named;
-use st_core::{Core, Due, Event, Item, Kind, Refusal, Request, RequestState, Running, Snapshot};
+use st_core::{
+    Core, Due, Event, Item, Kind, Message, Outbox, Refusal, Request, RequestState, Running,
+    Snapshot,
+};
 use std::alloc::Global;
 use std::process::Abort;
 
@@ -33,7 +36,7 @@ fn snapped_again<T: Machine>(
 }
 
 /// A machine's snapshot, which changes nothing that can be read. Where it finds no memory, it is made again.
-fn snapped<T: Machine>(rt: &Host<impl Abort>, machine: &mut T) -> Snapshot<Table> {
+pub fn snapped<T: Machine>(rt: &Host<impl Abort>, machine: &mut T) -> Snapshot<Table> {
     let before = read_all(rt, machine);
     let snapshot = machine.try_snapshot();
     is_all(rt, &read_all(rt, machine), &before);
@@ -92,6 +95,23 @@ fn requests_are_whole(rt: &Host<impl Abort>, whole: &Snapshot<Table>) {
     holds(rt, "the requests", are_same);
 }
 
+/// Looks at the messages of a snapshot, and at the number of the next one.
+pub fn sent_is_whole(
+    rt: &Host<impl Abort>,
+    outbox: &Outbox<u32>,
+    messages: &[Message<u32>],
+    next_number: u64,
+) {
+    let are_same = outbox.messages.as_slice() == messages;
+    holds(rt, "the messages", are_same);
+    same(
+        rt,
+        "the next message's number",
+        &outbox.next_number,
+        &next_number,
+    );
+}
+
 /// Looks at the snapshot that follows a stop.
 fn is_closed(rt: &Host<impl Abort>, end: &Snapshot<Table>) {
     let closed = Request {
@@ -115,6 +135,7 @@ fn is_whole(rt: &Host<impl Abort>, whole: &Snapshot<Table>) {
     same(rt, "state, data and moment", &parts, &(0, 7, 5));
     schedule_is_whole(rt, whole);
     requests_are_whole(rt, whole);
+    sent_is_whole(rt, &whole.outbox, &[], 1);
     holds(rt, "it runs", whole.ended == None);
 }
 

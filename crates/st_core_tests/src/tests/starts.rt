@@ -102,6 +102,7 @@ fn inserts_of_a_start_need_numbers(rt: HostRuntime) {
     };
     let seen = Seen {
         is_ready: true,
+        has_event: true,
         waiting: 2,
         ..at_rest(0, 7, 12)
     };

@@ -5,7 +5,7 @@ ghost use Rattle.st_events.specs.declared.action.Action.TheVariants as action;
 ghost use Rattle.st_events.specs.declared.enter_action.EnterAction.TheVariants as enter_action;
 ghost use Rattle.st_events.specs.declared.time.Time.TheVariants as time;
 ghost use Rattle.st_events.specs.declared.timer.Timer.TheVariants as timer;
-ghost use Rattle.st_core_tests.specs.WorkedTable.{first_tag, second_tag, five_actions, actions_of_each_kind, five_replies, two_inserts, three_settings, handled_at_length, handled_by_updating, six_requests, handled_by_replying, handled_by_entering, handled_by_setting, handled_anywhere, handled_at_first, handled_by_table, enters_by_table, entering_actions, five_enter_actions, enter_actions_of_each_kind, changed_by_table, entered_by_table, begun_by_table};
+ghost use Rattle.st_core_tests.specs.WorkedTable.{first_tag, second_tag, five_actions, actions_of_each_kind, five_replies, two_inserts, three_settings, handled_at_length, handled_by_updating, six_requests, handled_by_sending, two_sends, send_set_insert, five_sends, handled_by_replying, handled_by_entering, handled_by_setting, handled_anywhere, handled_at_first, handled_by_table, enters_by_table, entering_actions, five_enter_actions, enter_actions_of_each_kind, changed_by_table, entered_by_table, begun_by_table};
 
 use st_core::{
     Action, Actions, EnterAction, EnterActions, EnterOutcome, Init, Kind, MachineId, Module,
@@ -36,6 +36,12 @@ const FOREIGN: Tag = Tag {
     machine: MachineId { slot: 0, serial: 2 },
     request: 1,
 };
+
+/// Another machine.
+const OTHER_MACHINE: MachineId = MachineId { slot: 1, serial: 2 };
+
+/// A third machine.
+const THIRD_MACHINE: MachineId = MachineId { slot: 2, serial: 3 };
 
 /// States, data and contents are numbers. The first state is 0, the first data 7, and `terminate`
 /// answers the data.
@@ -90,6 +96,10 @@ const FOREIGN: Tag = Tag {
 /// | 49 | keeps both, and updates the state time-out to 4 |
 /// | 50 | leads to the state 1, and updates the state time-out to 4 |
 /// | 51 | keeps both, with the six requests to timers below |
+/// | 52 | keeps both, and sends 5 to another machine and 6 to a third, with `Postpone(false)` between |
+/// | 53 | leads to the state 1, sends 7 to another machine, sets the named timer 5 for 5, and inserts 20 as internal |
+/// | 54 | keeps both, with the five messages below |
+/// | 55 | keeps both, and sends 8 to another machine |
 /// | other | keeps both |
 ///
 /// The contents of time-outs are 0, where no other is told.
@@ -100,6 +110,9 @@ const FOREIGN: Tag = Tag {
 ///
 /// The six requests: the named timer 1 is updated to 4, the named timer 5 is set for 20, the named timer 1 is cancelled,
 /// 0 is sent to another machine, the named timer 5 is updated to 3, and the state time-out is updated to 4.
+///
+/// The five messages: 1 and 3 to another machine, 2 between them to a third, then 4 to the machine itself, and 5 to the
+/// machine of the six requests.
 ///
 /// The five replies: 57 to the third request, 40 to the first, 58 to another machine's, 51 to the second, and 59 to the
 /// third.
@@ -117,6 +130,7 @@ const FOREIGN: Tag = Tag {
 /// | 9 | a machine, with the nine actions above |
 /// | 10 | a machine, and updates the named timer 5 to 4 |
 /// | 11 | a machine, and sets the named timer 5 for 5, with the content 43 |
+/// | 12 | a machine, and sends 5 to another machine |
 /// | other | stops, and is the reason |
 ///
 /// The number tells one module from another. From 60 on a module has enter calls.
@@ -263,6 +277,61 @@ fn requests(alloc: Global) -> Result<Actions<u32>, AllocError>
     with(actions, Action::Update(Timer::State, 4))
 }
 
+/// Two messages, with another action between.
+fn two_messages(alloc: Global) -> Result<Actions<u32>, AllocError>
+    ensures { IfOk result (λ actions. actions ≡ two_sends) }
+{
+    let actions = two(
+        alloc,
+        Action::Send(OTHER_MACHINE, 5),
+        Action::Postpone(false),
+    )?;
+    with(actions, Action::Send(THIRD_MACHINE, 6))
+}
+
+/// A message, a setting of a timer and an insert.
+fn message_and_others(alloc: Global) -> Result<Actions<u32>, AllocError>
+    ensures { IfOk result (λ actions. actions ≡ send_set_insert) }
+{
+    let actions = two(
+        alloc,
+        Action::Send(OTHER_MACHINE, 7),
+        set(Timer::Named(5), 5),
+    )?;
+    with(actions, Action::NextEvent(Kind::Internal, 20))
+}
+
+/// Five messages, one more than a list holds without memory.
+fn five_messages(alloc: Global) -> Result<Actions<u32>, AllocError>
+    ensures { IfOk result (λ actions. actions ≡ five_sends) }
+{
+    let actions = two(
+        alloc,
+        Action::Send(OTHER_MACHINE, 1),
+        Action::Send(THIRD_MACHINE, 2),
+    )?;
+    let actions = with(actions, Action::Send(OTHER_MACHINE, 3))?;
+    let actions = with(actions, Action::Send(TAG.machine, 4))?;
+    with(actions, Action::Send(FOREIGN.machine, 5))
+}
+
+/// What `handle` answers to the contents that send.
+fn handle_sending(
+    alloc: Global,
+    content: u32,
+    held: u32,
+) -> Result<Outcome<u32, u32, u32>, AllocError>
+    ensures { IfOk result (λ outcome. outcome ≡ handled_by_sending content held) }
+{
+    match content {
+        52 => Ok(Outcome::KeepStateAndData(two_messages(alloc)?)),
+        53 => Ok(Outcome::NextState(1, held, message_and_others(alloc)?)),
+        54 => Ok(Outcome::KeepStateAndData(five_messages(alloc)?)),
+        55 => Ok(Outcome::KeepStateAndData(one(alloc, Action::Send(OTHER_MACHINE, 8))?)),
+        _ => Ok(Outcome::KeepStateAndData(Actions::new(alloc))),
+    }
+}
+
 /// What `handle` answers to the contents that update and cancel.
 fn handle_updating(
     alloc: Global,
@@ -285,7 +354,7 @@ fn handle_updating(
             return Ok(Outcome::NextState(1, held, actions));
         }
         51 => requests(alloc)?,
-        _ => Actions::new(alloc),
+        _ => return handle_sending(alloc, content, held),
     };
     Ok(Outcome::KeepStateAndData(actions))
 }
@@ -542,6 +611,7 @@ impl Module for Table {
                 let own = Action::Set(Timer::Named(5), Time::After(5), 43);
                 Ok(Init::Ok(0, 7, one(alloc, own)?))
             }
+            12 => Ok(Init::Ok(0, 7, one(alloc, Action::Send(OTHER_MACHINE, 5))?)),
             reason => Ok(Init::Stop(reason)),
         }
     }

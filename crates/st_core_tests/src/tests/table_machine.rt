@@ -18,12 +18,15 @@ pub const BEGIN: Begin<Table> = Begin {
     first: None,
     inserted: &[],
     set: &[],
+    sent: &[],
 };
 
-/// What can be read of a table's machine in which nothing waits.
+/// What can be read of a table's machine in which nothing waits, and which has no message.
 pub fn at_rest(state: u32, held: u32, latest: u64) -> Seen {
     Seen {
         is_ready: false,
+        has_event: false,
+        has_message: false,
         state,
         held,
         latest,
@@ -45,6 +48,15 @@ pub fn at_end(reason: Reason, word: u32, held: u32, latest: u64) -> Seen {
     Seen {
         ended: Some((reason, word)),
         ..at_rest(0, held, latest)
+    }
+}
+
+/// What can be read of such a machine where it has a message that was not taken out yet.
+pub fn with_message(seen: Seen) -> Seen {
+    Seen {
+        is_ready: true,
+        has_message: true,
+        ..seen
     }
 }
 

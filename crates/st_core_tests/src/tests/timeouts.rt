@@ -57,6 +57,7 @@ fn a_time_out_runs_until_it_is_handled(rt: HostRuntime) {
         &rows,
         &Seen {
             is_ready: true,
+            has_event: true,
             ..at_rest(0, 7, 9)
         },
         &timers,
@@ -266,6 +267,7 @@ fn time_outs_need_numbers(rt: HostRuntime) {
         &rows,
         &Seen {
             is_ready: true,
+            has_event: true,
             waiting: 1,
             ..at_rest(0, 7, 0)
         },
@@ -300,6 +302,7 @@ fn the_last_numbers_are_of_time_outs(rt: HostRuntime) {
         &rows,
         &Seen {
             is_ready: true,
+            has_event: true,
             ..at_rest(0, 7, 4)
         },
         &timers,

@@ -49,6 +49,7 @@ pub enum Told {
     Reply(Tag, u32),
     Collect(Tag),
     Stop(Reason),
+    TakeOut,
 }
 
 impl Clone for Told {
@@ -57,7 +58,7 @@ impl Clone for Told {
     }
 }
 
-/// What a command answers that finds no memory. A reply and a collect take none, so they always answer.
+/// What a command answers that finds no memory. A reply, a collect and a take-out take none, so they always answer.
 pub fn without_memory(told: Told) -> Shown {
     match told {
         Told::Cast(content) => Shown::NotPosted(Refusal::NoMemory, content),
@@ -68,6 +69,7 @@ pub fn without_memory(told: Told) -> Shown {
         Told::Reply(_, _) => Shown::Replied(false),
         Told::Collect(_) => Shown::Gone,
         Told::Stop(_) => Shown::NotStopped(Refusal::NoMemory),
+        Told::TakeOut => Shown::TakenOut(None),
     }
 }
 
@@ -82,6 +84,7 @@ fn command_of(told: Told) -> Command<u32> {
         Told::Reply(tag, content) => Command::Reply(tag, content),
         Told::Collect(tag) => Command::Collect(tag),
         Told::Stop(reason) => Command::Stop(reason),
+        Told::TakeOut => Command::TakeOut,
     }
 }
 

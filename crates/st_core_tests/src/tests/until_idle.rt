@@ -39,7 +39,7 @@ fn turned_again<T: Machine>(
 
 /// Makes turns of a machine, and as many single turns of another one like it. Where a turn finds no memory, the
 /// two are the same, and the call is made again for the turns that are left.
-fn turned<T: Machine>(
+pub fn turned<T: Machine>(
     rt: &Host<impl Abort>,
     machine: &mut T,
     other: &mut T,
@@ -65,7 +65,7 @@ fn turned<T: Machine>(
 }
 
 /// Looks that so many turns were made, and why no more.
-fn made(rt: &Host<impl Abort>, turns: Turns, reported: u64, end: TurnsEnd) {
+pub fn made(rt: &Host<impl Abort>, turns: Turns, reported: u64, end: TurnsEnd) {
     same(rt, "the turns", &turns, &Turns { reported, end });
 }
 

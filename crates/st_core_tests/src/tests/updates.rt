@@ -1,11 +1,11 @@
 //! Time-outs cancelled and updated. Where an event has the content 4, the machine's data are 9 after it.
 use super::begin::Begin;
-use super::row::More::{Cancels, Enters, Sets, Updates};
+use super::row::More::{Cancels, Enters, Sends, Sets, Updates};
 use super::row::Row::{Tells, Turns};
 use super::seen::Seen;
 use super::shown::Shown::{Idle, NotPosted, NotTurned, Posted, Ticked};
 use super::table::Table;
-use super::table_machine::{BEGIN, answers_are, at_rest, timers_are};
+use super::table_machine::{BEGIN, answers_are, at_rest, timers_are, with_message};
 use super::told::Told::{Cast, Tick, Turn};
 use st_core::Time::After;
 use st_core::Timer::Named;
@@ -176,6 +176,7 @@ fn an_update_that_sets_needs_a_number(rt: HostRuntime) {
         &rows,
         &Seen {
             is_ready: true,
+            has_event: true,
             waiting: 1,
             ..at_rest(0, 7, 0)
         },
@@ -225,7 +226,7 @@ fn a_start_updates(rt: HostRuntime) {
     answers_are(rt, &begin, &rows, &at_rest(0, 9, 0));
 }
 
-/// Of two for one timer the last decides. The message has no effect.
+/// Of two for one timer the last decides. The message waits until it is taken out.
 #[test]
 fn six_requests_are_made_in_one_list(rt: HostRuntime) {
     let rows = [
@@ -236,11 +237,16 @@ fn six_requests_are_made_in_one_list(rt: HostRuntime) {
             Kind::Cast,
             0,
             0,
-            &[Cancels(Named(1)), Updates(Named(5)), Updates(Timer::State)],
+            &[
+                Cancels(Named(1)),
+                Updates(Named(5)),
+                Updates(Timer::State),
+                Sends(1),
+            ],
         ),
         Turns(0, 3, Kind::Timeout(Timer::State), 0, 0, &[]),
         Tells(Tick(5), Ticked(1)),
         Turns(5, 1, Kind::Timeout(Named(5)), 0, 1, &[]),
     ];
-    answers_are(rt, &ONE_TIMER, &rows, &at_rest(1, 9, 5));
+    answers_are(rt, &ONE_TIMER, &rows, &with_message(at_rest(1, 9, 5)));
 }

@@ -72,6 +72,7 @@ fn zero_time_outs_run_until_they_come(rt: HostRuntime) {
         &rows,
         &Seen {
             is_ready: true,
+            has_event: true,
             ..at_rest(0, 7, 9)
         },
         &timers,

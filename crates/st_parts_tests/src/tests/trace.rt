@@ -105,6 +105,7 @@ const PRESSED: Turn = Turn {
     replied: 0,
     inserted: 0,
     set: 1,
+    sent: 0,
 };
 
 /// A turn of an open door at the moment 20, that finished its event and did nothing else.
@@ -118,6 +119,7 @@ const LEFT_OPEN: Turn = Turn {
     replied: 0,
     inserted: 0,
     set: 0,
+    sent: 0,
 };
 
 /// The turn in which an open door is locked again.
@@ -193,6 +195,42 @@ summary posts 2 turns 3 finished 3 put_off 0
 ",
     );
     rt.end_with_memory();
+}
+
+#[test]
+fn a_turn_that_sends_says_how_many_messages_and_a_take_out_says_to_whom(rt: HostRuntime) {
+    let rt = Host::new(rt);
+    prints(
+        &rt,
+        rt.alloc(),
+        0,
+        &[
+            (1, Row::Posts(1, Entry::Cast, 1)),
+            (
+                2,
+                Row::Turns(Turn {
+                    set: 0,
+                    sent: 1,
+                    ..PRESSED
+                }),
+            ),
+            (3, Row::Takes(1)),
+        ],
+        Totals {
+            posts: 1,
+            turns: 1,
+            finished: 1,
+            put_off: 0,
+        },
+        "\
+machine 0 1 front
+         1      1 post                      -          1 cast
+         2      - turn                      0          1 cast locked locked finished 0 0 0 sent 1
+         3      - take                      -          1 to 1 2
+summary posts 1 turns 1 finished 1 put_off 0
+",
+    );
+    rt.end();
 }
 
 #[test]

@@ -60,6 +60,9 @@ impl Numbers {
             1..=3 => 4,
             4..=10 => 3,
             11..=18 => 2,
+            19..=28 => 5,
+            29..=33 => 6,
+            34..=38 => 7,
             _ => 0,
         }
     }
@@ -86,12 +89,14 @@ impl Numbers {
         }
     }
 
-    /// What a worker does with the token in its hand.
+    /// What a worker does with the token in its hand and the message that it carries.
     fn of_hand(&mut self, number: u64, now: u64) -> Step<u32> {
         let worker = self.place();
         match number {
-            61..=87 => Step::Turn(worker, now),
-            88..=90 => Step::PutBack(worker),
+            61..=77 => Step::Turn(worker, now),
+            78..=82 => Step::Carry(worker),
+            83..=88 => Step::Deliver(worker),
+            89..=91 => Step::PutBack(worker),
             _ => Step::Drop(worker),
         }
     }
@@ -157,8 +162,8 @@ fn standing<T: Pooled>(
     found
 }
 
-/// Looks that a machine's token stands in one place and no other token of it anywhere, and that a machine that has not
-/// ended has a token where it has work.
+/// Looks that a machine's token stands in one place and no other token of it anywhere, and that a machine that has work
+/// has a token.
 fn is_balanced<T: Pooled>(rt: &Host<impl Abort>, alloc: Global, pool: &T, id: MachineId) {
     let found = standing(rt, alloc, pool, id);
     let token = pool.token_of(id);
@@ -170,7 +175,7 @@ fn is_balanced<T: Pooled>(rt: &Host<impl Abort>, alloc: Global, pool: &T, id: Ma
         None => holds(rt, "no token stands anywhere", found.is_empty()),
     }
     let seen = pool.see(id).expect(rt, "there is such a machine");
-    let is_fit = seen.ended.is_some() | (token.is_some() == seen.is_ready);
+    let is_fit = !seen.is_ready | token.is_some();
     holds(rt, "it has a token where it has work", is_fit);
 }
 
@@ -187,15 +192,22 @@ fn each_ready_machine_has_one_token(rt: HostRuntime) {
     let mut pool = opened(&rt, rt.alloc(), 3, ids.as_slice());
     let mut numbers = Numbers { state: 7 };
     let mut turns = Vec::new(rt.alloc());
-    for now in 0..300 {
+    let mut deliveries = Vec::new(rt.alloc());
+    for now in 0..600 {
         let step = numbers.step(&pool, now);
-        if let StepAnswer::Turned(_) = pool.step(step) {
+        let delivers = matches!(step, Step::Deliver(_));
+        let answer = pool.step(step);
+        if matches!(answer, StepAnswer::Turned(_)) {
             turns.push(now).expect(&rt, "there is memory");
+        }
+        if delivers & !matches!(answer, StepAnswer::Refused(_)) {
+            deliveries.push(now).expect(&rt, "there is memory");
         }
         for id in &ids {
             is_balanced(&rt, rt.alloc(), &pool, *id);
         }
     }
     holds(&rt, "there are 20 turns", turns.len() >= 20);
+    holds(&rt, "and 3 deliveries", deliveries.len() >= 3);
     rt.end_with_memory();
 }

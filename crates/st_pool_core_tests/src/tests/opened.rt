@@ -1,4 +1,6 @@
 //! How a pool of a test is opened.
+ghost use Rattle.std.specs.Prelude.{◌≤◌, ◌<◌, ◌^◌};
+
 use super::host::{Host, got, holds};
 use super::plain::Plain;
 use st_core::{Core, MachineId, Refusal, Refused, Start};
@@ -31,16 +33,20 @@ pub fn with_reserved<T>(rt: &Host<impl Abort>, alloc: Global, count: usize) -> V
     }
 }
 
-/// Makes the call of a start. Where it finds no memory, it is made again.
+/// Makes the call of a start, whose first event gets this number. Where it finds no memory, it is made again.
 fn start(
     rt: &Host<impl Abort>,
     alloc: Global,
     id: MachineId,
-) -> Result<Start<Plain>, Refused<Plain>> {
-    let started = Core::start(alloc, Plain, id, &(), 0);
+    first: u64,
+) -> Result<Start<Plain>, Refused<Plain>>
+    requires least { 1 ≤ first }
+    requires greatest { first < 2 ^ 63 }
+{
+    let started = Core::start_from(alloc, Plain, id, &(), 0, first);
     if matches!(&started, Err(refused) if refused.refusal == Refusal::NoMemory) {
         rt.retry();
-        return Core::start(alloc, Plain, id, &(), 0);
+        return Core::start_from(alloc, Plain, id, &(), 0, first);
     }
     started
 }
@@ -55,9 +61,22 @@ fn running(rt: &impl Abort, started: Start<Plain>) -> Core<Plain> {
 
 /// Machines of these ids.
 pub fn cores(rt: &Host<impl Abort>, alloc: Global, ids: &[MachineId]) -> Vec<Core<Plain>> {
+    cores_from(rt, alloc, ids, 1)
+}
+
+/// Machines of these ids, of each of which the first event gets this number.
+pub fn cores_from(
+    rt: &Host<impl Abort>,
+    alloc: Global,
+    ids: &[MachineId],
+    first: u64,
+) -> Vec<Core<Plain>>
+    requires least { 1 ≤ first }
+    requires greatest { first < 2 ^ 63 }
+{
     let mut cores = with_reserved(rt, alloc, ids.len());
     for id in ids {
-        let started = got(rt, "it is started", start(rt, alloc, *id));
+        let started = got(rt, "it is started", start(rt, alloc, *id, first));
         cores
             .push(running(rt, started))
             .expect(rt, "a place is reserved");

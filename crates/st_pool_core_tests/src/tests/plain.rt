@@ -1,7 +1,7 @@
 //! A module whose contents each ask for something else.
 ghost use Rattle.std.specs.Prelude.{◌≡◌, ◌==◌, if◌then◌else◌, true, false, None, [], ◌∷◌, refl};
 ghost use Rattle.std.proofs.Common.{rules};
-ghost use Rattle.st_events.specs.declared.action.Action.TheVariants.{NextEvent, Postpone, Set};
+ghost use Rattle.st_events.specs.declared.action.Action.TheVariants.{NextEvent, Postpone, Send, Set};
 ghost use Rattle.st_events.specs.declared.enter_outcome.EnterOutcome.TheVariants as enter_outcome;
 ghost use Rattle.st_events.specs.declared.init.Init.TheVariants as init;
 ghost use Rattle.st_events.specs.declared.kind.Kind.TheVariants.{Internal};
@@ -10,9 +10,19 @@ ghost use Rattle.st_events.specs.declared.time.Time.TheVariants.{After};
 ghost use Rattle.st_events.specs.declared.timer.Timer.TheVariants.{State as StateTimer};
 
 use st_core::{
-    Action, Actions, EnterActions, EnterOutcome, Init, Kind, Module, Outcome, Reason, Time, Timer,
+    Action, Actions, EnterActions, EnterOutcome, Init, Kind, MachineId, Module, Outcome, Reason,
+    Time, Timer,
 };
 use std::alloc::{AllocError, Global};
+
+/// The machine in the first place.
+const FIRST: MachineId = MachineId { slot: 0, serial: 1 };
+
+/// The machine in the second place.
+const SECOND: MachineId = MachineId { slot: 1, serial: 2 };
+
+/// The machine in the fifth place, which most pools have not.
+const FIFTH: MachineId = MachineId { slot: 4, serial: 5 };
 
 /// States, data and contents are numbers. The state is 0 and the data 7, and `terminate` answers the data.
 ///
@@ -22,6 +32,9 @@ use std::alloc::{AllocError, Global};
 /// | 2 | inserts 0 as internal |
 /// | 3 | sets the state time-out for 5, with the content 0 |
 /// | 4 | is postponed |
+/// | 5 | sends 10 and 11 to the second machine |
+/// | 6 | sends 12 to the first machine |
+/// | 7 | sends 13 to the fifth machine |
 /// | other | keeps both |
 #[derive(Clone, Copy)]
 pub struct Plain;
@@ -42,7 +55,10 @@ impl Module for Plain {
         else (if content == 2 then KeepStateAndData (NextEvent Internal 0 ∷ [])
         else (if content == 3 then KeepStateAndData (Set StateTimer (After 5) 0 ∷ [])
         else (if content == 4 then KeepStateAndData (Postpone true ∷ [])
-        else KeepStateAndData []))) };
+        else (if content == 5 then KeepStateAndData (Send (record { slot = 1; serial = 2 }) 10 ∷ Send (record { slot = 1; serial = 2 }) 11 ∷ [])
+        else (if content == 6 then KeepStateAndData (Send (record { slot = 0; serial = 1 }) 12 ∷ [])
+        else (if content == 7 then KeepStateAndData (Send (record { slot = 4; serial = 5 }) 13 ∷ [])
+        else KeepStateAndData [])))))) };
 
     ghost enters_is = { λ plain. false };
 
@@ -68,6 +84,12 @@ impl Module for Plain {
             2 => actions.push(Action::NextEvent(Kind::Internal, 0))?,
             3 => actions.push(Action::Set(Timer::State, Time::After(5), 0))?,
             4 => actions.push(Action::Postpone(true))?,
+            5 => {
+                actions.push(Action::Send(SECOND, 10))?;
+                actions.push(Action::Send(SECOND, 11))?;
+            }
+            6 => actions.push(Action::Send(FIRST, 12))?,
+            7 => actions.push(Action::Send(FIFTH, 13))?,
             _ => {}
         }
         Ok(Outcome::KeepStateAndData(actions))

@@ -2,7 +2,7 @@
 use super::plain::Plain;
 use st_core::{MachineId, PlainList, Reason, Refusal, Refused};
 use st_events::Token;
-use st_pool_core::{PoolWorld, Step, StepAnswer};
+use st_pool_core::{Message, PoolWorld, Step, StepAnswer};
 
 /// What can be read of one machine of a pool.
 #[derive(Clone, Copy, PartialEq)]
@@ -40,6 +40,9 @@ pub trait Pooled: Drop {
 
     /// The token in a worker's hand.
     fn in_hand(&self, worker: usize) -> Option<Token>;
+
+    /// The message that a worker carries.
+    fn in_transit(&self, worker: usize) -> Option<&Message<u32>>;
 
     /// The tokens of a lane, or that there is no memory for them.
     fn try_lane(&self, lane: usize) -> Result<Option<PlainList<Token>>, Refusal>;
@@ -82,6 +85,10 @@ impl Pooled for PoolWorld<Plain> {
 
     fn in_hand(&self, worker: usize) -> Option<Token> {
         self.hand(worker)
+    }
+
+    fn in_transit(&self, worker: usize) -> Option<&Message<u32>> {
+        self.carried(worker)
     }
 
     fn try_lane(&self, lane: usize) -> Result<Option<PlainList<Token>>, Refusal> {

@@ -12,6 +12,9 @@ pub enum Shown {
     Answer(StepAnswer<u32, u32>),
     /// A turn handles the event of this number and kind in the state 0, and finishes it.
     Handled(u64, Kind),
+    /// A turn handles the event of this number and kind in the state 0, finishes it, and sends so many messages, which
+    /// are the machine's first.
+    Sent(u64, Kind, u64),
     /// A turn handles the event of this number and kind in the state 0, and the machine ends for the reason 9, with
     /// the word 7.
     Ended(u64, Kind),
@@ -25,6 +28,11 @@ pub fn posted(number: u64, wake: Option<Token>) -> Shown {
 /// The token is moved.
 pub fn moved() -> Shown {
     Shown::Answer(StepAnswer::Moved)
+}
+
+/// A message is lost, for this reason.
+pub fn lost(refusal: Refusal) -> Shown {
+    Shown::Answer(StepAnswer::Lost(refusal))
 }
 
 /// An answer that refuses a step, with the content that it held.
@@ -60,20 +68,30 @@ fn reports(
     }
 }
 
+/// Looks that a report lists so many messages, which are the machine's first.
+fn lists(rt: &impl Abort, row: usize, report: &Report<u32>, count: u64) {
+    let sent = report.sent.as_slice();
+    let is_counted = sent.len() as u64 == count;
+    shows(rt, row, "how many messages are sent", is_counted);
+    for (number, place) in sent.iter().zip(0..count) {
+        shows(
+            rt,
+            row,
+            "a message's number",
+            *number == place.saturating_add(1),
+        );
+    }
+}
+
 /// Looks that an answer is the one that is wanted of a row.
 pub fn agrees(rt: &impl Abort, row: usize, answer: &StepAnswer<u32, u32>, wanted: &Shown) {
     match (answer, wanted) {
         (_, Shown::Answer(other)) => shows(rt, row, "the answer", *answer == *other),
         (StepAnswer::Turned(report), Shown::Handled(number, kind)) => {
-            let handle = handle_of(*number, *kind);
-            reports(
-                rt,
-                row,
-                report,
-                *number,
-                Done::Finished,
-                [handle].as_slice(),
-            );
+            handles(rt, row, report, (*number, *kind), 0);
+        }
+        (StepAnswer::Turned(report), Shown::Sent(number, kind, count)) => {
+            handles(rt, row, report, (*number, *kind), *count);
         }
         (StepAnswer::Turned(report), Shown::Ended(number, kind)) => {
             let calls = [handle_of(*number, *kind), TERMINATE];
@@ -88,6 +106,19 @@ pub fn agrees(rt: &impl Abort, row: usize, answer: &StepAnswer<u32, u32>, wanted
         }
         _ => shows(rt, row, "a turn with a report", false),
     }
+}
+
+/// Looks that a turn handles the event of this number and kind, finishes it, and sends so many messages.
+fn handles(
+    rt: &impl Abort,
+    row: usize,
+    report: &Report<u32>,
+    (number, kind): (u64, Kind),
+    count: u64,
+) {
+    let handle = handle_of(number, kind);
+    reports(rt, row, report, number, Done::Finished, [handle].as_slice());
+    lists(rt, row, report, count);
 }
 
 /// The end of a machine for the reason 9, with the word 7.

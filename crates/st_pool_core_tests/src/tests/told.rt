@@ -44,6 +44,8 @@ pub fn copy_of(step: &Step<u32>) -> Step<u32> {
         Step::Stop(id, reason) => Step::Stop(*id, *reason),
         Step::Reply(id, tag, content) => Step::Reply(*id, *tag, *content),
         Step::Collect(id, tag) => Step::Collect(*id, *tag),
+        Step::Carry(worker) => Step::Carry(*worker),
+        Step::Deliver(worker) => Step::Deliver(*worker),
     }
 }
 

@@ -4,10 +4,11 @@ use super::opened::{is_made_again, machine_id};
 use super::pooled::{Pooled, Seen};
 use st_core::PlainList;
 use st_events::Token;
+use st_pool_core::Message;
 use std::process::Abort;
 
 /// All that can be read of a pool of at most five machines and three workers. Of each machine there are its token,
-/// and whether callers have it; and there is one lane and one hand more than there are.
+/// and whether callers have it; and there is one lane, one hand and one message more than there are.
 #[derive(PartialEq, Drop)]
 pub struct Whole {
     machines: [Option<Seen>; 5],
@@ -15,6 +16,7 @@ pub struct Whole {
     callers: PlainList<Token>,
     lanes: [Option<PlainList<Token>>; 5],
     hands: [Option<Token>; 5],
+    carried: [Option<Message<u32>>; 5],
 }
 
 /// The tokens that callers have. Where memory was refused, they are asked for again.
@@ -66,6 +68,17 @@ fn token<T: Pooled>(pool: &T, slot: usize) -> Option<(Token, bool)> {
     Some((token, pool.have_callers(token)))
 }
 
+/// The message that a worker carries, as a copy.
+fn message<T: Pooled>(pool: &T, worker: usize) -> Option<Message<u32>> {
+    let message = pool.in_transit(worker)?;
+    Some(Message {
+        sender: message.sender,
+        number: message.number,
+        target: message.target,
+        content: message.content,
+    })
+}
+
 /// All that can be read of a pool.
 pub fn read_all<T: Pooled>(rt: &Host<impl Abort>, pool: &T) -> Whole {
     let hand = |worker: usize| pool.in_hand(worker);
@@ -93,5 +106,12 @@ pub fn read_all<T: Pooled>(rt: &Host<impl Abort>, pool: &T) -> Whole {
             lane(rt, pool, 4),
         ],
         hands: [hand(0), hand(1), hand(2), hand(3), hand(4)],
+        carried: [
+            message(pool, 0),
+            message(pool, 1),
+            message(pool, 2),
+            message(pool, 3),
+            message(pool, 4),
+        ],
     }
 }

@@ -13,6 +13,7 @@ loop-left-init g c =
       few = omega arith;
       none_behind = rw none refl;
       same_settings = refl;
+      same_sends = refl;
     }
 
 pub take_insert-requires : goal.take_insert-requires
@@ -49,6 +50,7 @@ loop-left-preserved-in-Some g c =
       few = omega (arith, kept.few);
       none_behind = c.in-Some.ensures.none_behind;
       same_settings = c.in-Some.ensures.same_settings ∙ kept.same_settings;
+      same_sends = c.in-Some.ensures.same_sends ∙ kept.same_sends;
     }
 
 pub loop-left-preserved : goal.loop-left-preserved
@@ -61,6 +63,7 @@ loop-left-preserved g c =
       few = kept.few;
       none_behind = c.take_insert.ensures.none_behind;
       same_settings = c.take_insert.ensures.same_settings ∙ kept.same_settings;
+      same_sends = c.take_insert.ensures.same_sends ∙ kept.same_sends;
     }
 
 pub returns-clause-inserted : goal.returns-clause-inserted

@@ -24,5 +24,6 @@ loop-index-preserved g c =
       none_before = c.take_reply.ensures.none_before;
       inserts = c.take_reply.ensures.same_inserts ∙ kept.inserts;
       settings = c.take_reply.ensures.same_settings ∙ kept.settings;
+      sends = c.take_reply.ensures.same_sends ∙ kept.sends;
       as_many = c.take_reply.ensures.as_many ∙ kept.as_many;
     }

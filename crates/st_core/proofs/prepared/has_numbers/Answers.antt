@@ -15,7 +15,7 @@ returns-then-counts-eq0 g c =
     let none : updates_in settings ≡ 0 = sym c.requires.updates ∙ c.if-counts-eq0.true in
     let taken = without_updates running settings none in
     rw (← c.next_number-left.ensures.next_number)
-    (enough_left c.next_number-left.result _ c.args.counts.numbers (length (inserts_of c.args.actions.now) + numbers_taken running settings)
+    (enough_left c.next_number-left.result _ c.args.counts.now.numbers (length (inserts_of c.args.actions.now) + numbers_taken running settings)
     c.next_number-left.ensures.bounded refl (omega (arith, c.requires.numbers, taken)))
 
 -- the agenda said how many numbers the updates take

@@ -4,7 +4,7 @@ use st_cell::{
     Answer, Collected, Command, Entry, Journal, JournalEntry, MachineId, PlainList, Reason, Report,
     Tag, Turned,
 };
-use st_core::{Call, Done, OneInline};
+use st_core::{Call, Done, Message, OneInline};
 use st_events::{Decision, Kind, Time, Timer};
 use std::alloc::{AllocError, Global};
 
@@ -26,6 +26,7 @@ pub struct Turn {
     pub replied: usize,
     pub inserted: usize,
     pub set: usize,
+    pub sent: usize,
 }
 
 /// What an entry tells.
@@ -45,6 +46,8 @@ pub enum Row {
     CollectsReason(u64, Reason),
     /// The machine is stopped for a reason, and gives its last word.
     Stops(Reason, u32),
+    /// The message with a number is taken out.
+    Takes(u64),
 }
 
 /// The tag of a request.
@@ -72,6 +75,7 @@ fn report(alloc: Global, turn: Turn) -> Result<Report<bool>, AllocError> {
     let replied = vec![in alloc; tag(0); turn.replied]?;
     let inserted = vec![in alloc; 0; turn.inserted]?;
     let set = vec![in alloc; (Timer::State, Decision::Set(Time::Infinity)); turn.set]?;
+    let sent = vec![in alloc; 0; turn.sent]?;
     Ok(Report {
         event: Some(turn.event),
         done: turn.done,
@@ -81,6 +85,7 @@ fn report(alloc: Global, turn: Turn) -> Result<Report<bool>, AllocError> {
         replied: PlainList::from(replied),
         inserted: PlainList::from(inserted),
         set: PlainList::from(set),
+        sent: PlainList::from(sent),
     })
 }
 
@@ -92,6 +97,16 @@ fn turned(alloc: Global, number: u64, turn: Turn) -> Result<DoorEntry, AllocErro
         Command::Turn(turn.now),
         Answer::Turn(Ok(Turned::Reported(report))),
     ))
+}
+
+/// A message of the machine to another, with this number.
+fn message(number: u64) -> Message<char> {
+    Message {
+        sender: MACHINE,
+        number,
+        target: MachineId { slot: 1, serial: 2 },
+        content: 'x',
+    }
 }
 
 /// The entry of a row.
@@ -127,6 +142,10 @@ fn entry(alloc: Global, number: u64, row: Row) -> Result<DoorEntry, AllocError> 
             ))
         }
         Row::Stops(reason, word) => Ok(told(number, Command::Stop(reason), Answer::Stop(Ok(word)))),
+        Row::Takes(taken) => {
+            let message = message(taken);
+            Ok(told(number, Command::TakeOut, Answer::TakeOut(Some(message))))
+        }
     }
 }
 

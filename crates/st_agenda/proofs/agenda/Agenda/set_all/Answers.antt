@@ -20,5 +20,6 @@ loop-index-preserved g c =
             (set_none_more c.args.now c.args.self.now.schedule (all_settings_of c.args.actions.now) before left rest c.take_setting.result c.take_setting.ensures.taken kept.set w.in_default.is)
       ];
       none_before = c.take_setting.ensures.none_before;
+      sends = c.take_setting.ensures.same_sends ∙ kept.sends;
       as_many = c.take_setting.ensures.as_many ∙ kept.as_many;
     }

@@ -24,22 +24,22 @@ write-requires g c =
     omega (arith, got, before, rest, places)
 
 -- the turn was written
-pub returns-in-Ok-Some-clause-served : goal.returns-in-Ok-Some-clause-served
-returns-in-Ok-Some-clause-served g c =
+pub returns-in-Ok-Turned-clause-served : goal.returns-in-Ok-Turned-clause-served
+returns-in-Ok-Turned-clause-served g c =
     let same = c.make_room.ensures.same in
     let between = c.serve_scheduled.new.self.cell in
     let rest = same_but_machine c.args.self.now.cell c.make_room.new.self.cell between c.serve_scheduled.ensures.rest same in (
-      step.Turned c.in-Ok-Some.report,
-      served_written (callbacks_of g.M.Module g.M.State.PartialEq.eq) c.args.self.now.cell c.write.new.self.cell between c.args.now c.in-Ok-Some.report
-          (subst (λ cell. Serves (callbacks_of g.M.Module g.M.State.PartialEq.eq) cell.scheduled c.args.now (step.Turned c.in-Ok-Some.report) between.scheduled) same
-          (subst (λ said. Serves (callbacks_of g.M.Module g.M.State.PartialEq.eq) c.make_room.new.self.cell.scheduled c.args.now (served_as (Ok said)) between.scheduled) c.in-Ok-Some.field-0-is c.in-Ok-Some.ensures.served))
+      step.Turned c.in-Ok-Turned.report,
+      served_written (callbacks_of g.M.Module g.M.State.PartialEq.eq) c.args.self.now.cell c.write.new.self.cell between c.args.now c.in-Ok-Turned.report
+          (subst (λ cell. Serves (callbacks_of g.M.Module g.M.State.PartialEq.eq) cell.scheduled c.args.now (step.Turned c.in-Ok-Turned.report) between.scheduled) same
+          (subst (λ said. Serves (callbacks_of g.M.Module g.M.State.PartialEq.eq) c.make_room.new.self.cell.scheduled c.args.now (served_as (Ok said)) between.scheduled) c.in-Ok-Turned.field-0-is c.in-Ok-Turned.ensures.served))
           rest c.write.ensures.written,
       refl,
     )
 
 -- and there is a place for that of a stop
-pub returns-in-Ok-Some-clause-room : goal.returns-in-Ok-Some-clause-room
-returns-in-Ok-Some-clause-room g c room runs =
+pub returns-in-Ok-Turned-clause-room : goal.returns-in-Ok-Turned-clause-room
+returns-in-Ok-Turned-clause-room g c room runs =
     let got = got_places _ c.make_room.result (sym c.is_err.ensures.value ∙ c.if-is_err.false) c.make_room.ensures.room in
     let before = ap (λ cell. length cell.journal) c.make_room.ensures.same in
     let rest = ap (λ cell. length cell.journal) c.serve_scheduled.ensures.rest in

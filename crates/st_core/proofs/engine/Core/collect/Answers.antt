@@ -7,4 +7,4 @@ pub invariant_of-self : goal.invariant_of-self
 invariant_of-self g c =
     let old = c.self.inside in
     rw c.collect.ensures.left
-    (collect_lawful (machine_of old.id old.state old.data old.agenda.schedule old.requests old.latest old.ended) c.args.tag c.self.invariant)
+    (collect_lawful (machine_of old.id old.state old.data old.agenda.schedule old.requests old.outgoing.outbox old.latest old.ended) c.args.tag c.self.invariant)

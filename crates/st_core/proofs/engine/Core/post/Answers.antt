@@ -14,7 +14,7 @@ open-requires g c = rw c.next_number-number.ensures.next_number (fresh c.self.in
 pub invariant_of-self-in-Ok : goal.invariant_of-self-in-Ok
 invariant_of-self-in-Ok g c =
     let old = c.self.inside in
-    let machine = machine_of old.id old.state old.data old.agenda.schedule old.requests old.latest old.ended in
+    let machine = machine_of old.id old.state old.data old.agenda.schedule old.requests old.outgoing.outbox old.latest old.ended in
     let free : old.agenda.schedule.next_number < 2 ^ 63 = omega (arith, c.next_number-number.ensures.next_number, c.if-number-ge-NUMBER_LIMIT.false) in
     let opened = there c.open.result (sym c.is_err.ensures.value ∙ c.if-is_err.false) c.open.ensures.opened in
     rw (c.in-Ok.ensures.pushed, opened, c.kind_of.ensures, c.next_number-number.ensures.next_number)

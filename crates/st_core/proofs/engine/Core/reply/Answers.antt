@@ -7,4 +7,4 @@ pub invariant_of-self : goal.invariant_of-self
 invariant_of-self g c =
     let old = c.self.inside in
     rw c.answer.ensures.answered
-    (reply_lawful (machine_of old.id old.state old.data old.agenda.schedule old.requests old.latest old.ended) c.args.tag c.args.content c.self.invariant)
+    (reply_lawful (machine_of old.id old.state old.data old.agenda.schedule old.requests old.outgoing.outbox old.latest old.ended) c.args.tag c.args.content c.self.invariant)

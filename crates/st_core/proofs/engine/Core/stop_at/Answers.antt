@@ -16,4 +16,4 @@ pub invariant_of-self : goal.invariant_of-self
 invariant_of-self g c =
     let old = c.self.inside in
     rw (c.answer_each.ensures.answered, c.max-self-inside.ensures)
-    (answered_keeps old.id old.agenda.schedule old.requests old.latest c.args.course.now old.ended (replies_of c.args.actions.now) c.requires.moment c.self.invariant)
+    (answered_keeps old.id old.agenda.schedule old.requests old.outgoing.outbox old.latest c.args.course.now old.ended (replies_of c.args.actions.now) c.requires.moment c.self.invariant)

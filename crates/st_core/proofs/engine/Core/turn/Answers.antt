@@ -34,7 +34,7 @@ invariant_of-self g c =
     let old = c.self.inside in
     let early : c.args.now < 2 ^ 63 = omega (arith, c.if-now-ge-MOMENT_LIMIT.false) in
     rw c.max-self-inside.ensures
-    (lawful_moment (machine_of old.id old.state old.data old.agenda.schedule old.requests old.latest old.ended) c.args.now early c.self.invariant)
+    (lawful_moment (machine_of old.id old.state old.data old.agenda.schedule old.requests old.outgoing.outbox old.latest old.ended) c.args.now early c.self.invariant)
 
 -- what the callbacks come to is refused
 pub returns-in-Err-conclude-clause-does : goal.returns-in-Err-conclude-clause-does

@@ -9,7 +9,7 @@ loop-reported-preserved g c = record {
   within = omega (arith, c.loop-reported-test.true);
   so_far = one_turn_more (callbacks_of g.M.Module g.M.State.PartialEq.eq) c.args.now c.args.self.now c.loop-reported.self c.turn.new.self
       c.loop-reported.reported c.in_default.field-0 c.loop-reported.invariant.so_far
-      (sym c.is_ready.ensures ∙ c.if-is_ready.true) (rw c.in_default.is at c.turn.ensures.does);
+      (sym c.has_event.ensures ∙ c.if-has_event.true) (rw c.in_default.is at c.turn.ensures.does);
 }
 
 -- the last turn was refused

@@ -15,12 +15,12 @@ set_hand-requires-clause-there g c = hand_has_lane c.self.inside.queues c.args.w
 pub returns-then-not-keeps : goal.returns-then-not-keeps
 returns-then-not-keeps g c =
     let served = rw (c.in-Some-serve.is, c.if-not-keeps.true) at c.serve.ensures.served in
-    rw (← c.self.view_is, c.set_hand.ensures) (serves-in (callbacks_of g.M.Module g.M.State.PartialEq.eq) (record { machines = c.self.inside.machines; queues = c.self.inside.queues })
-    c.args.worker c.in-Some.token c.args.now c.in-Some-serve.answer false c.serve.new.self (rw (← c.self.view_is) at c.requires) (sym c.hand.ensures ∙ c.in-Some.is) served)
+    rw (← c.self.view_is, c.set_hand.ensures) (serves-in (callbacks_of g.M.Module g.M.State.PartialEq.eq) (record { machines = c.self.inside.machines; queues = c.self.inside.queues; transit = c.self.inside.transit })
+    c.args.worker c.in-Some.token c.args.now c.in-Some-serve.answer false c.serve.new.self (rw (← c.self.view_is) at c.requires) (sym c.is_carrying.ensures ∙ c.if-is_carrying.false) (sym c.hand.ensures ∙ c.in-Some.is) served)
 
 -- it was served, and keeps its token
 pub returns-else-not-keeps : goal.returns-else-not-keeps
 returns-else-not-keeps g c =
     let served = rw (c.in-Some-serve.is, c.if-not-keeps.false) at c.serve.ensures.served in
-    rw (← c.self.view_is) (serves-in (callbacks_of g.M.Module g.M.State.PartialEq.eq) (record { machines = c.self.inside.machines; queues = c.self.inside.queues })
-    c.args.worker c.in-Some.token c.args.now c.in-Some-serve.answer true c.serve.new.self (rw (← c.self.view_is) at c.requires) (sym c.hand.ensures ∙ c.in-Some.is) served)
+    rw (← c.self.view_is) (serves-in (callbacks_of g.M.Module g.M.State.PartialEq.eq) (record { machines = c.self.inside.machines; queues = c.self.inside.queues; transit = c.self.inside.transit })
+    c.args.worker c.in-Some.token c.args.now c.in-Some-serve.answer true c.serve.new.self (rw (← c.self.view_is) at c.requires) (sym c.is_carrying.ensures ∙ c.if-is_carrying.false) (sym c.hand.ensures ∙ c.in-Some.is) served)

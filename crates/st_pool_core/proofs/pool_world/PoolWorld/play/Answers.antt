@@ -5,6 +5,7 @@ use Rattle.st_core.specs.Callbacks.{callbacks_of}
 use Rattle.st_core.proofs.RunLemmas.{all_taken}
 use Rattle.st_pool_core.proofs.BalanceLemmas.{step-balanced}
 use Rattle.st_pool_core.proofs.CommandLemmas.{plays-went}
+use Rattle.st_pool_core.proofs.MessageLemmas.{plays-keep}
 use Rattle.st_pool_core.proofs.PlayLemmas.{play_more}
 use Rattle.st_pool_core.proofs.pool_world.PoolWorld.play.Goals as goal
 
@@ -45,4 +46,12 @@ returns-clause-own g c =
     let none : length (into_iter_items c.loop-step.step-iterator) ≡ 0 = omega (arith, c.loop-step.step-iterator.rest.ok, c.in-None.ensures.steps.0) in
     let all : c.loop-step.yielded ≡ c.args.steps.items = all_taken _ _ _ c.loop-step.invariant.split none in
     plays-went (callbacks_of g.M.Module g.M.State.PartialEq.eq) (step-balanced (callbacks_of g.M.Module g.M.State.PartialEq.eq)) c.args.self.now c.loop-step.self
-    c.args.steps.items c.loop-step.answers.items (rw (← c.self.view_is) c.self.invariant) (rw (← all) c.loop-step.invariant.played)
+    c.args.steps.items c.loop-step.answers.items (rw (← c.self.view_is) c.self.invariant.0) (rw (← all) c.loop-step.invariant.played)
+
+-- messages went their way
+pub returns-clause-messages : goal.returns-clause-messages
+returns-clause-messages g c =
+    let none : length (into_iter_items c.loop-step.step-iterator) ≡ 0 = omega (arith, c.loop-step.step-iterator.rest.ok, c.in-None.ensures.steps.0) in
+    let all : c.loop-step.yielded ≡ c.args.steps.items = all_taken _ _ _ c.loop-step.invariant.split none in
+    plays-keep (callbacks_of g.M.Module g.M.State.PartialEq.eq) c.args.self.now c.loop-step.self c.args.steps.items c.loop-step.answers.items
+    (rw (← c.self.view_is) c.self.invariant.0) (rw (← c.self.view_is) c.self.invariant.1) (rw (← all) c.loop-step.invariant.played)

@@ -1,0 +1,337 @@
+//! Messages that a machine sends, and that are taken out.
+use super::begin::Begin;
+use super::enters::stops_at_its_start;
+use super::host::{Host, holds, same};
+use super::machine::Machine;
+use super::row::More::{Ends, Enters, Inserts, Sends, Sets};
+use super::row::Row;
+use super::row::Row::{Tells, Turns};
+use super::seen::{Seen, sees};
+use super::shown::Shown::{Idle, NotTurned, Posted, Stopped, TakenOut};
+use super::shown::Taken;
+use super::snapshots::{sent_is_whole, snapped};
+use super::table::Table;
+use super::table_machine::{BEGIN, answers_are, at_end, at_rest, timers_are, with_message};
+use super::tested::{does, play};
+use super::told::ID;
+use super::told::Told::{Cast, Stop, TakeOut, Turn};
+use super::until_idle::{made, turned};
+use st_core::Time::After;
+use st_core::Timer::Named;
+use st_core::{Core, Due, Kind, MachineId, Message, Refusal, TurnsEnd};
+use std::alloc::Global;
+use std::process::Abort;
+
+/// Another machine.
+const OTHER: MachineId = MachineId { slot: 1, serial: 2 };
+
+/// A third machine.
+const THIRD: MachineId = MachineId { slot: 2, serial: 3 };
+
+/// Another machine, in the same place as the one that sends.
+const FOREIGN: MachineId = MachineId { slot: 0, serial: 2 };
+
+/// A machine whose `init` sends one message.
+const ONE_SENT: Begin<Table> = Begin {
+    arg: 12,
+    sent: &[1],
+    ..BEGIN
+};
+
+/// There is no message to be taken out.
+const TAKES_NONE: Row = Tells(TakeOut, TakenOut(None));
+
+/// The first event, a cast, has two messages sent.
+const SENDS_TWO: Row = Turns(0, 1, Kind::Cast, 0, 0, &[Sends(1), Sends(2)]);
+
+/// A message is taken out: its number, its target and its content. The machine is its sender.
+fn takes(number: u64, target: MachineId, content: u32) -> Row {
+    let message = Taken {
+        sender: ID,
+        number,
+        target,
+        content,
+    };
+    Tells(TakeOut, TakenOut(Some(message)))
+}
+
+#[test]
+fn messages_come_in_the_order_in_which_they_were_sent(rt: HostRuntime) {
+    let rows = [
+        Tells(Cast(52), Posted(1)),
+        SENDS_TWO,
+        takes(1, OTHER, 5),
+        takes(2, THIRD, 6),
+        TAKES_NONE,
+        Tells(Turn(0), Idle),
+    ];
+    answers_are(rt, &BEGIN, &rows, &at_rest(0, 7, 0));
+}
+
+/// The numbers go on, also where all that was sent has been taken out.
+#[test]
+fn messages_of_a_later_turn_come_behind(rt: HostRuntime) {
+    let rows = [
+        Tells(Cast(52), Posted(1)),
+        Tells(Cast(52), Posted(2)),
+        Tells(Cast(55), Posted(3)),
+        SENDS_TWO,
+        takes(1, OTHER, 5),
+        Turns(0, 2, Kind::Cast, 0, 0, &[Sends(3), Sends(4)]),
+        takes(2, THIRD, 6),
+        takes(3, OTHER, 5),
+        takes(4, THIRD, 6),
+        TAKES_NONE,
+        Turns(0, 3, Kind::Cast, 0, 0, &[Sends(5)]),
+        takes(5, OTHER, 8),
+        TAKES_NONE,
+    ];
+    answers_are(rt, &BEGIN, &rows, &at_rest(0, 7, 0));
+}
+
+#[test]
+fn messages_are_taken_out_after_the_end(rt: HostRuntime) {
+    let rows = [
+        Tells(Cast(52), Posted(1)),
+        SENDS_TWO,
+        takes(1, OTHER, 5),
+        Tells(Stop(4), Stopped(7)),
+        Tells(Turn(0), NotTurned(Refusal::Stopped(4))),
+        takes(2, THIRD, 6),
+        TAKES_NONE,
+    ];
+    answers_are(rt, &BEGIN, &rows, &at_end(4, 7, 7, 0));
+}
+
+/// An event that waits is none, handled or not.
+#[test]
+fn where_nothing_was_sent_nothing_is_taken_out(rt: HostRuntime) {
+    let rows = [
+        TAKES_NONE,
+        Tells(Cast(0), Posted(1)),
+        TAKES_NONE,
+        Turns(0, 1, Kind::Cast, 0, 0, &[]),
+        TAKES_NONE,
+        Tells(Stop(4), Stopped(7)),
+        TAKES_NONE,
+    ];
+    answers_are(rt, &BEGIN, &rows, &at_end(4, 7, 7, 0));
+}
+
+/// What was sent before it stays, and can be taken out.
+#[test]
+fn a_turn_that_stops_sends_nothing(rt: HostRuntime) {
+    let rows = [
+        Tells(Cast(52), Posted(1)),
+        Tells(Cast(15), Posted(2)),
+        SENDS_TWO,
+        Turns(0, 2, Kind::Cast, 0, 0, &[Ends(9, 7)]),
+        takes(1, OTHER, 5),
+        takes(2, THIRD, 6),
+        TAKES_NONE,
+    ];
+    answers_are(rt, &BEGIN, &rows, &at_end(9, 7, 7, 0));
+}
+
+/// `handle` asks for a message, and the enter call stops.
+#[test]
+fn a_turn_whose_enter_call_stops_sends_nothing(rt: HostRuntime) {
+    let begin = Begin {
+        module: Table { number: 72 },
+        ..BEGIN
+    };
+    let rows = [
+        Tells(Cast(52), Posted(1)),
+        Tells(Cast(53), Posted(2)),
+        SENDS_TWO,
+        takes(1, OTHER, 5),
+        Turns(0, 2, Kind::Cast, 0, 1, &[Enters, Ends(4, 7)]),
+        takes(2, THIRD, 6),
+        TAKES_NONE,
+    ];
+    let end = Seen {
+        state: 1,
+        ..at_end(4, 7, 7, 0)
+    };
+    answers_are(rt, &begin, &rows, &end);
+}
+
+/// What its `init` asked to send is not sent.
+#[test]
+fn a_start_whose_enter_call_stops_sends_nothing(rt: HostRuntime) {
+    let rt = Host::new(rt);
+    stops_at_its_start(&rt, rt.alloc(), 12);
+    rt.end();
+}
+
+/// No number is left for the event that it inserts.
+#[test]
+fn a_turn_that_is_refused_sends_nothing(rt: HostRuntime) {
+    let begin = Begin {
+        first: Some(9_223_372_036_854_775_807),
+        ..BEGIN
+    };
+    let rows = [
+        Tells(Cast(53), Posted(9_223_372_036_854_775_807)),
+        Tells(Turn(4), NotTurned(Refusal::Exhausted)),
+        TAKES_NONE,
+    ];
+    let end = Seen {
+        is_ready: true,
+        has_event: true,
+        waiting: 1,
+        ..at_rest(0, 7, 0)
+    };
+    answers_are(rt, &begin, &rows, &end);
+}
+
+/// The numbers of later messages follow.
+#[test]
+fn a_start_sends(rt: HostRuntime) {
+    let rows = [
+        Tells(Cast(52), Posted(1)),
+        Turns(0, 1, Kind::Cast, 0, 0, &[Sends(2), Sends(3)]),
+        takes(1, OTHER, 5),
+        takes(2, OTHER, 5),
+        takes(3, THIRD, 6),
+        TAKES_NONE,
+    ];
+    answers_are(rt, &ONE_SENT, &rows, &at_rest(0, 7, 0));
+}
+
+/// The message stands first in the list of actions, and the insert last.
+#[test]
+fn a_message_goes_with_an_insert_and_a_time_out(rt: HostRuntime) {
+    let rows = [
+        Tells(Cast(53), Posted(1)),
+        Turns(
+            3,
+            1,
+            Kind::Cast,
+            0,
+            1,
+            &[Inserts(2), Sets(Named(5), After(5)), Sends(1)],
+        ),
+        Turns(3, 2, Kind::Internal, 1, 1, &[]),
+        takes(1, OTHER, 7),
+        TAKES_NONE,
+    ];
+    let timers = [(Named(5), 3, Due::At(8))];
+    timers_are(rt, &BEGIN, &rows, &at_rest(1, 7, 3), &timers);
+}
+
+/// They want memory of their own. One is for the machine itself, and waits as the others do.
+#[test]
+fn five_messages_are_sent_in_one_list(rt: HostRuntime) {
+    let rows = [
+        Tells(Cast(54), Posted(1)),
+        Turns(
+            0,
+            1,
+            Kind::Cast,
+            0,
+            0,
+            &[Sends(1), Sends(2), Sends(3), Sends(4), Sends(5)],
+        ),
+        takes(1, OTHER, 1),
+        takes(2, THIRD, 2),
+        takes(3, OTHER, 3),
+        takes(4, ID, 4),
+        takes(5, FOREIGN, 5),
+        TAKES_NONE,
+    ];
+    answers_are(rt, &BEGIN, &rows, &at_rest(0, 7, 0));
+}
+
+/// Does the commands of rows, and looks after each whether there is an event, whether there is a message, and whether
+/// the machine is ready.
+fn is_ready_after<T: Machine>(
+    rt: &Host<impl Abort>,
+    alloc: Global,
+    rows: &[(Row, (bool, bool, bool))],
+) {
+    let mut machine = T::begun(rt, alloc, &BEGIN);
+    for (row, wanted) in rows {
+        does(rt, &mut machine, row.told(), &row.wanted());
+        let seen = machine.see();
+        let found = (seen.has_event, seen.has_message, seen.is_ready);
+        same(rt, "an event, a message, either", &found, wanted);
+    }
+}
+
+/// With an event, with both, with messages alone, with none; and after the end.
+#[test]
+fn a_machine_with_a_message_is_ready(rt: HostRuntime) {
+    let rt = Host::new(rt);
+    let rows = [
+        (Tells(Cast(52), Posted(1)), (true, false, true)),
+        (Tells(Cast(52), Posted(2)), (true, false, true)),
+        (SENDS_TWO, (true, true, true)),
+        (takes(1, OTHER, 5), (true, true, true)),
+        (takes(2, THIRD, 6), (true, false, true)),
+        (
+            Turns(0, 2, Kind::Cast, 0, 0, &[Sends(3), Sends(4)]),
+            (false, true, true),
+        ),
+        (Tells(Turn(0), Idle), (false, true, true)),
+        (takes(3, OTHER, 5), (false, true, true)),
+        (Tells(Stop(4), Stopped(7)), (false, true, true)),
+        (takes(4, THIRD, 6), (false, false, false)),
+    ];
+    is_ready_after::<Core<Table>>(&rt, rt.alloc(), &rows);
+    rt.end();
+}
+
+/// Looks at turns of a machine that leave nothing but messages: they end as where nothing is left.
+fn turns_leave_messages<T: Machine>(rt: &Host<impl Abort>, alloc: Global) {
+    let mut machine = T::begun(rt, alloc, &BEGIN);
+    let mut other = T::begun(rt, alloc, &BEGIN);
+    let posts = [Tells(Cast(52), Posted(1))];
+    play(rt, &mut machine, &posts);
+    play(rt, &mut other, &posts);
+    let turns = turned(rt, &mut machine, &mut other, 0, 9);
+    made(rt, turns, 1, TurnsEnd::Idle);
+    sees(rt, &machine.see(), &with_message(at_rest(0, 7, 0)));
+}
+
+#[test]
+fn turns_end_though_a_message_is_left(rt: HostRuntime) {
+    let rt = Host::new(rt);
+    turns_leave_messages::<Core<Table>>(&rt, rt.alloc());
+    rt.end();
+}
+
+/// The two messages of a machine, as its snapshot has them.
+const TWO_MESSAGES: [Message<u32>; 2] = [
+    Message {
+        sender: ID,
+        number: 1,
+        target: OTHER,
+        content: 5,
+    },
+    Message {
+        sender: ID,
+        number: 2,
+        target: THIRD,
+        content: 6,
+    },
+];
+
+/// Looks at a snapshot of a machine that has sent two messages, and at another one after the first was taken out.
+fn messages_are_snapped<T: Machine>(rt: &Host<impl Abort>, alloc: Global) {
+    let mut machine = T::begun(rt, alloc, &BEGIN);
+    play(rt, &mut machine, &[Tells(Cast(52), Posted(1)), SENDS_TWO]);
+    let whole = snapped(rt, &mut machine);
+    play(rt, &mut machine, &[takes(1, OTHER, 5)]);
+    let later = snapped(rt, &mut machine);
+    sent_is_whole(rt, &whole.outbox, &TWO_MESSAGES, 3);
+    sent_is_whole(rt, &later.outbox, &TWO_MESSAGES[1..], 3);
+    holds(rt, "the later one is another", whole != later);
+}
+
+#[test]
+fn a_snapshot_has_the_messages(rt: HostRuntime) {
+    let rt = Host::new(rt);
+    messages_are_snapped::<Core<Table>>(&rt, rt.alloc());
+    rt.end();
+}

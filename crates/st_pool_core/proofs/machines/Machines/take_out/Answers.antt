@@ -1,0 +1,31 @@
+use Rattle.std.proofs.Common.{refl, sym, ◌∙◌}
+use Rattle.st_core.specs.Callbacks.{callbacks_of}
+use Rattle.st_core.specs.declared.command.Command.TheVariants as command
+use Rattle.st_scheduled.specs.Answered.{taken_out_as}
+use Rattle.st_pool_core.proofs.MachineLemmas.{place_is, place_within, machine_at, changed_there, no_place, ids_stay}
+use Rattle.st_pool_core.proofs.PoolLemmas.{tells_same_id}
+use Rattle.st_pool_core.proofs.machines.Machines.take_out.Goals as goal
+
+pub returns-in_err-place-clause-missing : goal.returns-in_err-place-clause-missing
+returns-in_err-place-clause-missing g c =
+    rw c.from_residual.ensures (no_place c.args.id c.args.self.now (sym c.place_of.ensures.place ∙ c.in_err-place.was), refl)
+
+-- its id stays
+pub invariant_of-self : goal.invariant_of-self
+invariant_of-self g c =
+    let there = place_is c.args.id c.self.inside.all.items c.in_ok-place.place (rw (← c.self.view_is) at (sym c.place_of.ensures.place ∙ c.in_ok-place.was)) in
+    let same = tells_same_id (callbacks_of g.M.Module g.M.State.PartialEq.eq) c.index_mut-machine.result.now command.TakeOut (taken_out_as c.take_out.result) c.take_out.new.self refl c.take_out.ensures.told in
+    ids_stay c.self.inside.ids.keys c.self.inside.all.items c.in_ok-place.place c.index_mut-machine.result.now c.take_out.new.self c.self.invariant
+    c.index_mut-machine.ensures.value same (place_within c.args.id c.self.inside.all.items c.in_ok-place.place there)
+
+-- the machine of the id was told it
+pub returns-clause-told : goal.returns-clause-told
+returns-clause-told g c =
+    let there = place_is c.args.id c.self.inside.all.items c.in_ok-place.place (rw (← c.self.view_is) at (sym c.place_of.ensures.place ∙ c.in_ok-place.was)) in
+    rw (← c.self.view_is) (record {
+      old = c.index_mut-machine.result.now;
+      after = c.take_out.new.self;
+      found = machine_at c.args.id c.self.inside.all.items c.in_ok-place.place c.index_mut-machine.result.now there c.index_mut-machine.ensures.value;
+      tells = c.take_out.ensures.told;
+      others = changed_there c.args.id c.self.inside.all.items c.in_ok-place.place _ c.index_mut-machine.result.now c.take_out.new.self there c.index_mut-machine.ensures.value refl;
+    })
