@@ -34,6 +34,7 @@ fn copy_of(command: &Command<u32>) -> Command<u32> {
         Command::Reply(tag, content) => Command::Reply(*tag, *content),
         Command::Collect(tag) => Command::Collect(*tag),
         Command::Stop(reason) => Command::Stop(*reason),
+        Command::TakeOut => Command::TakeOut,
     }
 }
 
