@@ -108,7 +108,10 @@ fn actions(
             one(alloc, stop)
         }
         Work::Update(number) => one(alloc, Action::Update(Timer::Named(number), Work::Keep)),
-        Work::Send(serial) => one(alloc, Action::Send(MachineId { slot: 0, serial }, Work::Keep)),
+        Work::Send(serial) => one(
+            alloc,
+            Action::Send(MachineId { slot: 0, serial }, Work::Keep),
+        ),
     }
 }
 

@@ -188,7 +188,7 @@ module _ {M S D C : Type 0} (callbacks : M → Callbacks S D C) where
   runs_by (Some end) old new now answer is (inr none) runs = sym is ∙ (ap (λ (one : ScheduledMachine M S D C). one.core.machine.ended) (sym none.2) ∙ runs)
   runs_by (Some end) old new now answer is (inl done) runs =
       let idle : has_event old.core ≡ false = ap (λ (one : Option (ℕ × ℕ)). is_none one && is_some (next_event_of old.core.machine)) is in
-      let same : (served_on callbacks old now).1.core ≡ old.core = 
+      let same : (served_on callbacks old now).1.core ≡ old.core =
       ap (λ (event : Bool). (if event then told_on callbacks old (command.Turn now) else served_idle old).1.core) idle ∙ idle_core (has_message old.core) old in
       sym is ∙ (sym (ap (λ (core : Machine M S D C). core.machine.ended) (ap (λ (one : ScheduledMachine M S D C). one.core) done.1 ∙ same)) ∙ runs)
 

@@ -133,9 +133,9 @@ impl<M: Module> Cell<M> {
         self.journaled.post(port, entry, content)
     }
 
-    /// Serves the machine by a token: one turn at a moment, in milliseconds, if it has work. `Again` has the token where
-    /// it has work after it; else the token is retired. A machine that has ended takes no turn, whatever the moment, and
-    /// its token is retired.
+    /// Serves the machine by a token: one turn at a moment, in milliseconds, if there is an event for it. `Again` has the
+    /// token where the machine has work after it, an event or a message to be taken out; else the token is retired. A
+    /// machine that has ended takes no turn, whatever the moment.
     ///
     /// Refused with `NotQueued` where the token is not the machine's outstanding one, with `Moment` at 2^63 and later,
     /// with `Exhausted` where too few numbers are left for what the turn asks for or for the entry, and with `NoMemory`

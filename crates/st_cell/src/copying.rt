@@ -3,9 +3,7 @@ ghost use Rattle.std.specs.Prelude.{◌≡◌, Ok, IfOk};
 ghost use Rattle.st_core.specs.declared.answer.Answer.TheVariants as answer;
 
 use crate::JournalEntry;
-use st_core::{
-    Answer, Collected, Command, Message, PlainList, Refusal, Refused, Report, Turned,
-};
+use st_core::{Answer, Collected, Command, Message, PlainList, Refusal, Refused, Report, Turned};
 use st_events::CopyContent;
 use std::alloc::{AllocError, Global};
 

@@ -1,5 +1,5 @@
 -- A request is taken out of a collection.
-use Rattle.std.proofs.Common.{◌≡◌, ℕ, zero, suc, ◌<◌, List, [], ◌∷◌, ◌++◌, length, take, drop, remove, slice_get, Some, refl, sym, ap, ◌∙◌, arith}
+use Rattle.std.proofs.Common.{◌≡◌, ℕ, zero, suc, ◌<◌, List, [], ◌∷◌, length, remove, slice_get, Some, refl, ap, ◌∙◌, arith}
 use Rattle.st_events.specs.declared.tag.Tag.{Tag}
 use Rattle.st_collection.specs.declared.sent.Sent.{Sent}
 use Rattle.st_client.specs.Checked.{TakesOut}

@@ -1,5 +1,5 @@
 -- Doors by their numbers, and numbers by names.
-use Rattle.std.proofs.Common.{◌≡◌, ℕ, zero, suc, ◌+◌, ◌≤◌, ◌≢◌, true, false, nat_eq, if◌then◌else◌, List, [], ◌∷◌, ◌++◌, get_or, set, map, find, slice_get, Option, Some, None, String, refl, ap, sym, ◌∙◌, arith, inl, inr, bytes_eq, string_bytes, eqb-true}
+use Rattle.std.proofs.Common.{◌≡◌, ℕ, zero, suc, ◌+◌, ◌≤◌, ◌≢◌, true, false, nat_eq, if◌then◌else◌, List, [], ◌∷◌, ◌++◌, get_or, set, find, slice_get, Option, Some, None, String, refl, ap, sym, ◌∙◌, arith, inl, inr, bytes_eq, string_bytes, eqb-true}
 use Rattle.std.proofs.lemmas.Bool.{cases_Bool, eq-eqb, false_from_ne_true}
 use Rattle.std.proofs.lemmas.List.{map-append}
 use Rattle.std.proofs.lemmas.Slice.Eq.{bytes_eq-Decides}

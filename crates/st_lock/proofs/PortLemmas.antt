@@ -21,7 +21,7 @@ use Rattle.st_scheduled.specs.declared.step_answer.StepAnswer.TheVariants.{Poste
 use Rattle.st_scheduled.specs.declared.step_answer.StepAnswer.{StepAnswer}
 use Rattle.st_scheduled.specs.Answered.{posted_as}
 use Rattle.st_scheduled.specs.ScheduledMachine.{ScheduledMachine, has_message, has_work, id_of}
-use Rattle.st_scheduled.specs.Serving.{content_of, counted, is_full, issued, needs_count, refused_with, retired, told_as, told_on, wake_of}
+use Rattle.st_scheduled.specs.Serving.{content_of, counted, is_full, issued, needs_count, refused_with, retired, told_as, wake_of}
 use Rattle.st_events.specs.declared.refusal.Refusal.TheVariants.{Exhausted}
 use Rattle.st_scheduled.proofs.LeftStates.{step_id}
 use Rattle.st_cell.specs.declared.journal.Journal.{Journal}

@@ -1,5 +1,5 @@
 -- A port: its endpoint has seen its posts, and its claim is of the machine's endpoint on the same counter.
-use Rattle.std.specs.Prelude.{◌≡◌, ℕ, List, [], ◌∷◌, ◌++◌, length}
+use Rattle.std.specs.Prelude.{◌≡◌, List, [], ◌∷◌, ◌++◌, length}
 use Rattle.std.specs.Arc.{arc_value}
 use Rattle.st_events.specs.declared.machine_id.MachineId.{MachineId}
 use Rattle.st_cell.specs.declared.post.Post.{Post}

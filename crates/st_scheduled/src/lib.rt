@@ -15,7 +15,8 @@ pub use posted::Posted;
 pub use scheduled_machine::ScheduledMachine;
 pub use served::Served;
 pub use st_core::{
-    Collected, Command, Core, Entry, MachineId, Message, Module, Reason, Refusal, Refused, Report, Tag,
+    Collected, Command, Core, Entry, MachineId, Message, Module, Reason, Refusal, Refused, Report,
+    Tag,
 };
 pub use st_events::Token;
 pub use step_answer::{AnswerOf, StepAnswer};

@@ -182,16 +182,16 @@ abbrev other_id : MachineId
 other_id = record { slot = 1; serial = 2 }
 
 sent_is : entry_line names 5 (tells 13 (command.Turn 5) (answer.Turn (Ok (Reported (record {
-    event = Some 6;
-    done = Finished;
-    calls = Handle 6 kind.Cast locked ∷ [];
-    before = locked;
-    after = locked;
-    replied = [];
-    inserted = [];
-    set = [];
-    sent = 1 ∷ 2 ∷ [];
-  })))))
+  event = Some 6;
+  done = Finished;
+  calls = Handle 6 kind.Cast locked ∷ [];
+  before = locked;
+  after = locked;
+  replied = [];
+  inserted = [];
+  set = [];
+  sent = 1 ∷ 2 ∷ [];
+})))))
     ≡ codes "        13      - turn                      5          6 cast locked locked finished 0 0 0 sent 2\n"
 unfolding digits
 sent_is = refl

@@ -1,7 +1,6 @@
 use Rattle.std.proofs.Common.{◌≡◌, ◌∙◌, sym, ap, set, get_or, true}
 use Rattle.st_door.specs.Doors.{NamedDoor, KeptDoor, door_named, kept_of}
 use Rattle.st_door.specs.Late.{is_late}
-use Rattle.st_door.proofs.IdleLemmas.{no_door}
 use Rattle.st_door.proofs.LateDoorsLemmas.{late-ticked}
 use Rattle.st_door.proofs.late_doors.catch_up.Goals as goal
 

@@ -1,4 +1,4 @@
-use Rattle.std.proofs.Common.{rules, ◌≡◌, ◌≤◌, ◌<◌, ◌^◌, ◌∙◌, sym, min, is_some, false, None, Some, arith}
+use Rattle.std.proofs.Common.{rules, ◌≡◌, ◌≤◌, ◌<◌, ◌^◌, min, is_some, false, None, Some, arith}
 use Rattle.st_core.specs.Choice.{next_due_of}
 use Rattle.st_door.specs.Entries.{machine_in}
 use Rattle.st_door.proofs.LateDoorsLemmas.{quiet-ever, quiet-before, quiet-cell, none-when}

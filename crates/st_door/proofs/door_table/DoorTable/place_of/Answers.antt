@@ -2,7 +2,7 @@ use Rattle.std.proofs.Common.{rules, ◌≡◌, None, IfSome, IfNone, find}
 use Rattle.std.specs.Result.{result_ok}
 use Rattle.std.proofs.lemmas.List.Sorted.{answers_always}
 use Rattle.st_door.specs.Doors.{IsFirst}
-use Rattle.st_door.specs.Numbers.{NumberedDoors, has_number}
+use Rattle.st_door.specs.Numbers.{has_number}
 use Rattle.st_door.proofs.TableLemmas.{searched}
 use Rattle.st_door.proofs.door_table.DoorTable.place_of.Goals as goal
 

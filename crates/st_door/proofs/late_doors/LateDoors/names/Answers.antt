@@ -1,4 +1,4 @@
-use Rattle.std.proofs.Common.{◌∙◌, sym, ap, string_bytes}
+use Rattle.std.proofs.Common.{◌∙◌, sym, ap}
 use Rattle.st_door.specs.Printing.{names_text}
 use Rattle.st_door.proofs.DoorLemmas.{if_ok}
 use Rattle.st_door.proofs.LateDoorsLemmas.{names-caught}

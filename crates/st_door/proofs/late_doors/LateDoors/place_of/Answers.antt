@@ -1,6 +1,6 @@
 use Rattle.st_door.specs.Doors.{has_name}
 use Rattle.st_door.specs.Late.{caught_up}
-use Rattle.std.proofs.Common.{◌≡◌, Bool, List, [], ◌∷◌, Option, None, map, refl, inl, inr}
+use Rattle.std.proofs.Common.{◌≡◌, Bool, List, [], ◌∷◌, None, map, refl, inl, inr}
 use Rattle.std.specs.List.{find}
 use Rattle.std.proofs.lemmas.Bool.{cases_Bool}
 use Rattle.st_door.proofs.DoorLemmas.{IsFirst-map}

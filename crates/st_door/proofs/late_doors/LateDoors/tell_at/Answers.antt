@@ -1,6 +1,5 @@
-use Rattle.std.proofs.Common.{rules, ◌≡◌, ◌≤◌, ◌∙◌, sym, ap, map, min, arith}
-use Rattle.st_core.specs.declared.command.Command.TheVariants as command
-use Rattle.st_door.specs.Doors.{NamedDoor, is_ready_door, told_of}
+use Rattle.std.proofs.Common.{rules, ◌≡◌, ◌≤◌, ◌∙◌, ap, map, min, arith}
+use Rattle.st_door.specs.Doors.{NamedDoor, told_of}
 use Rattle.st_door.specs.Late.{caught_up}
 use Rattle.st_door.proofs.DoorLemmas.{err_always}
 use Rattle.st_door.proofs.IdleLemmas.{no_door}
