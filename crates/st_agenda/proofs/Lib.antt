@@ -9,6 +9,7 @@ pub mod ReceiveLemmas
 pub mod CopyingLemmas
 pub mod ExpireLemmas
 pub mod LoopLemmas
+pub mod NothingLemmas
 pub mod LawfulSetting
 pub mod LawfulReceiving
 pub mod LawfulTurn

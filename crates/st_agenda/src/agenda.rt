@@ -457,15 +457,49 @@ impl<C: Drop> Agenda<C> {
         ensures same_settings { all_settings_of actions.new ≡ all_settings_of actions.old }
         ensures same_sends { sends_of actions.new ≡ sends_of actions.old }
     {
+        if count > 0 {
+            self.insert_all(count, actions);
+        }
+    }
+
+    /// The same, where there may be one.
+    #[inline(never)]
+    fn insert_all(&mut self, count: usize, actions: &mut Actions<C>)
+        requires count { count ≡ length (inserts_of actions.old) }
+        requires reserved { count ≤ self.old.staged }
+        requires numbers { self.old.schedule.next_number + count ≤ 2 ^ 63 }
+        ensures inserted { self.new ≡ record self.old {
+          schedule = inserted_in self.old.schedule (inserts_of actions.old);
+          staged = self.old.staged - count;
+        } }
+        ensures same_settings { all_settings_of actions.new ≡ all_settings_of actions.old }
+        ensures same_sends { sends_of actions.new ≡ sends_of actions.old }
+    {
         self.pending.insert(count, actions);
         self.pending.in_order();
     }
 
-    /// Takes the settings out of a list of actions, of no timer two, and does them at a moment, in milliseconds, in their
-    /// order. It takes no memory.
+    /// Takes the settings, of which there are so many and of no timer two, out of a list of actions, and does them at a
+    /// moment, in milliseconds, in their order. It takes no memory.
     ///
     /// Manual: `timeout_action()`, `timeout_cancel_action()`, `timeout_update_action()`.
-    pub fn set_all(&mut self, now: u64, actions: &mut Actions<C>)
+    pub fn set_all(&mut self, now: u64, count: usize, actions: &mut Actions<C>)
+        requires count { count ≡ length (all_settings_of actions.old) }
+        requires moment { now < 2 ^ 63 }
+        requires once { AskedOnce (all_settings_of actions.old) }
+        requires reserved { count ≤ self.old.reserved }
+        requires numbers { self.old.schedule.next_number + numbers_taken self.old.schedule.running (all_settings_of actions.old) ≤ 2 ^ 63 }
+        ensures set { self.new.schedule ≡ all_set_in now self.old.schedule (all_settings_of actions.old) }
+        ensures same_sends { sends_of actions.new ≡ sends_of actions.old }
+    {
+        if count > 0 {
+            self.set_each(now, actions);
+        }
+    }
+
+    /// The same, where there may be one.
+    #[inline(never)]
+    fn set_each(&mut self, now: u64, actions: &mut Actions<C>)
         requires moment { now < 2 ^ 63 }
         requires once { AskedOnce (all_settings_of actions.old) }
         requires reserved { length (all_settings_of actions.old) ≤ self.old.reserved }
@@ -594,6 +628,8 @@ fn pass_dead<C: Drop>(pending: &mut Pending<C>, timeouts: &Timeouts<C>, expiries
 }
 
 /// The same, where there may be an expiry.
+// Few machines have an expiry that waits, and the others are not to get anything ready for this.
+#[inline(never)]
 fn pass_each_dead<C: Drop>(
     pending: &mut Pending<C>,
     timeouts: &Timeouts<C>,

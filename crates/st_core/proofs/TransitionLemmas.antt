@@ -238,6 +238,13 @@ enough_for_all next inserts timers h = grind (arith, h)
 pub fewer_inserts : (next inserts timers : ℕ) → nat_le (next + (inserts + timers)) (2 ^ 63) ≡ true → inserts ≤ 2 ^ 63
 fewer_inserts next inserts timers h = grind (arith, h)
 
+-- where nothing is asked for, there are enough
+pub none_wanted : (next : ℕ) → next ≤ 2 ^ 63 → nat_le (next + (0 + 0)) (2 ^ 63) ≡ true
+none_wanted next bounded = grind (arith, bounded)
+
+pub no_message_wanted : (next : ℕ) → next ≤ 2 ^ 63 → nat_le (next + 0) (2 ^ 63) ≡ true
+no_message_wanted next bounded = grind (arith, bounded)
+
 -- both are enough
 pub both_true : {one other : Bool} → one ≡ true → other ≡ true → (one && other) ≡ true
 both_true one_is other_is = rw (one_is, other_is) refl

@@ -1,5 +1,7 @@
-//! A message is taken out of a machine.
+//! The messages of a machine: the first one is shown, and taken out.
 ghost use Rattle.std.specs.Prelude.{◌≡◌};
+ghost use Rattle.std.specs.Option.{option_copied};
+ghost use Rattle.st_outbox.specs.Outbox.{first_message};
 ghost use Rattle.st_core.specs.declared.answer.Answer.TheVariants as answer;
 ghost use Rattle.st_core.specs.declared.command.Command.TheVariants as command;
 ghost use Rattle.st_core.specs.Callbacks.{callbacks_of};
@@ -9,6 +11,15 @@ use crate::Core;
 use st_events::{Message, Module};
 
 impl<M: Module> Core<M> {
+    /// The first message that the machine has sent and that was not taken out yet.
+    ///
+    /// Ours: docs/DECISIONS.md, Messages.
+    pub fn first_message(&self) -> Option<&Message<M::Content>>
+        ensures { option_copied result ≡ first_message self.now.machine.outbox.messages }
+    {
+        self.outgoing.first()
+    }
+
     /// Takes out the first message that the machine has sent and that was not taken out yet, if there is one, also after
     /// the end. Whoever serves the machine delivers it: the machine knows nothing of it any more.
     ///

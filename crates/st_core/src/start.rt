@@ -152,6 +152,56 @@ impl<M: Module> Core<M> {
         state: M::State,
         data: M::Data,
         actions: &mut Actions<M::Content>,
+        gathered: Gathered<M::State>,
+    ) -> Result<Start<M>, Refused<M>>
+        requires moment { opening.now < 2 ^ 63 }
+        requires greatest { opening.first < 2 ^ 63 }
+        requires empty { IsEmpty gathered }
+        ensures start { (called : Called M.State M.Data M.Content) → called.calls ≡ gathered.calls → called.actions ≡ actions.old
+            → Starts opening.module result (started_with opening.module (first_state opening.id state «data» opening.now opening.first) called) }
+    {
+        if actions.is_empty() {
+            Core::run_idle(opening, state, data, gathered)
+        } else {
+            Core::run_with(opening, state, data, actions, gathered)
+        }
+    }
+
+    /// The same, where nothing is asked for.
+    fn run_idle(
+        opening: Opening<M>,
+        state: M::State,
+        data: M::Data,
+        gathered: Gathered<M::State>,
+    ) -> Result<Start<M>, Refused<M>>
+        requires moment { opening.now < 2 ^ 63 }
+        requires greatest { opening.first < 2 ^ 63 }
+        requires empty { IsEmpty gathered }
+        ensures start { (called : Called M.State M.Data M.Content) → called.calls ≡ gathered.calls → called.actions ≡ []
+            → Starts opening.module result (started_with opening.module (first_state opening.id state «data» opening.now opening.first) called) }
+    {
+        let core = Core {
+            alloc: opening.alloc,
+            module: opening.module,
+            id: opening.id,
+            state,
+            data,
+            agenda: Agenda::new(opening.alloc, opening.first),
+            requests: Requests::new(opening.alloc),
+            outgoing: Outgoing::new(opening.alloc),
+            latest: opening.now,
+            ended: None,
+        };
+        let report = gathered.into_report(None, Done::Started, state, state);
+        Ok(Start::Running(core, report))
+    }
+
+    /// The same, where something may be asked for.
+    fn run_with(
+        opening: Opening<M>,
+        state: M::State,
+        data: M::Data,
+        actions: &mut Actions<M::Content>,
         mut gathered: Gathered<M::State>,
     ) -> Result<Start<M>, Refused<M>>
         requires moment { opening.now < 2 ^ 63 }
@@ -175,7 +225,7 @@ impl<M: Module> Core<M> {
         };
         // Nothing fails from here on.
         agenda.insert(counts.inserts, actions);
-        agenda.set_all(opening.now, actions);
+        agenda.set_all(opening.now, counts.settings, actions);
         send_each(&mut outgoing, opening.id, counts.sends, actions);
         let core = Core {
             alloc: opening.alloc,

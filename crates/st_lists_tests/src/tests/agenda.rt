@@ -220,7 +220,7 @@ fn settle(rt: &Host<impl Abort>, agenda: &mut Agenda<u64>, alloc: Global, turn: 
     reserve_for(rt, agenda, inserts, settings);
     agenda.settle(next, turn.postpone, turn.changed);
     agenda.insert(inserts, &mut actions);
-    agenda.set_all(turn.now as u64, &mut actions);
+    agenda.set_all(turn.now as u64, settings, &mut actions);
 }
 
 /// Time passes to a moment, and so many time-outs expire.
@@ -570,7 +570,7 @@ fn begin(rt: &Host<impl Abort>, agenda: &mut Agenda<u64>, alloc: Global) {
     let (inserts, settings) = counted(rt, alloc, &mut actions);
     reserve_for(rt, agenda, inserts, settings);
     agenda.insert(inserts, &mut actions);
-    agenda.set_all(3, &mut actions);
+    agenda.set_all(3, settings, &mut actions);
 }
 
 /// At a start events are inserted and timers set, though no event is handled.

@@ -1,29 +1,15 @@
-use Rattle.std.proofs.Common.{sym, ◌∙◌}
+use Rattle.std.proofs.Common.{◌≡◌, [], append-nil, arith, refl, sym}
+use Rattle.std.proofs.lemmas.List.{nil_from_length}
 use Rattle.st_actions.specs.Plan.{replies_of}
-use Rattle.st_core.proofs.AnsweringLemmas.{none_more, one_taken, one_passed}
 use Rattle.st_core.proofs.answering.answer_each.Goals as goal
-use Rattle.st_core.proofs.answering.answer_each.Goals.{in-Some+then-answer, in-Some+else-answer, in_default}
 
-pub loop-index-preserved : goal.loop-index-preserved
-loop-index-preserved g c =
-    let kept = c.loop-index.invariant in
-    record {
-      answered = elim c.match-take_reply.branch [
-        | in-Some+then-answer w ↦ rw (w.requests-is, w.taken-is)
-            (one_taken c.args.requests.now (replies_of c.args.actions.now) c.args.taken.now.items c.loop-index.requests w.answer.new.self c.loop-index.taken.items _ _ _
-            (replies_of c.loop-index.actions) (replies_of c.take_reply.new.actions) c.take_reply.result w.in-Some.tag w.in-Some.content w.in-Some.is c.take_reply.ensures.taken
-            w.answer.ensures.answered (sym w.answer.ensures.was_open ∙ w.if-answer.true) w.push_reserved.ensures.items w.push_reserved.ensures.capacity kept.answered)
-        | in-Some+else-answer w ↦ rw (w.requests-is, w.taken-is)
-            (one_passed c.args.requests.now (replies_of c.args.actions.now) c.args.taken.now.items c.loop-index.requests w.answer.new.self c.loop-index.taken.items _
-            (replies_of c.loop-index.actions) (replies_of c.take_reply.new.actions) c.take_reply.result w.in-Some.tag w.in-Some.content w.in-Some.is c.take_reply.ensures.taken
-            w.answer.ensures.answered (sym w.answer.ensures.was_open ∙ w.if-answer.false) kept.answered)
-        | in_default w ↦ rw (w.requests-is, w.taken-is)
-            (none_more c.args.requests.now (replies_of c.args.actions.now) c.args.taken.now.items c.loop-index.requests c.loop-index.taken.items _
-            (replies_of c.loop-index.actions) (replies_of c.take_reply.new.actions) c.take_reply.result w.in_default.is c.take_reply.ensures.taken kept.answered)
-      ];
-      none_before = c.take_reply.ensures.none_before;
-      inserts = c.take_reply.ensures.same_inserts ∙ kept.inserts;
-      settings = c.take_reply.ensures.same_settings ∙ kept.settings;
-      sends = c.take_reply.ensures.same_sends ∙ kept.sends;
-      as_many = c.take_reply.ensures.as_many ∙ kept.as_many;
-    }
+-- where there are none, all is as it was
+pub returns-else-count-gt0-clause-answered : goal.returns-else-count-gt0-clause-answered
+returns-else-count-gt0-clause-answered g c =
+    let none : replies_of c.args.actions.now ≡ [] = nil_from_length (replies_of c.args.actions.now) (omega (arith, c.requires.count, c.if-count-gt0.false)) in
+    rw none refl
+
+pub returns-else-count-gt0-clause-taken : goal.returns-else-count-gt0-clause-taken
+returns-else-count-gt0-clause-taken g c =
+    let none : replies_of c.args.actions.now ≡ [] = nil_from_length (replies_of c.args.actions.now) (omega (arith, c.requires.count, c.if-count-gt0.false)) in
+    rw none (sym (append-nil c.args.taken.now.items))

@@ -1,14 +1,12 @@
+use Rattle.std.proofs.Common.{◌≡◌, ◌-◌, [], arith, refl}
+use Rattle.std.proofs.lemmas.List.{nil_from_length}
 use Rattle.st_actions.specs.Plan.{inserts_of}
-use Rattle.st_agenda.proofs.SweepLemmas.{kept_inserted, inserted_is}
+use Rattle.st_agenda.proofs.NothingLemmas.{inserted_nothing}
 use Rattle.st_agenda.proofs.agenda.Agenda.insert.Goals as goal
 
-pub invariant_of-self : goal.invariant_of-self
-invariant_of-self g c =
-    let inside = c.self.inside in
-    kept_inserted inside.pending c.insert.new.self inside.timeouts.listed inside.expiries c.self.invariant (inserts_of c.args.actions.now) c.insert.ensures.inserted c.in_order.ensures
-
-pub returns-clause-inserted : goal.returns-clause-inserted
-returns-clause-inserted g c =
-    let inside = c.self.inside in
-    rw (← c.self.view_is, c.requires.count)
-    (inserted_is inside.pending c.insert.new.self inside.timeouts.listed inside.expiries c.self.invariant (inserts_of c.args.actions.now) c.insert.ensures.inserted inside.timeouts.reserved)
+-- where there are none, all is as it was
+pub returns-else-count-gt0-clause-inserted : goal.returns-else-count-gt0-clause-inserted
+returns-else-count-gt0-clause-inserted g c =
+    let none : inserts_of c.args.actions.now ≡ [] = nil_from_length (inserts_of c.args.actions.now) (omega (arith, c.requires.count, c.if-count-gt0.false)) in
+    let as_many : c.args.self.now.staged - c.args.count ≡ c.args.self.now.staged = omega (arith, c.if-count-gt0.false) in
+    rw (none, as_many, inserted_nothing c.args.self.now.schedule) refl

@@ -5,8 +5,8 @@ use Rattle.st_core.proofs.StateLemmas.{answered_keeps}
 use Rattle.st_core.proofs.engine.Core.stop_at.Goals as goal
 
 -- there is a place for the tag of each reply
-pub answer_each-requires : goal.answer_each-requires
-answer_each-requires g c =
+pub answer_all-requires : goal.answer_all-requires
+answer_all-requires g c =
     let few = replies_within c.args.actions.now in
     let none = ap length c.requires.empty.replied in
     (g.met.M.Module.lawful.actions_fit, omega (arith, few, none, c.len.ensures.length, c.in_ok-reserve_exact.ensures.ok, c.in_ok-reserve_exact.ensures.len, ap length c.in_ok-reserve_exact.ensures.items))
@@ -15,5 +15,5 @@ answer_each-requires g c =
 pub invariant_of-self : goal.invariant_of-self
 invariant_of-self g c =
     let old = c.self.inside in
-    rw (c.answer_each.ensures.answered, c.max-self-inside.ensures)
+    rw (c.answer_all.ensures.answered, c.max-self-inside.ensures)
     (answered_keeps old.id old.agenda.schedule old.requests old.outgoing.outbox old.latest c.args.course.now old.ended (replies_of c.args.actions.now) c.requires.moment c.self.invariant)

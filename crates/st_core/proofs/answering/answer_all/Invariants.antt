@@ -2,7 +2,7 @@ use Rattle.std.proofs.Common.{◌≡◌, [], length, take, vec_capacity}
 use Rattle.st_actions.specs.Plan.{replies_of, inserts_of, sends_of}
 use Rattle.st_actions.specs.Taking.{all_settings_of}
 use Rattle.st_requests.proofs.LoopLemmas.{AnsweredSoFar}
-use Rattle.st_core.proofs.answering.answer_each.Given as goal
+use Rattle.st_core.proofs.answering.answer_all.Given as goal
 
 -- the replies so far are answered, and those that are left are in the list
 abbrev pub invariant-loop-index : goal.invariant-loop-index

@@ -1,0 +1,122 @@
+use Rattle.std.proofs.Common.{◌≡◌, ◌+◌, ◌^◌, false, [], length, refl, ap, sym, ◌∙◌, arith}
+use Rattle.std.specs.List.{range_with_len}
+use Rattle.std.proofs.lemmas.Bool.{leb-true}
+use Rattle.st_actions.proofs.OnceLemmas.{settings_once}
+use Rattle.st_actions.specs.Plan.{inserts_of, settings_of, sends_of}
+use Rattle.st_actions.specs.Taking.{all_settings_of}
+use Rattle.st_agenda.specs.declared.schedule.Schedule.{Schedule}
+use Rattle.st_agenda.specs.Agenda.{Agenda, running_on}
+use Rattle.st_agenda.specs.Timing.{numbers_taken}
+use Rattle.st_outbox.specs.declared.outbox.Outbox.{Outbox}
+use Rattle.st_outbox.proofs.OutboxLemmas.{numbers_sent}
+use Rattle.st_core.specs.Start.{first_state}
+use Rattle.st_core.specs.Transition.{sent_by}
+use Rattle.st_core.proofs.LawfulLemmas.{none_runs}
+use Rattle.st_core.proofs.StartLemmas.{started_refused, started_is}
+use Rattle.st_core.proofs.StateLemmas.{begun_keeps}
+use Rattle.st_core.proofs.TransitionLemmas.{enough_for_all, both_true}
+use Rattle.st_core.proofs.engine.Core.run_with.Goals as goal
+
+-- numbers or memory are wanting
+pub returns-in-Err : goal.returns-in-Err
+returns-in-Err g c =
+    record {
+      start = λ called same_calls same_actions.
+          let machine = first_state c.args.opening.id c.args.state c.args.data c.args.opening.now c.args.opening.first in
+          let next : c.new-agenda.result.schedule.next_number ≡ c.args.opening.first = ap (λ (a : Agenda _). a.schedule.next_number) c.new-agenda.ensures in
+          let idle : running_on false c.new-agenda.result.schedule ≡ [] = ap (λ (a : Agenda _). running_on false a.schedule) c.new-agenda.ensures in
+          let why = rw (next, idle, c.new-outgoing.ensures) at c.in-Err.ensures.refusals in
+          started_refused _ c.args.opening.module machine called c.in-Err.refusal (rw (same_actions, none_runs called.changed c.args.opening.first) why)
+          (rw c.new.ensures refl);
+    }
+
+pub insert-requires : goal.insert-requires
+insert-requires g c =
+    let actions = c.args.actions.now in
+    let next : c.new-agenda.result.schedule.next_number ≡ c.args.opening.first = ap (λ (a : Agenda _). a.schedule.next_number) c.new-agenda.ensures in
+    let idle : running_on false c.new-agenda.result.schedule ≡ [] = ap (λ (a : Agenda _). running_on false a.schedule) c.new-agenda.ensures in
+    let enough = enough_for_all c.args.opening.first (length (inserts_of actions)) (numbers_taken [] (settings_of actions)) (rw (next, idle) at c.in-Ok.ensures.numbers) in
+    let first = ap (λ (s : Schedule _). s.next_number) (c.prepare.ensures.same_schedule ∙ ap (λ (a : Agenda _). a.schedule) c.new-agenda.ensures) in
+    let few = ap length c.prepare.ensures.same_inserts in (
+      g.met.M.Module.lawful.actions_fit,
+      (
+        omega (arith, few, c.in-Ok.ensures.counted.inserts),
+        (omega (arith, few, c.in-Ok.ensures.counted.inserts, c.in-Ok.ensures.staged), omega (arith, few, c.in-Ok.ensures.counted.inserts, first, enough)),
+      ),
+    )
+
+pub set_all-requires : goal.set_all-requires
+set_all-requires g c =
+    let actions = c.args.actions.now in
+    let next : c.new-agenda.result.schedule.next_number ≡ c.args.opening.first = ap (λ (a : Agenda _). a.schedule.next_number) c.new-agenda.ensures in
+    let idle : running_on false c.new-agenda.result.schedule ≡ [] = ap (λ (a : Agenda _). running_on false a.schedule) c.new-agenda.ensures in
+    let enough = enough_for_all c.args.opening.first (length (inserts_of actions)) (numbers_taken [] (settings_of actions)) (rw (next, idle) at c.in-Ok.ensures.numbers) in
+    let settings : all_settings_of c.insert.new.actions ≡ settings_of actions = c.insert.ensures.same_settings ∙ c.in-Ok.ensures.last in
+    let begun = c.prepare.ensures.same_schedule ∙ ap (λ (a : Agenda _). a.schedule) c.new-agenda.ensures in
+    let running : c.insert.new.self.schedule.running ≡ [] = ap (λ (a : Agenda _). a.schedule.running) c.insert.ensures.inserted ∙ ap (λ (s : Schedule _). s.running) begun in
+    let kept = ap (λ (a : Agenda _). a.reserved) c.insert.ensures.inserted in
+    let more = ap (λ (a : Agenda _). a.schedule.next_number) c.insert.ensures.inserted in
+    let first = ap (λ (s : Schedule _). s.next_number) begun in
+    let count = ap length c.prepare.ensures.same_inserts in
+    let settled = ap length c.in-Ok.ensures.last in
+    rw (settings, running) (
+      g.met.M.Module.lawful.actions_fit,
+      (
+        omega (arith, settled, c.in-Ok.ensures.counted.settings),
+        (
+          c.requires.moment,
+          (
+            settings_once actions,
+            (omega (arith, settled, c.in-Ok.ensures.counted.settings, kept, c.in-Ok.ensures.reserved), omega (arith, more, first, count, enough)),
+          ),
+        ),
+      ),
+    )
+
+-- what is sent has its places and its numbers
+pub send_each-requires : goal.send_each-requires
+send_each-requires g c =
+    let actions = c.args.actions.now in
+    let next = ap (λ (o : Outbox _). o.next_number) (c.prepare.ensures.same_outbox ∙ c.new-outgoing.ensures) in
+    let enough = leb-true (1 + length (sends_of actions)) (2 ^ 63) (rw c.new-outgoing.ensures at c.in-Ok.ensures.message_numbers) in
+    let sends = ap length (c.set_all.ensures.same_sends ∙ (c.insert.ensures.same_sends ∙ c.prepare.ensures.same_sends)) in
+    let counted = ap length c.prepare.ensures.same_sends in (
+      g.met.M.Module.lawful.actions_fit,
+      (
+        omega (arith, sends, counted, c.in-Ok.ensures.counted.sends),
+        (omega (arith, counted, c.in-Ok.ensures.counted.sends, c.in-Ok.ensures.places), omega (arith, counted, c.in-Ok.ensures.counted.sends, next, enough)),
+      ),
+    )
+
+-- the machine runs
+pub returns : goal.returns
+returns g c =
+    record {
+      start = λ called same_calls same_actions.
+          let machine = first_state c.args.opening.id c.args.state c.args.data c.args.opening.now c.args.opening.first in
+          let next : c.new-agenda.result.schedule.next_number ≡ c.args.opening.first = ap (λ (a : Agenda _). a.schedule.next_number) c.new-agenda.ensures in
+          let idle : running_on false c.new-agenda.result.schedule ≡ [] = ap (λ (a : Agenda _). running_on false a.schedule) c.new-agenda.ensures in
+          let settings : all_settings_of c.insert.new.actions ≡ settings_of c.args.actions.now = c.insert.ensures.same_settings ∙ c.in-Ok.ensures.last in
+          let numbers = rw (next, idle) at c.in-Ok.ensures.numbers in
+          let messages = rw c.new-outgoing.ensures at c.in-Ok.ensures.message_numbers in
+          let sends : sends_of c.set_all.new.actions ≡ sends_of c.args.actions.now = c.set_all.ensures.same_sends ∙ (c.insert.ensures.same_sends ∙ c.prepare.ensures.same_sends) in
+          let told : c.prepare.new.gathered.sent ≡ sent_by machine called.actions =
+          rw same_actions (c.in-Ok.ensures.sent ∙ (ap (λ (o : Outbox _). range_with_len o.next_number (length (sends_of c.args.actions.now))) c.new-outgoing.ensures
+          ∙ sym (numbers_sent c.args.opening.id 1 (sends_of c.args.actions.now)))) in
+          started_is _ c.args.opening.module machine called (rw (same_actions, none_runs called.changed c.args.opening.first) (both_true numbers messages))
+          (rw (c.send_each.ensures, sends, c.prepare.ensures.same_outbox, c.new-outgoing.ensures, c.set_all.ensures.set, c.insert.ensures.inserted, settings, c.prepare.ensures.same_inserts, c.prepare.ensures.same_schedule, c.new-agenda.ensures, c.new-2.ensures, same_actions) refl)
+          (rw (c.into_report-report.ensures, c.in-Ok.ensures.replied, c.in-Ok.ensures.inserted, c.in-Ok.ensures.set, told, c.prepare.ensures.same_calls, next, same_calls, same_actions) refl);
+    }
+
+-- it can come about
+pub invariant_of-core : goal.invariant_of-core
+invariant_of-core g c =
+    let actions = c.args.actions.now in
+    let next : c.new-agenda.result.schedule.next_number ≡ c.args.opening.first = ap (λ (a : Agenda _). a.schedule.next_number) c.new-agenda.ensures in
+    let idle : running_on false c.new-agenda.result.schedule ≡ [] = ap (λ (a : Agenda _). running_on false a.schedule) c.new-agenda.ensures in
+    let enough = enough_for_all c.args.opening.first (length (inserts_of actions)) (numbers_taken [] (settings_of actions)) (rw (next, idle) at c.in-Ok.ensures.numbers) in
+    let settings : all_settings_of c.insert.new.actions ≡ settings_of actions = c.insert.ensures.same_settings ∙ c.in-Ok.ensures.last in
+    let sends : sends_of c.set_all.new.actions ≡ sends_of actions = c.set_all.ensures.same_sends ∙ (c.insert.ensures.same_sends ∙ c.prepare.ensures.same_sends) in
+    let places = leb-true (1 + length (sends_of actions)) (2 ^ 63) (rw c.new-outgoing.ensures at c.in-Ok.ensures.message_numbers) in
+    rw (c.send_each.ensures, sends, c.prepare.ensures.same_outbox, c.new-outgoing.ensures, c.set_all.ensures.set, c.insert.ensures.inserted, settings, c.prepare.ensures.same_inserts, c.prepare.ensures.same_schedule, c.new-agenda.ensures, c.new-2.ensures)
+    (begun_keeps c.args.opening.id c.args.opening.now c.args.opening.first (inserts_of actions) (settings_of actions) (sends_of actions) c.requires.moment (settings_once actions) enough places)
