@@ -14,6 +14,7 @@ mod done;
 mod engine;
 mod entry;
 mod gathered;
+mod going_on;
 mod laws;
 mod machine_state;
 mod messages;

@@ -1,39 +1,25 @@
 //! One turn: the next event is handled, and the machine changes. The steps stand in the manual's
 //! order; what can fail is done before anything changes.
-ghost use Rattle.std.specs.Prelude.{◌≡◌, [], ◌<◌, ◌^◌, ◌&&◌, ◌||◌, false, None, Some, Bool, Option, if◌then◌else◌, OnErr};
+ghost use Rattle.std.specs.Prelude.{◌≡◌, ◌<◌, ◌^◌, ◌&&◌, ◌||◌, false, None, Some, Bool, Option, if◌then◌else◌, OnErr};
 ghost use Rattle.std.specs.Option.{option_map};
 ghost use Rattle.st_core.specs.declared.answer.Answer.TheVariants as answer;
 ghost use Rattle.st_core.specs.declared.command.Command.TheVariants as command;
 ghost use Rattle.st_core.specs.Callbacks.{Called, callbacks_of, called_with, entered_by, is_entered};
 ghost use Rattle.st_core.specs.Choice.{next_event_of};
-ghost use Rattle.st_core.specs.declared.gathered.Gathered.{Gathered};
 ghost use Rattle.st_core.specs.Gathering.{ComesTo, IsEmpty, TurnsTo};
-ghost use Rattle.st_core.specs.Transition.{with_moment, done_by, unless_refused, went_on, stopped, concluded};
+ghost use Rattle.st_core.specs.Transition.{with_moment, unless_refused, stopped, concluded};
 ghost use Rattle.st_core.specs.Run.{Does};
 
 use crate::added::{add_entered, as_reply_actions};
-use crate::answering::{answer_all, answer_each};
+use crate::answering::answer_all;
 use crate::course::Course;
 use crate::gathered::{Gathered, handle_alone};
 use crate::new_data::{or_old, replace};
-use crate::prepared::prepare;
-use crate::sending::send_each;
 use crate::{Call, Core, Done, Turned};
 use st_events::{Actions, MOMENT_LIMIT, Module, Outcome, Reason, Refusal};
 
 /// What a module's `handle` answers.
 type OutcomeOf<M> = Outcome<<M as Module>::State, <M as Module>::Data, <M as Module>::Content>;
-
-/// How an event ends that is postponed or not.
-fn done_by(postpone: bool) -> Done
-    ensures { result ≡ done_by postpone }
-{
-    if postpone {
-        Done::PutOff
-    } else {
-        Done::Finished
-    }
-}
 
 /// Says whether there is an enter call: at a state change, and where the same state is entered again.
 fn is_entered<M: Module>(module: &M, changed: bool, repeats: bool) -> bool
@@ -210,101 +196,6 @@ impl<M: Module> Core<M> {
             None => self.go_on(course, data, actions, gathered),
             Some(reason) => self.stop_at(course, data, actions, reason, gathered),
         }
-    }
-
-    /// The machine goes on after the next event, with what its callbacks came to.
-    fn go_on(
-        &mut self,
-        course: Course<M::State>,
-        data: Option<M::Data>,
-        actions: &mut Actions<M::Content>,
-        gathered: &mut Gathered<M::State>,
-    ) -> Result<Done, Refusal>
-        requires moment { course.now < 2 ^ 63 }
-        requires number_is { option_map (λ event. event.number) (next_event_of self.old.machine) ≡ Some course.number }
-        requires empty { IsEmpty gathered.old }
-        ensures step { (called : Called M.State M.Data M.Content)
-            → ComesTo course self.old.machine.data gathered.old.calls «data» actions.old called
-            → TurnsTo course.number self.old.machine self.new.machine gathered.new result
-            (unless_refused self.old.machine (went_on (with_moment self.old.machine course.now) course.number called)) }
-        ensures unchanged_module { self.new.module_ ≡ self.old.module_ }
-
-        ensures unchanged { OnErr result (self.new ≡ self.old) }
-    {
-        if actions.is_empty() {
-            self.finish(course, data)
-        } else {
-            self.carry_out(course, data, actions, gathered)
-        }
-    }
-
-    /// The same, where nothing is asked for.
-    fn finish(&mut self, course: Course<M::State>, data: Option<M::Data>) -> Result<Done, Refusal>
-        requires moment { course.now < 2 ^ 63 }
-        requires number_is { option_map (λ event. event.number) (next_event_of self.old.machine) ≡ Some course.number }
-        ensures step { (gathered : Gathered M.State) → IsEmpty gathered → (called : Called M.State M.Data M.Content)
-            → ComesTo course self.old.machine.data gathered.calls «data» [] called
-            → TurnsTo course.number self.old.machine self.new.machine gathered result
-            (unless_refused self.old.machine (went_on (with_moment self.old.machine course.now) course.number called)) }
-        ensures unchanged_module { self.new.module_ ≡ self.old.module_ }
-
-        ensures unchanged { OnErr result (self.new ≡ self.old) }
-    {
-        self.agenda.stage(1)?;
-        // Nothing fails from here on.
-        self.latest = self.latest.max(course.now);
-        self.state = course.after;
-        replace(&mut self.data, data);
-        self.agenda.settle(course.number, false, course.changed);
-        Ok(Done::Finished)
-    }
-
-    /// The same, where something may be asked for.
-    fn carry_out(
-        &mut self,
-        course: Course<M::State>,
-        data: Option<M::Data>,
-        actions: &mut Actions<M::Content>,
-        gathered: &mut Gathered<M::State>,
-    ) -> Result<Done, Refusal>
-        requires moment { course.now < 2 ^ 63 }
-        requires number_is { option_map (λ event. event.number) (next_event_of self.old.machine) ≡ Some course.number }
-        requires empty { IsEmpty gathered.old }
-        ensures step { (called : Called M.State M.Data M.Content)
-            → ComesTo course self.old.machine.data gathered.old.calls «data» actions.old called
-            → TurnsTo course.number self.old.machine self.new.machine gathered.new result
-            (unless_refused self.old.machine (went_on (with_moment self.old.machine course.now) course.number called)) }
-        ensures unchanged_module { self.new.module_ ≡ self.old.module_ }
-
-        ensures unchanged { OnErr result (self.new ≡ self.old) }
-    {
-        let counts = match prepare(
-            self.alloc,
-            &mut self.agenda,
-            &mut self.outgoing,
-            course.changed,
-            actions,
-            gathered,
-        ) {
-            Ok(counts) => counts,
-            Err(refusal) => return Err(refusal),
-        };
-        // Nothing fails from here on.
-        self.latest = self.latest.max(course.now);
-        self.state = course.after;
-        replace(&mut self.data, data);
-        answer_each(
-            &mut self.requests,
-            counts.replies,
-            actions,
-            &mut gathered.replied,
-        );
-        let postpone = counts.postpone.unwrap_or(false);
-        self.agenda.settle(course.number, postpone, course.changed);
-        self.agenda.insert(counts.inserts, actions);
-        self.agenda.set_all(self.latest, counts.settings, actions);
-        send_each(&mut self.outgoing, self.id, counts.sends, actions);
-        Ok(done_by(postpone))
     }
 
     /// The machine stops for a reason at the next event, with what its callbacks came to.

@@ -61,8 +61,7 @@ returns-in-Err-clause-step g c called comes =
 pub answer_each-requires : goal.answer_each-requires
 answer_each-requires g c =
     let none = ap length c.in-Ok.ensures.replied in
-    let same = ap length c.prepare.ensures.same_replies in
-    (
+    let same = ap length c.prepare.ensures.same_replies in (
       g.met.M.Module.lawful.actions_fit,
       (omega (arith, same, c.in-Ok.ensures.counted.replies), omega (arith, none, same, c.in-Ok.ensures.counted.replies, c.in-Ok.ensures.replies)),
     )
