@@ -1,6 +1,7 @@
 -- What a call answers and leaves, by what the machine was told and by the entry that was written.
 use Rattle.std.proofs.Common.{◌≡◌, ℕ, inl, inr, Bool, true, false, if◌then◌else◌, Option, Some, None, List, [], ◌∷◌, ◌++◌, refl, sym, ap, subst, ◌∙◌, ◌&&◌, length, arith, append-nil}
 use Rattle.std.specs.Prelude.{is_some, is_none, is_err, Result, Ok, Err, OnOk, IfErr}
+use Rattle.st_events.specs.declared.message.Message.{Message}
 use Rattle.st_events.specs.declared.refusal.Refusal.{Refusal}
 use Rattle.st_events.specs.declared.refusal.Refusal.TheVariants.{NoMemory}
 use Rattle.st_events.specs.declared.refused.Refused.{Refused}
@@ -10,7 +11,6 @@ use Rattle.st_core.specs.declared.report.Report.{Report}
 use Rattle.st_core.specs.declared.turned.Turned.TheVariants.{Reported}
 use Rattle.st_core.specs.declared.command.Command.{Command}
 use Rattle.st_core.specs.declared.command.Command.TheVariants as command
-use Rattle.st_core.specs.declared.entry.Entry.{Entry}
 use Rattle.st_core.specs.Callbacks.{Callbacks}
 use Rattle.st_core.specs.Choice.{next_event_of}
 use Rattle.st_core.specs.MachineState.{Machine}
@@ -24,72 +24,45 @@ use Rattle.st_scheduled.proofs.CountLemmas.{takes_counted, turn_counted}
 use Rattle.st_cell.specs.declared.journal_entry.JournalEntry.{JournalEntry}
 use Rattle.st_cell.specs.declared.next.Next.{Next}
 use Rattle.st_cell.specs.declared.next.Next.TheVariants.{Again, Rest}
+use Rattle.st_cell.specs.declared.source.Source.{Source}
+use Rattle.st_cell.specs.declared.source.Source.TheVariants as source
 use Rattle.st_cell.specs.Cell.{CellState, JournaledState, HasRoom}
-use Rattle.st_cell.specs.Calls.{kept_answer, entry_of, call_takes_memory, with_entry, counted_at, told_by, done_as, next_as, MeetsCall, Posts, IsServed, TurnsBy, Turns}
+use Rattle.st_cell.specs.Calls.{kept_answer, entry_of, call_takes_memory, with_entry, done_as, next_as, given_as, MeetsCall, IsTold, IsServed, TurnsBy, Turns, TakesOutBy, TakesOut}
 
 -- a call that found no memory has no entry
-no_entry_for : {S C : Type 0} (entries : List (JournalEntry S C)) (number : ℕ) (port : Option ℕ) (command : Command C) (answer : StepAnswer S C)
-    → answer ≡ refused_with NoMemory (content_of command) → entries ++ entry_of number port command (kept_answer answer) ≡ entries
-no_entry_for entries number port command answer is =
-    ap (λ said. entries ++ entry_of number port command (kept_answer said)) is ∙ append-nil entries
+no_entry_for : {S C : Type 0} (entries : List (JournalEntry S C)) (number : ℕ) (source : Source) (command : Command C) (answer : StepAnswer S C)
+    → answer ≡ refused_with NoMemory (content_of command) → entries ++ entry_of number source command (kept_answer answer) ≡ entries
+no_entry_for entries number source command answer is =
+    ap (λ said. entries ++ entry_of number source command (kept_answer said)) is ∙ append-nil entries
 
 -- what is not counted has no entry
-unkept : {S C : Type 0} (number : ℕ) (port : Option ℕ) (command : Command C) (answer : StepAnswer S C) → is_counted answer ≡ false
-    → entry_of number port command (kept_answer answer) ≡ []
-unkept number port command answer counted = rw counted refl
+unkept : {S C : Type 0} (number : ℕ) (source : Source) (command : Command C) (answer : StepAnswer S C) → is_counted answer ≡ false
+    → entry_of number source command (kept_answer answer) ≡ []
+unkept number source command answer counted = rw counted refl
 
 module _ {M S D C : Type 0} where
   -- the machine was told a command, or found no memory, and what was written is the entry of its answer
-  meets_with : (cell : CellState M S D C) (port : Option ℕ) (command : Command C) (takes : StepAnswer S C → Bool) (definition : StepAnswer S C × ScheduledMachine M S D C)
+  meets_with : (cell : CellState M S D C) (source : Source) (command : Command C) (takes : StepAnswer S C → Bool) (definition : StepAnswer S C × ScheduledMachine M S D C)
       (answer : StepAnswer S C) (new : ScheduledMachine M S D C) (journal : List (JournalEntry S C))
       → Meets takes (refused_with NoMemory (content_of command)) answer cell.scheduled new definition
       → (takes definition.0 ≡ true → call_takes_memory command definition.0 ≡ true)
-      → journal ≡ cell.journal ++ entry_of new.count port command (kept_answer answer)
-      → MeetsCall command answer cell (record cell { scheduled = new; journal = journal }) (with_entry cell port command definition)
-  meets_with cell port command takes definition answer new journal (inl done) wants written =
+      → journal ≡ cell.journal ++ entry_of new.count source command (kept_answer answer)
+      → MeetsCall command answer cell (record cell { scheduled = new; journal = journal }) (with_entry cell source command definition)
+  meets_with cell source command takes definition answer new journal (inl done) wants written =
       inl (done.0, rw (written, done.0, done.1) refl)
-  meets_with cell port command takes definition answer new journal (inr none) wants written =
-      let same : journal ≡ cell.journal = written ∙ no_entry_for cell.journal new.count port command answer none.1 in
+  meets_with cell source command takes definition answer new journal (inr none) wants written =
+      let same : journal ≡ cell.journal = written ∙ no_entry_for cell.journal new.count source command answer none.1 in
       inr (wants none.0, none.1, rw (none.2, same) refl)
 
   module _ (callbacks : M → Callbacks S D C) where
-    -- a command that is no turn
-    pub meets_told : (cell : CellState M S D C) (port : Option ℕ) (command : Command C) (answer : StepAnswer S C) (new : ScheduledMachine M S D C)
-        (journal : List (JournalEntry S C)) → (takes_memory_as (is_turn command) false (told_on callbacks cell.scheduled command).0 ≡ true
-        → call_takes_memory command (told_on callbacks cell.scheduled command).0 ≡ true)
-        → Tells callbacks cell.scheduled command answer new
-        → journal ≡ cell.journal ++ entry_of new.count port command (kept_answer answer)
-        → MeetsCall command answer cell (record cell { scheduled = new; journal = journal }) (told_by callbacks cell port command)
-    meets_told cell port command answer new journal wants tells written =
-        meets_with cell port command (takes_memory_as (is_turn command) false) (told_on callbacks cell.scheduled command) answer new journal tells wants written
-
     -- a turn
     pub meets_served : (cell : CellState M S D C) (now : ℕ) (answer : StepAnswer S C) (new : ScheduledMachine M S D C) (journal : List (JournalEntry S C))
         → Serves callbacks cell.scheduled now answer new
-        → journal ≡ cell.journal ++ entry_of new.count None (command.Turn now) (kept_answer answer)
+        → journal ≡ cell.journal ++ entry_of new.count source.Caller (command.Turn now) (kept_answer answer)
         → IsServed callbacks cell now answer (record cell { scheduled = new; journal = journal })
     meets_served cell now answer new journal serves written =
-        meets_with cell None (command.Turn now) (takes_memory_as true false) (served_on callbacks cell.scheduled now) answer new journal serves
+        meets_with cell source.Caller (command.Turn now) (takes_memory_as true false) (served_on callbacks cell.scheduled now) answer new journal serves
         (turn_counted (served_on callbacks cell.scheduled now).0) written
-
-    -- a post, whose port has one more where it was taken
-    pub meets_post : (cell : CellState M S D C) (port : ℕ) (entry : Entry) (content : C) (answer : StepAnswer S C) (new : ScheduledMachine M S D C)
-        (journal : List (JournalEntry S C)) (ports : List ℕ) → Tells callbacks cell.scheduled (command.Post entry content) answer new
-        → journal ≡ cell.journal ++ entry_of new.count (Some port) (command.Post entry content) (kept_answer answer)
-        → ports ≡ counted_at port (is_counted answer) cell.ports
-        → Posts callbacks cell port entry content answer (record cell { scheduled = new; journal = journal; ports = ports })
-    meets_post cell port entry content answer new journal ports (inl done) written counted =
-        inl (done.0, rw (written, counted, done.0, done.1) refl)
-    meets_post cell port entry content answer new journal ports (inr none) written counted =
-        let same : journal ≡ cell.journal = written ∙ no_entry_for cell.journal new.count (Some port) (command.Post entry content) answer none.1 in
-        let stay : ports ≡ cell.ports = counted ∙ ap (λ (said : StepAnswer S C). counted_at port (is_counted said) cell.ports) none.1 in
-        inr (takes_counted (told_on callbacks cell.scheduled (command.Post entry content)).0 none.0, none.1, rw (none.2, same, stay) refl)
-
--- a call that found no memory changed nothing
-pub meets_nothing : {M S D C : Type 0} (command : Command C) (cell new : CellState M S D C) (definition : StepAnswer S C × CellState M S D C)
-    → call_takes_memory command definition.0 ≡ true → new ≡ cell
-    → MeetsCall command (refused_with NoMemory (content_of command)) cell new definition
-meets_nothing command cell new definition takes same = inr (takes, refl, same)
 
 module _ {S C : Type 0} where
   -- what is done answers what becomes of the token, and what is refused the token
@@ -147,21 +120,31 @@ module _ {M S D C : Type 0} (callbacks : M → Callbacks S D C) where
       turns_own (is_token_of token old.scheduled) old new token now (Err (record { refusal = refusal; value = token })) own answer served
       (sym (next_refused token answer (is_some new.scheduled.token) refusal done))
 
+  -- a take-out by the machine's token
+  takes_own : (own : Bool) (old new : CellState M S D C) (token : Token) (result : Result (Option (Message C)) (Refused Token)) → own ≡ true
+      → IsTold callbacks old command.TakeOut (given_as result) new → TakesOutBy callbacks own old token result new
+  takes_own true old new token result own told = told
+  takes_own false old new token result own told = let same : false ≡ true = own in cc
+
+  pub takes_done : (old new : CellState M S D C) (token : Token) (result : Result (Option (Message C)) (Refused Token)) → is_token_of token old.scheduled ≡ true
+      → IsTold callbacks old command.TakeOut (given_as result) new → TakesOut callbacks old token result new
+  takes_done old new token result own told = takes_own (is_token_of token old.scheduled) old new token result own told
+
   -- the machine was served, and nothing was written, for what it answered was not counted
   pub served_unwritten : (old new : CellState M S D C) (now : ℕ) (answer : StepAnswer S C) → Serves callbacks old.scheduled now answer new.scheduled
       → is_counted answer ≡ false → new ≡ record old { scheduled = new.scheduled } → IsServed callbacks old now answer new
   served_unwritten old new now answer serves counted rest =
       subst (λ (cell : CellState M S D C). IsServed callbacks old now answer cell) (sym rest)
       (meets_served callbacks old now answer new.scheduled old.journal serves
-      (sym (ap (λ more. old.journal ++ more) (unkept new.scheduled.count None (command.Turn now) answer counted) ∙ append-nil old.journal)))
+      (sym (ap (λ more. old.journal ++ more) (unkept new.scheduled.count source.Caller (command.Turn now) answer counted) ∙ append-nil old.journal)))
 
   -- the machine was served, and its turn was written
   pub served_written : (old new between : CellState M S D C) (now : ℕ) (report : Report S) → Serves callbacks old.scheduled now (step.Turned report) between.scheduled
       → between ≡ record old { scheduled = between.scheduled }
-      → new ≡ record between { journal = between.journal ++ record { number = between.scheduled.count; port = None; command = command.Turn now; answer = answer.Turn (Ok (Reported report)) } ∷ [] }
+      → new ≡ record between { journal = between.journal ++ record { number = between.scheduled.count; source = source.Caller; command = command.Turn now; answer = answer.Turn (Ok (Reported report)) } ∷ [] }
       → IsServed callbacks old now (step.Turned report) new
   served_written old new between now report serves rest written =
-      let entry : JournalEntry S C = record { number = between.scheduled.count; port = None; command = command.Turn now; answer = answer.Turn (Ok (Reported report)) } in
+      let entry : JournalEntry S C = record { number = between.scheduled.count; source = source.Caller; command = command.Turn now; answer = answer.Turn (Ok (Reported report)) } in
       let journal : between.journal ≡ old.journal = ap (λ (cell : CellState M S D C). cell.journal) rest in
       let after : new ≡ record old { scheduled = between.scheduled; journal = old.journal ++ entry ∷ [] } =
       written ∙ (ap (λ (entries : List (JournalEntry S C)). record between { journal = entries ++ entry ∷ [] }) journal

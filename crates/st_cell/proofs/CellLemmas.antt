@@ -5,12 +5,14 @@ use Rattle.std.specs.Prelude.{Result, Ok, Err, OnOk, OnErr, slice_index, is_some
 use Rattle.std.proofs.lemmas.Bool.{and_parts}
 use Rattle.std.proofs.lemmas.List.{length-append, map-append, length-set, get_or-set_same, get_or-set_other, get_or_append_left}
 use Rattle.std.proofs.Math.Seq.{get_or-append_seam}
+use Rattle.st_events.specs.declared.message.Message.{Message}
 use Rattle.st_events.specs.declared.refused.Refused.{Refused}
 use Rattle.st_events.specs.declared.token.Token.{Token}
 use Rattle.st_core.specs.declared.answer.Answer.{Answer}
 use Rattle.st_core.specs.declared.command.Command.{Command}
 use Rattle.st_core.specs.declared.command.Command.TheVariants as command
 use Rattle.st_core.specs.declared.entry.Entry.{Entry}
+use Rattle.st_core.specs.declared.entry.Entry.TheVariants.{Info}
 use Rattle.st_core.specs.declared.machine_state.MachineState.{MachineState}
 use Rattle.st_core.specs.Accounting.{IsAccounted}
 use Rattle.st_core.specs.Callbacks.{Callbacks}
@@ -32,9 +34,11 @@ use Rattle.st_scheduled.proofs.ServedMachines.{told_follows, served_serves, firs
 use Rattle.st_scheduled.proofs.ToldLemmas.{only_turns, refused_told, refused_served}
 use Rattle.st_cell.specs.declared.journal_entry.JournalEntry.{JournalEntry}
 use Rattle.st_cell.specs.declared.next.Next.{Next}
-use Rattle.st_cell.specs.Calls.{kept_answer, entry_of, with_entry, counted_at, told_by, post_by, served_at, next_as, MeetsCall, Posts, IsTold, TurnsBy, Turns, opened, cut}
+use Rattle.st_cell.specs.declared.source.Source.{Source}
+use Rattle.st_cell.specs.declared.source.Source.TheVariants as source
+use Rattle.st_cell.specs.Calls.{kept_answer, entry_of, with_entry, counted_at, told_by, post_by, served_at, next_as, given_as, delivered_as, MeetsCall, Posts, IsToldBy, IsTold, TurnsBy, Turns, TakesOutBy, TakesOut, Delivers, opened, cut}
 use Rattle.st_cell.specs.Cell.{CellState, cell_at_first, IsOpen, count_for, AreCounted, IsJournaled}
-use Rattle.st_cell.specs.Journal.{commands_of, answers_of, AreNumbered, IsReplay, posts_of}
+use Rattle.st_cell.specs.Journal.{is_port, commands_of, answers_of, AreNumbered, IsReplay, posts_of}
 use Rattle.st_cell.proofs.JournalLemmas.{numbered_more, one_more, none_more}
 
 -- what is so of either of two is so of what is the one at success and the other at a refusal
@@ -73,21 +77,21 @@ token_there wake (Some outstanding) h = (outstanding, refl)
 module _ {S C : Type 0} where
   -- ---- one entry more
   -- a command that was counted has an entry
-  entry_counted : (number : ℕ) (port : Option ℕ) (command : Command C) (said : StepAnswer S C) (answer : Answer S C) → is_counted said ≡ true
-      → answered_by said ≡ Some answer → entry_of number port command (kept_answer said) ≡ record { number = number; port = port; command = command; answer = answer } ∷ []
-  entry_counted number port command said answer counted is = rw (counted, is) refl
+  entry_counted : (number : ℕ) (source : Source) (command : Command C) (said : StepAnswer S C) (answer : Answer S C) → is_counted said ≡ true
+      → answered_by said ≡ Some answer → entry_of number source command (kept_answer said) ≡ record { number = number; source = source; command = command; answer = answer } ∷ []
+  entry_counted number source command said answer counted is = rw (counted, is) refl
 
   -- one that was not has none
-  no_entry : (number : ℕ) (port : Option ℕ) (command : Command C) (said : StepAnswer S C) → is_counted said ≡ false
-      → entry_of number port command (kept_answer said) ≡ []
-  no_entry number port command said counted = rw counted refl
+  no_entry : (number : ℕ) (source : Source) (command : Command C) (said : StepAnswer S C) → is_counted said ≡ false
+      → entry_of number source command (kept_answer said) ≡ []
+  no_entry number source command said counted = rw counted refl
 
-  -- an entry of no port posts nothing
-  pub none_by : (port number : ℕ) (entries : List (JournalEntry S C)) (command : Command C) (kept : Option (Answer S C))
-      → posts_of port (entries ++ entry_of number None command kept) ≡ posts_of port entries
-  none_by port number entries command None = ap (posts_of port) (append-nil entries)
-  none_by port number entries command (Some answer) =
-      none_more port entries (record { number = number; port = None; command = command; answer = answer }) refl
+  -- an entry that came through no port posts nothing of a port
+  pub none_by : (port number : ℕ) (source : Source) (entries : List (JournalEntry S C)) (command : Command C) (kept : Option (Answer S C))
+      → is_port port source ≡ false → posts_of port (entries ++ entry_of number source command kept) ≡ posts_of port entries
+  none_by port number source entries command None other = ap (posts_of port) (append-nil entries)
+  none_by port number source entries command (Some answer) other =
+      none_more port entries (record { number = number; source = source; command = command; answer = answer }) other
 
 module _ {M S D C : Type 0} where
   -- the count stays or goes up
@@ -97,12 +101,13 @@ module _ {M S D C : Type 0} where
   count_up old step told (inr none) = let is = none.2 in omega (arith, is)
 
   -- ---- posts are counted
-  -- a command of no port
-  pub plain_counted : (cell : CellState M S D C) (step : Answer S C × Machine M S D C) (command : Command C) (told : StepAnswer S C × ScheduledMachine M S D C)
-      → AreCounted cell → IsCountedOf cell.scheduled step told → AreCounted (with_entry cell None command told).1
-  plain_counted cell step command told counted is = record {
-    fewer = λ port is_open. rw (none_by port told.1.count cell.journal command (kept_answer told.0)) (counted.fewer port is_open);
-    others = λ port past. none_by port told.1.count cell.journal command (kept_answer told.0) ∙ counted.others port past;
+  -- a command that came through no port
+  pub plain_counted : (cell : CellState M S D C) (source : Source) (step : Answer S C × Machine M S D C) (command : Command C)
+      (told : StepAnswer S C × ScheduledMachine M S D C) → ((port : ℕ) → is_port port source ≡ false)
+      → AreCounted cell → IsCountedOf cell.scheduled step told → AreCounted (with_entry cell source command told).1
+  plain_counted cell source step command told no_port counted is = record {
+    fewer = λ port is_open. rw (none_by port told.1.count source cell.journal command (kept_answer told.0) (no_port port)) (counted.fewer port is_open);
+    others = λ port past. none_by port told.1.count source cell.journal command (kept_answer told.0) (no_port port) ∙ counted.others port past;
     bounded = λ port is_open. let least = counted.bounded port is_open in let up = count_up cell.scheduled step told is in omega (arith, least, up);
   }
 
@@ -120,16 +125,16 @@ module _ {M S D C : Type 0} where
 
   posts_at : (test : Bool) (cell : CellState M S D C) (port other number : ℕ) (command : Command C) (answer : Answer S C) → (other == port) ≡ test → IsOpen port cell
       → IsOpen other cell → AreCounted cell
-      → length (posts_of other (cell.journal ++ record { number = number; port = Some port; command = command; answer = answer } ∷ []))
+      → length (posts_of other (cell.journal ++ record { number = number; source = source.Port port; command = command; answer = answer } ∷ []))
       ≤ (if test then count_for port cell + 1 else count_for other cell)
   posts_at true cell port other number command answer same is_open other_open counted =
       let is : other ≡ port = grind arith in
-      let entry : JournalEntry S C = record { number = number; port = Some port; command = command; answer = answer } in
+      let entry : JournalEntry S C = record { number = number; source = source.Port port; command = command; answer = answer } in
       let more : length (posts_of other (cell.journal ++ entry ∷ [])) ≤ length (posts_of other cell.journal) + 1 = one_more other cell.journal entry in
       let few : length (posts_of other cell.journal) ≤ count_for port cell = subst (λ (n : ℕ). length (posts_of other cell.journal) ≤ count_for n cell) is (counted.fewer other other_open) in
       omega (arith, more, few)
   posts_at false cell port other number command answer same is_open other_open counted =
-      rw (none_more other cell.journal (record { number = number; port = Some port; command = command; answer = answer }) same) (counted.fewer other other_open)
+      rw (none_more other cell.journal (record { number = number; source = source.Port port; command = command; answer = answer }) same) (counted.fewer other other_open)
 
   bound_at : (test : Bool) (cell : CellState M S D C) (port other : ℕ) → IsOpen port cell → IsOpen other cell → AreCounted cell
       → (if test then count_for port cell + 1 else count_for other cell) ≤ cell.scheduled.count + 1
@@ -140,12 +145,12 @@ module _ {M S D C : Type 0} where
   post_counted : (cell : CellState M S D C) (port number : ℕ) (command : Command C) (answer : Answer S C) (new : ScheduledMachine M S D C) → IsOpen port cell
       → AreCounted cell → new.count ≡ cell.scheduled.count + 1 → AreCounted (record cell {
         scheduled = new;
-        journal = cell.journal ++ record { number = number; port = Some port; command = command; answer = answer } ∷ [];
+        journal = cell.journal ++ record { number = number; source = source.Port port; command = command; answer = answer } ∷ [];
         ports = counted_at port true cell.ports;
       })
   post_counted cell port number command answer new is_open counted up =
       let same : length (counted_at port true cell.ports) ≡ length cell.ports = length-set cell.ports (port - 1) (count_for port cell + 1) in
-      let entry : JournalEntry S C = record { number = number; port = Some port; command = command; answer = answer } in
+      let entry : JournalEntry S C = record { number = number; source = source.Port port; command = command; answer = answer } in
       record {
         fewer = λ other other_open.
             let was : IsOpen other cell = (other_open.0, subst (λ n. other ≤ n) same other_open.1) in
@@ -219,14 +224,14 @@ module _ {M S D C : Type 0} where
 
     -- ---- a command more
     -- after a command, counted or not, the machine is the replay of the journal still, and the entries are numbered
-    kept_by : (cell : CellState M S D C) (port : Option ℕ) (command : Command C) (told : StepAnswer S C × ScheduledMachine M S D C) (ports : List ℕ)
+    kept_by : (cell : CellState M S D C) (source : Source) (command : Command C) (told : StepAnswer S C × ScheduledMachine M S D C) (ports : List ℕ)
         → IsJournaled callbacks cell → IsCountedOf cell.scheduled (step_on callbacks cell.scheduled.core command) told → HasTokenForWork told.1
-        → told.1.count < 2 ^ 63 → AreCounted (record (with_entry cell port command told).1 { ports = ports })
-        → IsJournaled callbacks (record (with_entry cell port command told).1 { ports = ports })
-    kept_by cell port command told ports is (inl counted) for_work limit posts =
-        let entry : JournalEntry S C = record { number = told.1.count; port = port; command = command; answer = (step_on callbacks cell.scheduled.core command).0 } in
-        let one : entry_of told.1.count port command (kept_answer told.0) ≡ entry ∷ [] =
-        entry_counted told.1.count port command told.0 (step_on callbacks cell.scheduled.core command).0 counted.0 counted.1 in
+        → told.1.count < 2 ^ 63 → AreCounted (record (with_entry cell source command told).1 { ports = ports })
+        → IsJournaled callbacks (record (with_entry cell source command told).1 { ports = ports })
+    kept_by cell source command told ports is (inl counted) for_work limit posts =
+        let entry : JournalEntry S C = record { number = told.1.count; source = source; command = command; answer = (step_on callbacks cell.scheduled.core command).0 } in
+        let one : entry_of told.1.count source command (kept_answer told.0) ≡ entry ∷ [] =
+        entry_counted told.1.count source command told.0 (step_on callbacks cell.scheduled.core command).0 counted.0 counted.1 in
         let enough = is.enough in
         let longer : length (cell.journal ++ entry ∷ []) ≡ length cell.journal + 1 = length-append cell.journal (entry ∷ []) in
         let before : told.1.count - length (cell.journal ++ entry ∷ []) ≡ cell.scheduled.count - length cell.journal =
@@ -240,9 +245,9 @@ module _ {M S D C : Type 0} where
           for_work = for_work;
           counted = posts;
         }
-    kept_by cell port command told ports is (inr none) for_work limit posts =
-        let same : cell.journal ++ entry_of told.1.count port command (kept_answer told.0) ≡ cell.journal =
-        ap (λ more. cell.journal ++ more) (no_entry told.1.count port command told.0 none.0) ∙ append-nil cell.journal in
+    kept_by cell source command told ports is (inr none) for_work limit posts =
+        let same : cell.journal ++ entry_of told.1.count source command (kept_answer told.0) ≡ cell.journal =
+        ap (λ more. cell.journal ++ more) (no_entry told.1.count source command told.0 none.0) ∙ append-nil cell.journal in
         record {
           lawful = is.lawful;
           replayed = rw (same, none.1) is.replayed;
@@ -253,15 +258,15 @@ module _ {M S D C : Type 0} where
           counted = posts;
         }
 
-    -- a command of no port that is no turn
-    pub told_kept : (cell : CellState M S D C) (command : Command C) → is_turn command ≡ false → IsJournaled callbacks cell
-        → IsJournaled callbacks (told_by callbacks cell None command).1
-    told_kept cell command no_turn is =
+    -- a command that came through no port and is no turn
+    pub told_kept : (cell : CellState M S D C) (source : Source) (command : Command C) → ((port : ℕ) → is_port port source ≡ false) → is_turn command ≡ false
+        → IsJournaled callbacks cell → IsJournaled callbacks (told_by callbacks cell source command).1
+    told_kept cell source command no_port no_turn is =
         let told = told_on callbacks cell.scheduled command in
         let went = told_counted callbacks cell.scheduled command (replay_lawful cell is).one_each (only_turns callbacks cell.scheduled.core command no_turn) in
-        kept_by cell None command told cell.ports is went (told_follows cell.scheduled is.for_work callbacks command no_turn).for_work
+        kept_by cell source command told cell.ports is went (told_follows cell.scheduled is.for_work callbacks command no_turn).for_work
         (told_limit callbacks cell.scheduled command is.limited)
-        (plain_counted cell (step_on callbacks cell.scheduled.core command) command told is.counted went)
+        (plain_counted cell source (step_on callbacks cell.scheduled.core command) command told no_port is.counted went)
 
     -- a turn by the machine's token
     pub served_kept : (cell : CellState M S D C) (token : Token) (now : ℕ) → is_token_of token cell.scheduled ≡ true → IsJournaled callbacks cell
@@ -270,20 +275,20 @@ module _ {M S D C : Type 0} where
         let told = served_on callbacks cell.scheduled now in
         let went = served_counted callbacks cell.scheduled now (replay_lawful cell is).one_each in
         let has = token_there token.wake cell.scheduled.token (and_parts (same_id token.machine (id_of cell.scheduled)) (has_wake token.wake cell.scheduled.token) own).1 in
-        kept_by cell None (command.Turn now) told cell.ports is went (served_serves cell.scheduled is.for_work has.0 has.1 callbacks now).for_work
+        kept_by cell source.Caller (command.Turn now) told cell.ports is went (served_serves cell.scheduled is.for_work has.0 has.1 callbacks now).for_work
         (served_limit callbacks cell.scheduled now is.limited)
-        (plain_counted cell (step_on callbacks cell.scheduled.core (command.Turn now)) (command.Turn now) told is.counted went)
+        (plain_counted cell source.Caller (step_on callbacks cell.scheduled.core (command.Turn now)) (command.Turn now) told (λ port. refl) is.counted went)
 
     -- the posts are counted where a post was counted, or was not
     post_counts : (cell : CellState M S D C) (port : ℕ) (entry : Entry) (content : C) (told : StepAnswer S C × ScheduledMachine M S D C) → IsOpen port cell
         → AreCounted cell → IsCountedOf cell.scheduled (step_on callbacks cell.scheduled.core (command.Post entry content)) told
-        → AreCounted (record (with_entry cell (Some port) (command.Post entry content) told).1 { ports = counted_at port (is_counted told.0) cell.ports })
+        → AreCounted (record (with_entry cell (source.Port port) (command.Post entry content) told).1 { ports = counted_at port (is_counted told.0) cell.ports })
     post_counts cell port entry content told is_open counted (inl went) =
-        rw (entry_counted told.1.count (Some port) (command.Post entry content) told.0 (step_on callbacks cell.scheduled.core (command.Post entry content)).0 went.0 went.1, went.0)
+        rw (entry_counted told.1.count (source.Port port) (command.Post entry content) told.0 (step_on callbacks cell.scheduled.core (command.Post entry content)).0 went.0 went.1, went.0)
         (post_counted cell port told.1.count (command.Post entry content) (step_on callbacks cell.scheduled.core (command.Post entry content)).0 told.1 is_open counted went.3)
     post_counts cell port entry content told is_open counted (inr none) =
-        let same : cell.journal ++ entry_of told.1.count (Some port) (command.Post entry content) (kept_answer told.0) ≡ cell.journal =
-        ap (λ more. cell.journal ++ more) (no_entry told.1.count (Some port) (command.Post entry content) told.0 none.0) ∙ append-nil cell.journal in
+        let same : cell.journal ++ entry_of told.1.count (source.Port port) (command.Post entry content) (kept_answer told.0) ≡ cell.journal =
+        ap (λ more. cell.journal ++ more) (no_entry told.1.count (source.Port port) (command.Post entry content) told.0 none.0) ∙ append-nil cell.journal in
         record {
           fewer = λ other was. rw (same, none.0) (counted.fewer other (rw none.0 at was));
           others = λ other past. rw same (counted.others other (rw none.0 at past));
@@ -297,7 +302,7 @@ module _ {M S D C : Type 0} where
         let told = told_on callbacks cell.scheduled (command.Post entry content) in
         let went = told_counted callbacks cell.scheduled (command.Post entry content) (replay_lawful cell is).one_each
         (only_turns callbacks cell.scheduled.core (command.Post entry content) refl) in
-        kept_by cell (Some port) (command.Post entry content) told (counted_at port (is_counted told.0) cell.ports) is went
+        kept_by cell (source.Port port) (command.Post entry content) told (counted_at port (is_counted told.0) cell.ports) is went
         (told_follows cell.scheduled is.for_work callbacks (command.Post entry content) refl).for_work
         (told_limit callbacks cell.scheduled (command.Post entry content) is.limited)
         (post_counts cell port entry content told is_open is.counted went)
@@ -315,11 +320,32 @@ module _ {M S D C : Type 0} where
     posts_kept old new port entry content answer is_open done is =
         met_kept (command.Post entry content) answer old new (post_by callbacks old port entry content) done is (post_kept old port entry content is_open is)
 
+    -- a command that came through no port and is no turn
+    told_by_kept : (old new : CellState M S D C) (source : Source) (command : Command C) (answer : StepAnswer S C) → ((port : ℕ) → is_port port source ≡ false)
+        → is_turn command ≡ false → IsToldBy callbacks old source command answer new → IsJournaled callbacks old → IsJournaled callbacks new
+    told_by_kept old new source command answer no_port no_turn done is =
+        met_kept command answer old new (told_by callbacks old source command) done is (told_kept old source command no_port no_turn is)
+
     -- a command that is no post and no turn
     pub is_told_kept : (old new : CellState M S D C) (command : Command C) (answer : StepAnswer S C) → is_turn command ≡ false
         → IsTold callbacks old command answer new → IsJournaled callbacks old → IsJournaled callbacks new
-    is_told_kept old new command answer no_turn done is =
-        met_kept command answer old new (told_by callbacks old None command) done is (told_kept old command no_turn is)
+    is_told_kept old new command answer no_turn done is = told_by_kept old new source.Caller command answer (λ port. refl) no_turn done is
+
+    -- a delivery
+    pub delivers_kept : (old new : CellState M S D C) (message : Message C) (result : Result Posted (Refused (Message C)))
+        → Delivers callbacks old message result new → IsJournaled callbacks old → IsJournaled callbacks new
+    delivers_kept old new message result done is =
+        told_by_kept old new (source.Message message.sender message.number) (command.Post Info message.content) (delivered_as result) (λ port. refl) refl done is
+
+    -- a take-out by a token that is the machine's, or is not
+    takes_by_kept : (own : Bool) (old new : CellState M S D C) (token : Token) (result : Result (Option (Message C)) (Refused Token))
+        → TakesOutBy callbacks own old token result new → IsJournaled callbacks old → IsJournaled callbacks new
+    takes_by_kept false old new token result done is = rw done.1 is
+    takes_by_kept true old new token result done is = is_told_kept old new command.TakeOut (given_as result) refl done is
+
+    pub takes_kept : (old new : CellState M S D C) (token : Token) (result : Result (Option (Message C)) (Refused Token))
+        → TakesOut callbacks old token result new → IsJournaled callbacks old → IsJournaled callbacks new
+    takes_kept old new token result done is = takes_by_kept (is_token_of token old.scheduled) old new token result done is
 
     -- a turn by a token that is the machine's, or is not
     turns_by_kept : (own : Bool) (old new : CellState M S D C) (token : Token) (now : ℕ) (result : Result Next (Refused Token)) → is_token_of token old.scheduled ≡ own
@@ -338,9 +364,9 @@ module _ {M S D C : Type 0} where
     refused_same old now token keeps (step.Refused said) refused is same =
         let told = served_on callbacks old.scheduled now in
         let none : told.1 ≡ old.scheduled = refused_served callbacks old.scheduled now (ap is_refused (sym same)) in
-        let entries : old.journal ++ entry_of told.1.count None (command.Turn now) (kept_answer told.0) ≡ old.journal =
-        ap (λ more. old.journal ++ more) (no_entry told.1.count None (command.Turn now) told.0 (ap is_counted (sym same))) ∙ append-nil old.journal in
-        ap (λ (scheduled : ScheduledMachine M S D C). record old { scheduled = scheduled; journal = old.journal ++ entry_of told.1.count None (command.Turn now) (kept_answer told.0) }) none
+        let entries : old.journal ++ entry_of told.1.count source.Caller (command.Turn now) (kept_answer told.0) ≡ old.journal =
+        ap (λ more. old.journal ++ more) (no_entry told.1.count source.Caller (command.Turn now) told.0 (ap is_counted (sym same))) ∙ append-nil old.journal in
+        ap (λ (scheduled : ScheduledMachine M S D C). record old { scheduled = scheduled; journal = old.journal ++ entry_of told.1.count source.Caller (command.Turn now) (kept_answer told.0) }) none
         ∙ ap (λ (journal : List (JournalEntry S C)). record old { journal = journal }) entries
     refused_same old now token keeps (step.Posted number wake) refused is same = cc
     refused_same old now token keeps (step.Ticked expired wake) refused is same = cc
@@ -366,6 +392,37 @@ module _ {M S D C : Type 0} where
     turns_refused old new token now (Ok next) done = tt
     turns_refused old new token now (Err refused) done = turns_by_refused (is_token_of token old.scheduled) old new token now refused done
 
+    -- a command that is refused leaves the cell as it was
+    told_refused : (old new : CellState M S D C) (source : Source) (command : Command C) (answer : StepAnswer S C) → is_refused answer ≡ true
+        → IsToldBy callbacks old source command answer new → new ≡ old
+    told_refused old new source command answer refused (inr none) = none.2
+    told_refused old new source command answer refused (inl done) =
+        let told = told_on callbacks old.scheduled command in
+        let said : is_refused told.0 ≡ true = ap is_refused (sym done.0) ∙ refused in
+        let entries : old.journal ++ entry_of told.1.count source command (kept_answer told.0) ≡ old.journal =
+        ap (λ more. old.journal ++ more) (no_entry told.1.count source command told.0 (refused_uncounted told.0 said)) ∙ append-nil old.journal in
+        let none : told.1 ≡ old.scheduled = refused_told callbacks old.scheduled command said in
+        done.1 ∙ (ap (λ (journal : List (JournalEntry S C)). record old { scheduled = told.1; journal = journal }) entries
+        ∙ ap (λ (scheduled : ScheduledMachine M S D C). record old { scheduled = scheduled }) none)
+
+    -- a refused delivery changes nothing
+    pub delivers_unchanged : (old new : CellState M S D C) (message : Message C) (result : Result Posted (Refused (Message C)))
+        → Delivers callbacks old message result new → OnErr result (new ≡ old)
+    delivers_unchanged old new message (Ok posted) done = tt
+    delivers_unchanged old new message (Err refused) done =
+        told_refused old new (source.Message message.sender message.number) (command.Post Info message.content) (delivered_as (Err refused)) refl done
+
+    -- and neither does a refused take-out
+    takes_by_unchanged : (own : Bool) (old new : CellState M S D C) (token : Token) (refused : Refused Token)
+        → TakesOutBy callbacks own old token (Err refused) new → new ≡ old
+    takes_by_unchanged false old new token refused done = done.1
+    takes_by_unchanged true old new token refused done = told_refused old new source.Caller command.TakeOut (given_as (Err refused)) refl done
+
+    pub takes_unchanged : (old new : CellState M S D C) (token : Token) (result : Result (Option (Message C)) (Refused Token))
+        → TakesOut callbacks old token result new → OnErr result (new ≡ old)
+    takes_unchanged old new token (Ok message) done = tt
+    takes_unchanged old new token (Err refused) done = takes_by_unchanged (is_token_of token old.scheduled) old new token refused done
+
     -- a refused post leaves the cell as it was
     pub posts_refused : (old new : CellState M S D C) (port : ℕ) (entry : Entry) (content : C) (answer : StepAnswer S C) → is_refused answer ≡ true
         → Posts callbacks old port entry content answer new → new ≡ old
@@ -374,10 +431,10 @@ module _ {M S D C : Type 0} where
         let told = told_on callbacks old.scheduled (command.Post entry content) in
         let said : is_refused told.0 ≡ true = ap is_refused (sym done.0) ∙ refused in
         let counted : is_counted told.0 ≡ false = refused_uncounted told.0 said in
-        let entries : old.journal ++ entry_of told.1.count (Some port) (command.Post entry content) (kept_answer told.0) ≡ old.journal =
-        ap (λ more. old.journal ++ more) (no_entry told.1.count (Some port) (command.Post entry content) told.0 counted) ∙ append-nil old.journal in
+        let entries : old.journal ++ entry_of told.1.count (source.Port port) (command.Post entry content) (kept_answer told.0) ≡ old.journal =
+        ap (λ more. old.journal ++ more) (no_entry told.1.count (source.Port port) (command.Post entry content) told.0 counted) ∙ append-nil old.journal in
         let none : told.1 ≡ old.scheduled = refused_told callbacks old.scheduled (command.Post entry content) said in
-        done.1 ∙ (ap (λ (posted : Bool). record (with_entry old (Some port) (command.Post entry content) told).1 { ports = counted_at port posted old.ports }) counted
+        done.1 ∙ (ap (λ (posted : Bool). record (with_entry old (source.Port port) (command.Post entry content) told).1 { ports = counted_at port posted old.ports }) counted
         ∙ (ap (λ (journal : List (JournalEntry S C)). record old { scheduled = told.1; journal = journal }) entries
         ∙ ap (λ (scheduled : ScheduledMachine M S D C). record old { scheduled = scheduled }) none))
 
@@ -401,10 +458,14 @@ module _ {M S D C : Type 0} where
     posts_open old new port entry content answer (inr none) = ap (λ (cell : CellState M S D C). length cell.ports) none.2
 
     -- by another command
+    pub told_by_ports : (old new : CellState M S D C) (source : Source) (command : Command C) (answer : StepAnswer S C)
+        → IsToldBy callbacks old source command answer new → new.ports ≡ old.ports
+    told_by_ports old new source command answer (inl done) = ap (λ (cell : CellState M S D C). cell.ports) done.1
+    told_by_ports old new source command answer (inr none) = ap (λ (cell : CellState M S D C). cell.ports) none.2
+
     pub told_open : (old new : CellState M S D C) (command : Command C) (answer : StepAnswer S C)
         → IsTold callbacks old command answer new → length new.ports ≡ length old.ports
-    told_open old new command answer (inl done) = ap (λ (cell : CellState M S D C). length cell.ports) done.1
-    told_open old new command answer (inr none) = ap (λ (cell : CellState M S D C). length cell.ports) none.2
+    told_open old new command answer done = ap (λ (ports : List ℕ). length ports) (told_by_ports old new source.Caller command answer done)
 
     -- by a turn
     turns_open_by : (own : Bool) (old new : CellState M S D C) (token : Token) (now : ℕ) (result : Result Next (Refused Token))

@@ -57,7 +57,7 @@ module _ {S C : Type 0} where
   once_if false command said = omega arith
 
   pub once_in : (port : ℕ) (entry : JournalEntry S C) → length (posted_in port entry) ≤ 1
-  once_in port entry = once_if (is_port port entry.port) entry.command entry.answer
+  once_in port entry = once_if (is_port port entry.source) entry.command entry.answer
 
   -- with one entry more a port has one post more at most
   pub one_more : (port : ℕ) (entries : List (JournalEntry S C)) (entry : JournalEntry S C)
@@ -69,7 +69,7 @@ module _ {S C : Type 0} where
       rw (split, length-append (posts_of port entries) (posted_in port entry)) (omega (arith, once))
 
   -- an entry of no port, or of another one, posts nothing for a port
-  pub none_more : (port : ℕ) (entries : List (JournalEntry S C)) (entry : JournalEntry S C) → is_port port entry.port ≡ false
+  pub none_more : (port : ℕ) (entries : List (JournalEntry S C)) (entry : JournalEntry S C) → is_port port entry.source ≡ false
       → posts_of port (entries ++ entry ∷ []) ≡ posts_of port entries
   none_more port entries entry other =
       posts-append port entries (entry ∷ [])

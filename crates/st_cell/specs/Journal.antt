@@ -1,5 +1,5 @@
 -- A journal: the commands that a machine took, with its answers, and whose posts they are.
-use Rattle.std.specs.Prelude.{◌≡◌, ℕ, ◌+◌, Bool, false, ◌==◌, if◌then◌else◌, Option, Some, None, Ok, Err, List, [], ◌∷◌, ◌++◌, map}
+use Rattle.std.specs.Prelude.{◌≡◌, ℕ, ◌+◌, Bool, false, ◌==◌, if◌then◌else◌, Ok, Err, List, [], ◌∷◌, ◌++◌, map}
 use Rattle.st_core.specs.declared.answer.Answer.{Answer}
 use Rattle.st_core.specs.declared.answer.Answer.TheVariants as answer
 use Rattle.st_core.specs.declared.command.Command.{Command}
@@ -11,15 +11,18 @@ use Rattle.st_core.specs.MachineState.{Machine}
 use Rattle.st_core.specs.Run.{Runs}
 use Rattle.st_cell.specs.declared.journal_entry.JournalEntry.{JournalEntry}
 use Rattle.st_cell.specs.declared.post.Post.{Post}
+use Rattle.st_cell.specs.declared.source.Source.{Source}
+use Rattle.st_cell.specs.declared.source.Source.TheVariants as source
 
 -- the numbers of posts
 abbrev pub numbers_of : {C : Type 0} → List (Post C) → List ℕ
 numbers_of posts = map (λ post. post.number) posts
 
--- whether a port is this one
-abbrev pub is_port : ℕ → Option ℕ → Bool
-is_port port None = false
-is_port port (Some other) = port == other
+-- whether an entry came through this port
+abbrev pub is_port : ℕ → Source → Bool
+is_port port source.Caller = false
+is_port port (source.Port own) = port == own
+is_port port (source.Message sender number) = false
 
 module _ {S C : Type 0} where
   -- the commands of a journal, in order
@@ -58,7 +61,7 @@ module _ {S C : Type 0} where
 
   -- what a port posted by an entry
   abbrev pub posted_in : ℕ → JournalEntry S C → List (Post C)
-  posted_in port entry = if is_port port entry.port then posted_by entry.command entry.answer else []
+  posted_in port entry = if is_port port entry.source then posted_by entry.command entry.answer else []
 
   -- the posts of a port in a journal, in order
   abbrev pub posts_of : ℕ → List (JournalEntry S C) → List (Post C)

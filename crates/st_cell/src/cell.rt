@@ -1,16 +1,16 @@
 //! A machine's cell: the machine with its journal.
-ghost use Rattle.std.specs.Prelude.{◌≡◌, ◌↔◌, true, length, is_some, IfOk, IfErr, OnOk, OnErr};
+ghost use Rattle.std.specs.Prelude.{◌≡◌, ◌↔◌, true, length, IfOk, IfErr, OnOk, OnErr};
 ghost use Rattle.st_events.specs.declared.refusal.Refusal.TheVariants.{NoMemory};
 ghost use Rattle.st_core.specs.declared.command.Command.TheVariants as command;
 ghost use Rattle.st_core.specs.Callbacks.{callbacks_of};
 ghost use Rattle.st_scheduled.specs.Answered.{posted_as, ticked_as, replied_as, collected_as, stopped_as};
-ghost use Rattle.st_scheduled.specs.ScheduledMachine.{token_of};
-ghost use Rattle.st_cell.specs.Calls.{Posts, IsTold, Turns, opened, look_of, cut, IsJournalOf};
+ghost use Rattle.st_scheduled.specs.ScheduledMachine.{id_of, token_of};
+ghost use Rattle.st_cell.specs.Calls.{Posts, IsTold, Turns, TakesOut, Delivers, opened, look_of, cut, IsJournalOf, is_removable};
 ghost use Rattle.st_cell.specs.Cell.{cell_at_first, IsOpen, count_for, HasPosted, HasPostedNothing};
 
 use crate::journaled::{EntryOf, Journaled};
 use crate::{Journal, Look, Next};
-use st_core::{Collected, Core, Entry, Module, Reason, Refusal, Refused, Snapshot, Tag};
+use st_core::{Collected, Core, Entry, Message, Module, Reason, Refusal, Refused, Snapshot, Tag};
 use st_events::Token;
 use st_scheduled::{Posted, Ticked};
 use std::alloc::Global;
@@ -22,8 +22,9 @@ use std::marker::Model;
 /// the journal's commands lead from the base to it, with the answers that the journal keeps. The journal can be cut:
 /// then the machine as it is becomes the base.
 ///
-/// A machine that has work has one outstanding token, the licence to be served: a post or a tick that gives it work
-/// answers one, and `turn` takes it. Events are posted through ports, which are counted apart.
+/// A machine that has work, an event or a message to be taken out, has one outstanding token, the licence to be served: a
+/// post, a delivery or a tick that gives it work answers one, and `turn` and `take_out` take it. Events are posted through
+/// ports, which are counted apart; messages of other machines are delivered.
 ///
 /// Ours: docs/DECISIONS.md, Journals.
 #[derive(Drop)]
@@ -133,9 +134,9 @@ impl<M: Module> Cell<M> {
         self.journaled.post(port, entry, content)
     }
 
-    /// Serves the machine by a token: one turn at a moment, in milliseconds, if there is an event for it. `Again` has the
-    /// token where the machine has work after it, an event or a message to be taken out; else the token is retired. A
-    /// machine that has ended takes no turn, whatever the moment.
+    /// Serves the machine by a token: one turn at a moment, in milliseconds, if there is an event for it. Without one, as
+    /// after the end, it looks at no moment and writes no entry. `Again` has the token where the machine has work after it,
+    /// an event or a message to be taken out; else the token is retired.
     ///
     /// Refused with `NotQueued` where the token is not the machine's outstanding one, with `Moment` at 2^63 and later,
     /// with `Exhausted` where too few numbers are left for what the turn asks for or for the entry, and with `NoMemory`
@@ -204,6 +205,53 @@ impl<M: Module> Cell<M> {
         self.journaled.reply(tag, content)
     }
 
+    /// Takes out the first message that the machine has sent and that was not taken out yet, if there is one, by the
+    /// machine's outstanding token, also after the machine has ended. The token stays. One that finds no message answers
+    /// `None` and has no entry.
+    ///
+    /// Refused with `NotQueued` where the token is not the machine's outstanding one, with `Exhausted` where there is a
+    /// message and no number is left for the entry, and with `NoMemory` where memory is wanted: then the message stays. A
+    /// refusal changes nothing and gives the token back.
+    ///
+    /// Ours: docs/DECISIONS.md, Messages.
+    pub fn take_out(
+        &mut self,
+        token: Token,
+    ) -> Result<Option<Message<M::Content>>, Refused<Token>>
+        ensures does { TakesOut (callbacks_of M.Module M.State.eq) self.old token result self.new }
+        ensures posts { HasPostedNothing self.old self.new }
+        ensures ports { length self.new.ports ≡ length self.old.ports }
+
+        ensures unchanged { OnErr result (self.new ≡ self.old) }
+        ensures returned { IfErr result (λ refused. refused.value ≡ token) }
+    {
+        self.journaled.take_out(token)
+    }
+
+    /// Delivers a message that was sent to the machine: its content is posted as an info, as `Core::post` does it, and the
+    /// answer is the event's number. No port counts it, and its entry has the message's sender and number. Where the machine
+    /// has work then and no token is outstanding, it is issued one, which the caller gets.
+    ///
+    /// Refused with `Stopped` once the machine has ended, with `Exhausted` where no number is left for the event or for
+    /// the entry, and with `NoMemory` where memory is wanted. A refusal changes nothing and gives the message back.
+    ///
+    /// Manual: the introduction, on sending messages from a state machine; `event_type()`, `info`; ours: docs/DECISIONS.md,
+    /// Messages.
+    pub fn deliver(
+        &mut self,
+        message: Message<M::Content>,
+    ) -> Result<Posted, Refused<Message<M::Content>>>
+        requires { message.target ≡ id_of self.old.scheduled }
+        ensures does { Delivers (callbacks_of M.Module M.State.eq) self.old message result self.new }
+        ensures posts { HasPostedNothing self.old self.new }
+        ensures ports { length self.new.ports ≡ length self.old.ports }
+
+        ensures unchanged { OnErr result (self.new ≡ self.old) }
+        ensures returned { IfErr result (λ refused. refused.value ≡ message) }
+    {
+        self.journaled.deliver(message)
+    }
+
     /// Ends the machine at once, as `Core::stop` does, and answers its last word. Its outstanding token stays until its
     /// next turn.
     ///
@@ -237,13 +285,14 @@ impl<M: Module> Cell<M> {
         self.journaled.look(port)
     }
 
-    /// Says whether the machine has ended, so that it can be removed.
+    /// Says whether the machine can be removed: it has ended, and no message of it is left to be taken out.
     ///
-    /// Ours: docs/DECISIONS.md, Journals.
+    /// Ours: docs/DECISIONS.md, Journals, Messages.
     pub fn removable(&self) -> bool
-        ensures { result ≡ is_some self.now.scheduled.core.machine.ended }
+        ensures { result ≡ is_removable self.now }
     {
-        self.journaled.scheduled.core().ended().is_some()
+        let core = self.journaled.scheduled.core();
+        core.ended().is_some() && !core.has_message()
     }
 
     /// The machine, to be read.

@@ -79,6 +79,23 @@ fn copied_posted<C: Drop, K: CopyContent<C>>(
     }
 }
 
+/// A copy of a message.
+pub(crate) fn copied_message<C: Drop, K: CopyContent<C>>(
+    message: &Message<C>,
+    alloc: Global,
+    copier: &K,
+) -> Result<Message<C>, AllocError>
+    ensures { IfOk result (λ copy. copy ≡ message.now) }
+{
+    let content = copier.copy_of(alloc, &message.content)?;
+    Ok(Message {
+        sender: message.sender,
+        number: message.number,
+        target: message.target,
+        content,
+    })
+}
+
 /// A copy of a message that was taken out, if one was.
 fn copied_taken<C: Drop, K: CopyContent<C>>(
     taken: &Option<Message<C>>,
@@ -89,15 +106,7 @@ fn copied_taken<C: Drop, K: CopyContent<C>>(
 {
     match taken {
         None => Ok(None),
-        Some(message) => {
-            let content = copier.copy_of(alloc, &message.content)?;
-            Ok(Some(Message {
-                sender: message.sender,
-                number: message.number,
-                target: message.target,
-                content,
-            }))
-        }
+        Some(message) => Ok(Some(copied_message(message, alloc, copier)?)),
     }
 }
 
@@ -156,7 +165,7 @@ fn copied_entry<S: Copy + Drop, C: Drop, K: CopyContent<C>>(
     let answer = copied_answer(&entry.answer, alloc, copier)?;
     Ok(JournalEntry {
         number: entry.number,
-        port: entry.port,
+        source: entry.source,
         command,
         answer,
     })

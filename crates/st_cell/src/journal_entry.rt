@@ -3,6 +3,7 @@ ghost use Rattle.std.specs.Prelude.{◌≡◌};
 ghost use Rattle.std.specs.Option.{option_to_list};
 ghost use Rattle.st_cell.specs.Journal.{numbers_of, posted_in};
 
+use crate::Source;
 use st_core::{Answer, Command};
 
 /// One command that a machine took, with what it answered.
@@ -12,8 +13,8 @@ use st_core::{Answer, Command};
 pub struct JournalEntry<S, C> {
     /// Its number: entries are numbered from 1 on, without gaps.
     pub number: u64,
-    /// The port through which the event was posted; an entry that is no post has none.
-    pub port: Option<u64>,
+    /// Where it came from: an event that was posted through a port, a message that was delivered, or else a caller.
+    pub source: Source,
     /// The command, with the moment, in milliseconds, or the content that it was given.
     pub command: Command<C>,
     /// What the machine answered.
@@ -28,7 +29,7 @@ impl<S, C> JournalEntry<S, C> {
         ensures { option_to_list result ≡ numbers_of (posted_in port self.now) }
     {
         match (&self.command, &self.answer) {
-            (Command::Post(_, _), Answer::Post(Ok(number))) if self.port == Some(port) => {
+            (Command::Post(_, _), Answer::Post(Ok(number))) if self.source.is_port(port) => {
                 Some(*number)
             }
             _ => None,

@@ -3,11 +3,13 @@ ghost use Rattle.std.specs.Prelude.{◌≡◌, ◌+◌, ◌<◌, ◌≤◌, ◌�
 ghost use Rattle.st_events.specs.declared.refusal.Refusal.TheVariants.{NoMemory};
 ghost use Rattle.st_core.specs.Lawful.{IsLawful};
 ghost use Rattle.st_requests.specs.Requests.{collected_of, held_for};
+ghost use Rattle.st_outbox.specs.Outbox.{first_message};
 ghost use Rattle.st_cell.specs.Cell.{cell_at_first, HasRoom};
 
-use crate::JournalEntry;
+use crate::copying::copied_message;
+use crate::{JournalEntry, Source};
 use st_core::{
-    Answer, Collected, Command, Core, Held, Module, Refusal, Refused, Snapshot, Tag,
+    Answer, Collected, Command, Core, Held, Message, Module, Refusal, Refused, Snapshot, Tag,
     a_machine_is_lawful,
 };
 use st_scheduled::ScheduledMachine;
@@ -139,22 +141,44 @@ impl<M: Module> Journaled<M> {
         self.kept_for(tag)
     }
 
+    /// A copy of the message that would be taken out, if there is one.
+    fn first_copied(&self) -> Result<Option<Message<M::Content>>, AllocError>
+        ensures { IfOk result (λ copy. copy ≡ first_message self.now.cell.scheduled.core.machine.outbox.messages) }
+    {
+        let core = self.scheduled.core();
+        match core.first_message() {
+            Some(message) => Ok(Some(copied_message(message, self.alloc, core.module())?)),
+            None => Ok(None),
+        }
+    }
+
+    /// Gets places for two entries, and copies the message that would be taken out.
+    pub(crate) fn prepare_first(&mut self) -> Result<Option<Message<M::Content>>, AllocError>
+        ensures copy { IfOk result (λ copy. copy ≡ first_message self.old.cell.scheduled.core.machine.outbox.messages) }
+        ensures same { self.new.cell ≡ self.old.cell }
+        ensures room { OnOk result (length self.old.cell.journal + 1 < self.new.places) }
+        ensures more { self.old.places ≤ self.new.places }
+    {
+        self.make_room()?;
+        self.first_copied()
+    }
+
     /// Writes the entry of the last command that was counted. There is a place for it.
     pub(crate) fn write(
         &mut self,
-        port: Option<u64>,
+        source: Source,
         command: Command<M::Content>,
         answer: AnswerOf<M>,
     )
         requires { length self.old.cell.journal < self.old.places }
         ensures written { self.new.cell ≡ record self.old.cell {
-          journal = self.old.cell.journal ++ record { number = self.old.cell.scheduled.count; port = port; command = command; answer = answer } ∷ [];
+          journal = self.old.cell.journal ++ record { number = self.old.cell.scheduled.count; source = source; command = command; answer = answer } ∷ [];
         } }
         ensures places { self.new.places ≡ self.old.places }
     {
         self.journal.push_reserved(JournalEntry {
             number: self.scheduled.count(),
-            port,
+            source,
             command,
             answer,
         });

@@ -38,7 +38,7 @@ pub fn a_journal_is_numbered_without_gaps<M: Module>(cell: &Cell<M>)
     let _ = &cell.journaled;
 }
 
-/// A machine in a cell that has not ended has an outstanding token exactly where it has work.
+/// A machine in a cell that has work, ended or not, has an outstanding token. A token may outlast the last message.
 ///
 /// Ours: docs/TRANSITIONS.md, Journals.
 pub fn a_cell_has_a_token_for_work<M: Module>(cell: &Cell<M>)

@@ -9,10 +9,12 @@ mod journal_entry;
 mod journaled;
 mod laws;
 mod look;
+mod messages;
 mod next;
 mod post;
 mod reading;
 mod recording;
+mod source;
 
 pub use cell::Cell;
 pub use journal::Journal;
@@ -25,8 +27,9 @@ pub use laws::{
 pub use look::Look;
 pub use next::Next;
 pub use post::Post;
+pub use source::Source;
 pub use st_core::{
-    Answer, Collected, Command, Core, Entry, MachineId, Module, PlainList, Reason, Refusal,
+    Answer, Collected, Command, Core, Entry, MachineId, Message, Module, PlainList, Reason, Refusal,
     Refused, Report, Snapshot, Tag, Turned,
 };
 pub use st_events::Token;

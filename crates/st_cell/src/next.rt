@@ -7,8 +7,8 @@ use st_events::Token;
 /// Ours: docs/DECISIONS.md, Tokens.
 #[derive(Clone, Copy, Debug, PartialEq, Eq)]
 pub enum Next {
-    /// The machine has work still: the token is to be served again.
+    /// The machine has work still, an event or a message to be taken out: the token is to be served again.
     Again(Token),
-    /// The machine has no work, or has ended: the token is retired.
+    /// The machine has no work, neither an event nor a message to be taken out: the token is retired.
     Rest,
 }

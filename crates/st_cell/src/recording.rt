@@ -7,11 +7,11 @@ ghost use Rattle.st_scheduled.specs.Answered.{posted_as, ticked_as, served_as, r
 ghost use Rattle.st_scheduled.specs.ScheduledMachine.{is_token_of};
 ghost use Rattle.st_scheduled.specs.Serving.{served_on, Serves};
 ghost use Rattle.st_cell.specs.declared.next.Next.TheVariants as next;
-ghost use Rattle.st_cell.specs.Calls.{Posts, IsTold, IsServed, Turns, done_as, counted_at};
+ghost use Rattle.st_cell.specs.Calls.{Posts, IsToldBy, IsTold, IsServed, Turns, done_as, counted_at};
 ghost use Rattle.st_cell.specs.Cell.{IsOpen, count_for, HasRoom};
 
-use crate::Next;
 use crate::journaled::Journaled;
+use crate::{Next, Source};
 use st_core::{Answer, Collected, Command, Entry, Module, Reason, Refusal, Refused, Tag, Turned};
 use st_events::Token;
 use st_scheduled::{Posted, Served, ServedOf, Ticked};
@@ -42,6 +42,28 @@ impl<M: Module> Journaled<M> {
 
         ensures returned { IfErr result (λ refused. refused.value ≡ content) }
     {
+        match self.post_from(Source::Port(port), entry, content) {
+            Ok(posted) => {
+                self.count_post(port);
+                Ok(posted)
+            }
+            Err(refused) => Err(refused),
+        }
+    }
+
+    /// An event is posted that came from there. No port counts it yet.
+    pub(crate) fn post_from(
+        &mut self,
+        source: Source,
+        entry: Entry,
+        content: M::Content,
+    ) -> Result<Posted, Refused<M::Content>>
+        ensures does { IsToldBy (callbacks_of M.Module M.State.eq) self.old.cell source (command.Post entry content) (posted_as result) self.new.cell }
+        ensures room { HasRoom self.old → HasRoom self.new }
+        ensures ports { self.new.cell.ports ≡ self.old.cell.ports }
+
+        ensures returned { IfErr result (λ refused. refused.value ≡ content) }
+    {
         if !self.scheduled.takes_post() {
             return self.scheduled.post(entry, content);
         }
@@ -52,8 +74,7 @@ impl<M: Module> Journaled<M> {
         match self.scheduled.post(entry, content) {
             Ok(posted) => {
                 let command = Command::Post(entry, copy);
-                self.write(Some(port), command, Answer::Post(Ok(posted.number)));
-                self.count_post(port);
+                self.write(source, command, Answer::Post(Ok(posted.number)));
                 Ok(posted)
             }
             Err(refused) => Err(refused),
@@ -74,7 +95,7 @@ impl<M: Module> Journaled<M> {
         match self.scheduled.tick(now) {
             Ok(ticked) => {
                 let answer = Answer::Tick(Ok(ticked.expired));
-                self.write(None, Command::Tick(now), answer);
+                self.write(Source::Caller, Command::Tick(now), answer);
                 Ok(ticked)
             }
             Err(refusal) => Err(refusal),
@@ -101,7 +122,7 @@ impl<M: Module> Journaled<M> {
         };
         match self.scheduled.reply(tag, content) {
             Ok(taken) => {
-                self.write(None, Command::Reply(tag, copy), Answer::Reply(taken));
+                self.write(Source::Caller, Command::Reply(tag, copy), Answer::Reply(taken));
                 Ok(taken)
             }
             Err(refused) => Err(refused),
@@ -122,7 +143,7 @@ impl<M: Module> Journaled<M> {
         };
         match self.scheduled.collect(tag) {
             Ok(collected) => {
-                self.write(None, Command::Collect(tag), Answer::Collect(shown));
+                self.write(Source::Caller, Command::Collect(tag), Answer::Collect(shown));
                 Ok(collected)
             }
             Err(refusal) => Err(refusal),
@@ -137,7 +158,7 @@ impl<M: Module> Journaled<M> {
     {
         match self.scheduled.stop(reason) {
             Ok(word) => {
-                self.write(None, Command::Stop(reason), Answer::Stop(Ok(word)));
+                self.write(Source::Caller, Command::Stop(reason), Answer::Stop(Ok(word)));
                 Ok(word)
             }
             Err(refusal) => Err(refusal),
@@ -172,7 +193,7 @@ impl<M: Module> Journaled<M> {
         match self.serve_scheduled(now) {
             Ok(Served::Turned(report)) => {
                 let answer = Answer::Turn(Ok(Turned::Reported(report)));
-                self.write(None, Command::Turn(now), answer);
+                self.write(Source::Caller, Command::Turn(now), answer);
                 Ok(())
             }
             Ok(Served::Sending | Served::Rested) => Ok(()),
@@ -208,7 +229,7 @@ impl<M: Module> Journaled<M> {
     }
 
     /// Says whether a token is the machine's outstanding one.
-    fn is_token(&self, token: Token) -> bool
+    pub(crate) fn is_token(&self, token: Token) -> bool
         ensures { result ≡ is_token_of token self.now.cell.scheduled }
     {
         self.scheduled.is_token(token)

@@ -1,20 +1,24 @@
 -- What a contract sees of a machine that threads share: its id, and that its calls are those of a lawful cell of its own.
 use Rattle.st_events.specs.declared.machine_id.MachineId.{MachineId}
+use Rattle.st_events.specs.declared.message.Message.{Message}
 use Rattle.st_core.specs.Callbacks.{Callbacks}
 use Rattle.st_events.specs.declared.refused.Refused.{Refused}
 use Rattle.st_events.specs.declared.token.Token.{Token}
 use Rattle.st_core.specs.declared.command.Command.{Command}
 use Rattle.st_core.specs.declared.entry.Entry.{Entry}
 use Rattle.st_scheduled.specs.declared.step_answer.StepAnswer.{StepAnswer}
-use Rattle.st_cell.specs.Calls.{IsJournalOf, IsTold, Posts, Turns, look_of}
+use Rattle.st_scheduled.specs.declared.posted.Posted.{Posted}
+use Rattle.st_cell.specs.Calls.{Delivers, IsJournalOf, IsTold, Posts, TakesOut, Turns, look_of}
 use Rattle.st_cell.specs.Cell.{CellState, IsJournaled, IsOpen, count_for}
 use Rattle.st_cell.specs.declared.journal.Journal.{Journal}
 use Rattle.st_cell.specs.declared.look.Look.{Look}
 use Rattle.st_cell.specs.declared.next.Next.{Next}
+use Rattle.st_lock.specs.Service.{Serves}
 use Rattle.st_lock.specs.declared.machine.Machine.{Machine}
 use Rattle.st_lock.specs.declared.room.MachineRoom.{MachineRoom}
+use Rattle.st_lock.specs.declared.service.Service.{Service}
 use Rattle.std.specs.Arc.{arc_value}
-use Rattle.std.specs.Prelude.{◌≡◌, ℕ, List, Result}
+use Rattle.std.specs.Prelude.{◌≡◌, ℕ, List, Option, Result}
 
 module _ {M S D C A : Type 0} where
   -- the machine's id
@@ -35,6 +39,21 @@ module _ {M S D C : Type 0} (callbacks : M → Callbacks S D C) where
   abbrev pub TurnsSomewhere : MachineId → Token → ℕ → Result Next (Refused Token) → Type 0
   TurnsSomewhere id token now result =
       (old : CellState M S D C) × (new : CellState M S D C) × IsCellOf id old × Turns callbacks old token now result new
+
+  -- the take-out from some such cell, by this token, answers so
+  abbrev pub TakesOutSomewhere : MachineId → Token → Result (Option (Message C)) (Refused Token) → Type 0
+  TakesOutSomewhere id token result =
+      (old : CellState M S D C) × (new : CellState M S D C) × IsCellOf id old × TakesOut callbacks old token result new
+
+  -- some such cell that is served by this token at this moment answers so
+  abbrev pub ServesSomewhere : MachineId → Token → ℕ → Result (Service C) (Refused Token) → Type 0
+  ServesSomewhere id token now result =
+      (old : CellState M S D C) × (new : CellState M S D C) × IsCellOf id old × Serves callbacks old token now result new
+
+  -- some such cell to which this message is delivered answers so
+  abbrev pub DeliversSomewhere : MachineId → Message C → Result Posted (Refused (Message C)) → Type 0
+  DeliversSomewhere id message result =
+      (old : CellState M S D C) × (new : CellState M S D C) × IsCellOf id old × Delivers callbacks old message result new
 
   -- some such cell that is told this command answers so
   abbrev pub IsToldSomewhere : MachineId → Command C → StepAnswer S C → Type 0

@@ -1,19 +1,21 @@
 //! What lies under a machine's lock.
-ghost use Rattle.std.specs.Prelude.{◌≡◌, ◌+◌, ◌++◌, ◌∷◌, [], ◌<◌, ◌^◌, length, true, is_some, IfOk, IfErr, OnErr};
+ghost use Rattle.std.specs.Prelude.{◌≡◌, ◌+◌, ◌++◌, ◌∷◌, [], ◌<◌, ◌^◌, length, true, IfOk, IfErr, OnErr};
 ghost use Rattle.st_events.specs.declared.refusal.Refusal.TheVariants.{NoMemory};
 ghost use Rattle.st_core.specs.declared.command.Command.TheVariants as command;
 ghost use Rattle.st_core.specs.Callbacks.{callbacks_of};
 ghost use Rattle.st_scheduled.specs.Answered.{posted_as, ticked_as, replied_as, collected_as, stopped_as};
 ghost use Rattle.st_scheduled.specs.ScheduledMachine.{token_of};
-ghost use Rattle.st_cell.specs.Calls.{Posts, IsTold, Turns, opened, look_of, cut, IsJournalOf};
-ghost use Rattle.st_cell.specs.Cell.{cell_at_first, IsJournaled, IsOpen, count_for};
+ghost use Rattle.st_cell.specs.Calls.{Posts, IsTold, Turns, TakesOut, Delivers, opened, look_of, cut, IsJournalOf};
+ghost use Rattle.st_cell.specs.Cell.{cell_at_first, is_removable, IsJournaled, IsOpen, count_for};
 ghost use Rattle.st_cell.specs.Journal.{numbers_of};
 ghost use Rattle.st_post_counter.specs.Seen.{whole, part, IsWhole, IsPart};
+ghost use Rattle.st_lock.specs.Service.{Serves};
 ghost use Rattle.st_lock.specs.Desk.{EndsWith, desk_at_first, HasEnd, counters_of};
 
+use crate::Service;
 use st_cell::{
-    Cell, Collected, Core, Entry, Journal, Look, MachineId, Module, Next, Post, Posted, Reason,
-    Refusal, Refused, Tag, Ticked, Token, a_cell_is_journaled,
+    Cell, Collected, Core, Entry, Journal, Look, MachineId, Message, Module, Next, Post, Posted,
+    Reason, Refusal, Refused, Tag, Ticked, Token, a_cell_is_journaled,
     a_port_has_no_more_posts_than_its_count, a_port_that_is_not_open_has_no_posts,
 };
 use st_post_counter::{Addition, Counter, Endpoint};
@@ -220,6 +222,57 @@ impl<M: Module> Desk<M> {
         self.cell.turn(token, now)
     }
 
+    /// Takes the machine's first message out by a token, as `Cell::take_out` does.
+    pub(crate) fn take_out(
+        &mut self,
+        token: Token,
+    ) -> Result<Option<Message<M::Content>>, Refused<Token>>
+        ensures does { TakesOut (callbacks_of M.Module M.State.eq) self.old.cell token result self.new.cell }
+        ensures same { self.new.ends ≡ self.old.ends }
+
+        ensures unchanged { OnErr result (self.new.cell ≡ self.old.cell) }
+        ensures returned { IfErr result (λ refused. refused.value ≡ token) }
+    {
+        self.cell.take_out(token)
+    }
+
+    /// Serves the machine by a token, at a moment, in milliseconds: takes its first message out, and where it has none,
+    /// gives it a turn.
+    pub(crate) fn serve(
+        &mut self,
+        token: Token,
+        now: u64,
+    ) -> Result<Service<M::Content>, Refused<Token>>
+        ensures does { Serves (callbacks_of M.Module M.State.eq) self.old.cell token now result self.new.cell }
+        ensures same { self.new.ends ≡ self.old.ends }
+
+        ensures returned { IfErr result (λ refused. refused.value ≡ token) }
+    {
+        match self.cell.take_out(token) {
+            Ok(Some(message)) => Ok(Service::Sent(message)),
+            Ok(None) => match self.cell.turn(token, now) {
+                Ok(next) => Ok(Service::Turned(next)),
+                Err(refused) => Err(refused),
+            },
+            Err(refused) => Err(refused),
+        }
+    }
+
+    /// A message comes to the machine, as `Cell::deliver` does it.
+    pub(crate) fn deliver(
+        &mut self,
+        message: Message<M::Content>,
+    ) -> Result<Posted, Refused<Message<M::Content>>>
+        requires { message.target ≡ self.old.cell.scheduled.core.machine.id }
+        ensures does { Delivers (callbacks_of M.Module M.State.eq) self.old.cell message result self.new.cell }
+        ensures same { self.new.ends ≡ self.old.ends }
+
+        ensures unchanged { OnErr result (self.new.cell ≡ self.old.cell) }
+        ensures returned { IfErr result (λ refused. refused.value ≡ message) }
+    {
+        self.cell.deliver(message)
+    }
+
     /// Tells the machine the moment, in milliseconds, as `Cell::tick` does.
     pub(crate) fn tick(&mut self, now: u64) -> Result<Ticked, Refusal>
         ensures does { IsTold (callbacks_of M.Module M.State.eq) self.old.cell (command.Tick now) (ticked_as result) self.new.cell }
@@ -265,9 +318,9 @@ impl<M: Module> Desk<M> {
         self.cell.stop(reason)
     }
 
-    /// Says whether the machine has ended.
+    /// Says whether the machine has ended and none of its messages is left.
     pub(crate) fn removable(&self) -> bool
-        ensures { result ≡ is_some self.now.cell.scheduled.core.machine.ended }
+        ensures { result ≡ is_removable self.now.cell }
     {
         self.cell.removable()
     }

@@ -8,12 +8,15 @@ mod machine;
 mod opened;
 mod port;
 mod room;
+mod service;
 
 pub use machine::Machine;
 pub use port::Port;
 pub use room::MachineRoom;
+pub use service::Service;
 pub use st_cell::{
-    Answer, Cell, Collected, Command, Core, Entry, Journal, JournalEntry, Look, MachineId, Module,
+    Answer, Cell, Collected, Command, Core, Entry, Journal, JournalEntry, Look, MachineId, Message,
+    Module,
     Next, PlainList, Post, Posted, Reason, Refusal, Refused, Report, Snapshot, Tag, Ticked, Token,
     Turned,
 };

@@ -13,14 +13,15 @@ ghost use Rattle.st_lock.specs.Desk.{desk_at_first, HasEnd};
 ghost use Rattle.st_core.specs.Callbacks.{callbacks_of};
 ghost use Rattle.st_core.specs.declared.command.Command.TheVariants as command;
 ghost use Rattle.st_scheduled.specs.Answered.{ticked_as, collected_as, replied_as, stopped_as};
-ghost use Rattle.st_lock.specs.Machines.{id_of, IsJournalAt, IsToldSomewhere, TurnsSomewhere};
+ghost use Rattle.st_lock.specs.Machines.{id_of, DeliversSomewhere, IsJournalAt, IsToldSomewhere, ServesSomewhere, TakesOutSomewhere, TurnsSomewhere};
 ghost use Rattle.st_lock.specs.Ports.{port_at_first};
 
-use crate::Port;
+use crate::{Port, Service};
 use crate::claim::{ByPort, Claim};
 use crate::desk::{Desk, PostOf, a_desk_is_journaled};
 use st_cell::{
-    Collected, Core, Journal, MachineId, Module, Next, Reason, Refusal, Refused, Tag, Ticked, Token,
+    Collected, Core, Journal, MachineId, Message, Module, Next, Posted, Reason, Refusal, Refused,
+    Tag, Ticked, Token,
 };
 use st_claim_lock::{ClaimLock, Claimed, Holder, Taken};
 use st_post_counter::Counter;
@@ -288,6 +289,73 @@ impl<M: Module> Machine<M> {
         answer
     }
 
+    /// Takes the machine's first message out by a token, as `Cell::take_out` does. Whoever takes it out delivers it.
+    ///
+    /// Refused as `Cell::take_out` is: with `NotQueued` where the token is not the machine's outstanding one, with
+    /// `Exhausted` and `NoMemory`. A refusal changes nothing and gives the token back.
+    ///
+    /// Manual: the introduction, on sending messages from a state machine; ours: docs/DECISIONS.md, Messages.
+    pub fn take_out<R: Wait>(
+        &self,
+        rt: &R,
+        token: Token,
+    ) -> Result<Option<Message<M::Content>>, Refused<Token>>
+        ensures does { TakesOutSomewhere (callbacks_of M.Module M.State.eq) (id_of self.now) token result }
+        ensures returned { IfErr result (λ refused. refused.value ≡ token) }
+    {
+        let (taken, mut desk, mut holder) = self.arrive(rt);
+        a_desk_is_journaled(&desk);
+        let answer = desk.take_out(token);
+        drop(give_back(taken, &mut holder, desk));
+        answer
+    }
+
+    /// Serves the machine by a token in one critical section: takes its first message out, as `take_out` does, and where it
+    /// has none, gives it one turn at a moment, in milliseconds, as `turn` does. Who waits in `wait_collect` is woken.
+    ///
+    /// Refused as `take_out` and `turn` are. A refusal changes nothing and gives the token back.
+    ///
+    /// Manual: `Module:handle_event/4`; ours: docs/DECISIONS.md, Tokens, Messages.
+    pub fn serve<R: Wait>(
+        &self,
+        rt: &R,
+        token: Token,
+        now: u64,
+    ) -> Result<Service<M::Content>, Refused<Token>>
+        ensures does { ServesSomewhere (callbacks_of M.Module M.State.eq) (id_of self.now) token now result }
+        ensures returned { IfErr result (λ refused. refused.value ≡ token) }
+    {
+        let (taken, mut desk, mut holder) = self.arrive(rt);
+        a_desk_is_journaled(&desk);
+        let answer = desk.serve(token, now);
+        drop(give_back(taken, &mut holder, desk));
+        self.told.notify_all();
+        answer
+    }
+
+    /// A message that was sent to this machine comes to it, as `Cell::deliver` does it: its content is posted as an info,
+    /// through no port. The answer has the token that the machine is issued, if it is.
+    ///
+    /// Refused as `Cell::deliver` is: with `Stopped`, `Exhausted` and `NoMemory`. A refusal changes nothing and gives the
+    /// message back.
+    ///
+    /// Manual: `info` of `event_type()`; ours: docs/DECISIONS.md, Messages.
+    pub fn deliver<R: Wait>(
+        &self,
+        rt: &R,
+        message: Message<M::Content>,
+    ) -> Result<Posted, Refused<Message<M::Content>>>
+        requires { message.target ≡ id_of self.now }
+        ensures does { DeliversSomewhere (callbacks_of M.Module M.State.eq) (id_of self.now) message result }
+        ensures returned { IfErr result (λ refused. refused.value ≡ message) }
+    {
+        let (taken, mut desk, mut holder) = self.arrive(rt);
+        a_desk_is_journaled(&desk);
+        let answer = desk.deliver(message);
+        drop(give_back(taken, &mut holder, desk));
+        answer
+    }
+
     /// Tells the machine the moment, in milliseconds, as `Cell::tick` does.
     ///
     /// Refused as `Cell::tick` is: with `Stopped`, `Moment`, `Exhausted` and `NoMemory`. A refusal changes nothing.
@@ -382,7 +450,7 @@ impl<M: Module> Machine<M> {
         answer
     }
 
-    /// Says whether the machine has ended, so that it can be removed.
+    /// Says whether the machine has ended and none of its messages is left, so that it can be removed.
     ///
     /// Ours: docs/DECISIONS.md, Journals.
     pub fn removable<R: Wait>(&self, rt: &R) -> bool {
