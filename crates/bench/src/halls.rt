@@ -1,7 +1,7 @@
 //! Halls of machines, and pools that serve them.
 ghost use Rattle.std.specs.Prelude.{◌≤◌};
 
-use crate::load::Load;
+use crate::load::{Load, Work};
 use crate::silent::Silent;
 use st_core::Refusal;
 use st_hall::{Hall, Machine, Port, Registry, Started};
@@ -45,7 +45,7 @@ pub fn pool<R: Runtime>(
     alloc: Global,
     workers: usize,
     hall: &Arc<Hall<Load, R>>,
-) -> Result<Pool<R>, Refusal>
+) -> Result<Pool<R, Work>, Refusal>
     requires { (1 ≤ workers) × (workers ≤ 16) }
 {
     match Arc::new(alloc, Silent) {
@@ -55,7 +55,7 @@ pub fn pool<R: Runtime>(
 }
 
 /// Waits until all tokens rest, closes a pool, and answers how many turns it made.
-pub fn turns<R: Runtime>(pool: &mut Pool<R>) -> Result<u64, Refusal> {
+pub fn turns<R: Runtime>(pool: &mut Pool<R, Work>) -> Result<u64, Refusal> {
     pool.drain();
     Ok(pool.close()?.turns)
 }

@@ -8,7 +8,7 @@ use std::alloc::Global;
 use std::sync::Wait;
 
 /// A worker, the only one, on whose own run queue so many tokens stand.
-fn worker(alloc: Global, tokens: u32) -> Result<Option<Worker>, Refusal> {
+fn worker(alloc: Global, tokens: u32) -> Result<Option<Worker<u32>>, Refusal> {
     let inlet = Inlet::new(alloc)?;
     let Some(seats) = Seats::for_workers(alloc, &inlet, 1)?.pop() else {
         return Ok(None);
@@ -27,10 +27,10 @@ fn worker(alloc: Global, tokens: u32) -> Result<Option<Worker>, Refusal> {
 }
 
 /// Makes so many rounds, and counts those that served a token.
-fn make_each<R: Wait>(rt: &R, worker: &mut Worker, count: u32) -> u64 {
+fn make_each<R: Wait>(rt: &R, worker: &mut Worker<u32>, count: u32) -> u64 {
     let mut served = 0u64;
     for _ in 0..count {
-        if worker.round(rt, &Restless, &Silent) {
+        if worker.transit.woken.is_none() && worker.round(rt, &Restless, &Silent) {
             served = served.saturating_add(1);
         }
     }

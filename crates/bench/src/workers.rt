@@ -12,7 +12,7 @@ use std::alloc::Global;
 use std::sync::Wait;
 
 /// A client of one machine, by its port, which this pool serves.
-fn client<R: Runtime>(rt: R, pool: &Pool<R>, port: Port<Load>) -> Result<Pooled<R>, Refusal> {
+fn client<R: Runtime>(rt: R, pool: &Pool<R, Work>, port: Port<Load>) -> Result<Pooled<R>, Refusal> {
     Ok(Pooled {
         rt,
         port,

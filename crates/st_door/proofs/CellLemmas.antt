@@ -29,7 +29,7 @@ use Rattle.st_door.specs.declared.door_content.DoorContent.{DoorContent}
 use Rattle.st_door.specs.declared.door_state.DoorState.{DoorState}
 use Rattle.st_door.specs.declared.door.Door.{Door}
 use Rattle.st_door.specs.declared.door_data.DoorData.{DoorData}
-use Rattle.st_door.specs.Doors.{DoorAnswer, DoorEntry, DoorMachine, port_of, recorded, refusal_in, told_kept}
+use Rattle.st_door.specs.Doors.{DoorAnswer, DoorEntry, DoorMachine, source_of, recorded, refusal_in, told_kept}
 use Rattle.st_door.specs.Entries.{DoorCore, ScheduledDoor, DoorCellState, HasTold, IsDoorCell, door_in, history_in, machine_in, recorded_in, told_in}
 use Rattle.st_door.proofs.ToldLemmas.{given-callbacks, told-refused}
 
@@ -82,7 +82,7 @@ told-on cell command ready =
 
 -- the entry of what is told, and the count of commands: it has one where the definition's answer is recorded
 entry-told : (old : ScheduledDoor) (command : Command DoorContent) (said : DoorAnswer) (core : DoorCore)
-    → (entry_of (told_as old said core).1.count (port_of command) command (kept_answer (told_as old said core).0) ≡ recorded (old.count + 1) command said)
+    → (entry_of (told_as old said core).1.count (source_of command) command (kept_answer (told_as old said core).0) ≡ recorded (old.count + 1) command said)
     × ((told_as old said core).1.count ≡ old.count + length (recorded (old.count + 1) command said))
 entry-told old command (answer.Post (Ok number)) core = (refl, refl)
 entry-told old command (answer.Post (Err refused)) core = (refl, omega arith)
@@ -113,7 +113,7 @@ abbrev WithEntry : DoorCellState → Command DoorContent → DoorStep × DoorCel
 WithEntry cell command definition =
     (definition.0 ≡ (told_on given cell.scheduled command).0)
     × (definition.1.scheduled ≡ (told_on given cell.scheduled command).1)
-    × (definition.1.journal ≡ cell.journal ++ entry_of (told_on given cell.scheduled command).1.count (port_of command) command (kept_answer (told_on given cell.scheduled command).0))
+    × (definition.1.journal ≡ cell.journal ++ entry_of (told_on given cell.scheduled command).1.count (source_of command) command (kept_answer (told_on given cell.scheduled command).0))
     × (definition.1.base ≡ cell.base)
 
 -- a call that found memory is answered so, and leaves the definition's machine, and its entry
@@ -133,7 +133,7 @@ called cell new command said definition ready with_entry found (inl done) =
             ∙ ap (λ (core : DoorCore). core.machine) (told-left cell.scheduled (told_in cell command).0 (core_after cell command) (stays-refused cell command)));
         journal = ap (λ (c : DoorCellState). c.journal) done.1
             ∙ (with_entry.2
-            ∙ (ap (λ (t : DoorStep × ScheduledDoor). cell.journal ++ entry_of t.1.count (port_of command) command (kept_answer t.0)) told
+            ∙ (ap (λ (t : DoorStep × ScheduledDoor). cell.journal ++ entry_of t.1.count (source_of command) command (kept_answer t.0)) told
             ∙ ap (λ (entries : List DoorEntry). cell.journal ++ entries) entry.0));
         count = ap (λ (c : DoorCellState). c.scheduled.count) done.1
             ∙ (ap (λ (s : ScheduledDoor). s.count) (with_entry.1 ∙ ap (λ (t : DoorStep × ScheduledDoor). t.1) told) ∙ entry.1);

@@ -14,6 +14,8 @@ use Rattle.st_core.specs.declared.entry.Entry.TheVariants.{Call, Cast}
 use Rattle.st_core.specs.declared.turned.Turned.TheVariants.{Reported, Idle}
 use Rattle.st_scheduled.specs.Serving.{hands_out}
 use Rattle.st_cell.specs.declared.journal_entry.JournalEntry.{JournalEntry}
+use Rattle.st_cell.specs.declared.source.Source.{Source}
+use Rattle.st_cell.specs.declared.source.Source.TheVariants as source
 use Rattle.st_door.specs.declared.door_content.DoorContent.TheVariants.{Button, CodeLength, Length, Nothing}
 use Rattle.st_requests.specs.declared.collected.Collected.{Collected}
 use Rattle.st_requests.specs.declared.collected.Collected.TheVariants.{Waiting, Reply, Stopped, Gone}
@@ -124,20 +126,15 @@ is_recorded (answer.Stop (Ok word)) = true
 is_recorded (answer.Stop (Err refusal)) = false
 is_recorded (answer.TakeOut message) = is_some message
 
--- the port by which a command comes: a post comes by the door's one port
-abbrev pub port_of : Command DoorContent → Option ℕ
-port_of (command.Post entry content) = Some 1
-port_of (command.Tick moment) = None
-port_of (command.Turn moment) = None
-port_of (command.Reply tag content) = None
-port_of (command.Collect tag) = None
-port_of (command.Stop reason) = None
-port_of command.TakeOut = None
+-- where a command comes from: a post comes by the door's one port
+abbrev pub source_of : Command DoorContent → Source
+source_of (command.Post entry content) = source.Port 1
+source_of _ = source.Caller
 
 -- the entry of a command that was answered so, with this number, if it is kept
 abbrev pub recorded : ℕ → Command DoorContent → DoorAnswer → List DoorEntry
 recorded number command answer =
-    if is_recorded answer then record { number = number; port = port_of command; command = command; answer = answer } ∷ [] else []
+    if is_recorded answer then record { number = number; source = source_of command; command = command; answer = answer } ∷ [] else []
 
 -- a history after a command that was answered so
 abbrev pub history_told : Command DoorContent → DoorAnswer → Option History → Option History

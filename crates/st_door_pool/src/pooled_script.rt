@@ -6,7 +6,7 @@ use crate::door_hall::DoorHall;
 use crate::pooled_door::{PooledDoor, told_length, unless_memory};
 use crate::pooled_doors::PooledDoors;
 use st_core::MOMENT_LIMIT;
-use st_door::{Digits, Door, Effect, Line, Text, code_length, expired, removed};
+use st_door::{Digits, Door, DoorContent, Effect, Line, Text, code_length, expired, removed};
 use st_hall::{MachineId, Reason, Refusal, Started, Token};
 use st_pool::{Gate, Machines, Pool, Runtime, Scheduler};
 use st_wake::schedule;
@@ -14,13 +14,13 @@ use std::alloc::{AllocError, Global};
 use std::sync::Arc;
 
 /// Starts workers that serve these machines at the moment of a clock.
-fn started<R: Runtime, M: Machines + Drop + Send + Sync + 'static>(
+fn started<R: Runtime, M: Machines<Content = DoorContent> + Drop + Send + Sync + 'static>(
     rt: R,
     alloc: Global,
     workers: usize,
     machines: &Arc<M>,
     clock: &Arc<Clock>,
-) -> Result<Pool<R>, AllocError>
+) -> Result<Pool<R, DoorContent>, AllocError>
     requires { (1 ≤ workers) × (workers ≤ 16) }
 {
     Pool::start(rt, alloc, workers, machines, clock)
@@ -32,7 +32,7 @@ fn started<R: Runtime, M: Machines + Drop + Send + Sync + 'static>(
 pub(crate) struct PooledScript<R: Runtime> {
     rt: R,
     alloc: Global,
-    pool: Pool<R>,
+    pool: Pool<R, DoorContent>,
     scheduler: Scheduler,
     clock: Arc<Clock>,
     served: Arc<DoorHall<R>>,

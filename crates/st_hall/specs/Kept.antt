@@ -1,8 +1,7 @@
 -- Which tokens are kept.
-use Rattle.std.specs.Prelude.{Bool, true, false, if◌then◌else◌, Some, None, Result, Ok, Err}
+use Rattle.std.specs.Prelude.{Bool, true, false, if◌then◌else◌, Some, None}
 use Rattle.st_events.specs.declared.refusal.Refusal.{Refusal}
 use Rattle.st_events.specs.declared.refusal.Refusal.TheVariants.{Exhausted, Moment, NoMemory}
-use Rattle.st_events.specs.declared.refused.Refused.{Refused}
 use Rattle.st_events.specs.declared.token.Token.{Token}
 use Rattle.st_cell.specs.declared.next.Next.{Next}
 use Rattle.st_cell.specs.declared.next.Next.TheVariants.{Again, Rest}
@@ -19,8 +18,7 @@ is_kept _ = false
 abbrev pub unserved_as : Token → Refusal → Served
 unserved_as token refusal = record { token = if is_kept refusal then Some token else None; refusal = Some refusal }
 
--- what comes of a token by which a machine was served: it comes back where the machine is to be served by it again
-abbrev pub served_as : Token → Result Next (Refused Token) → Served
-served_as token (Ok (Again again)) = record { token = Some token; refusal = None }
-served_as token (Ok Rest) = record { token = None; refusal = None }
-served_as token (Err refused) = unserved_as token refused.refusal
+-- what comes of a token by which a machine was given a turn: it comes back where the machine is to be served by it again
+abbrev pub served_as : Token → Next → Served
+served_as token (Again again) = record { token = Some token; refusal = None }
+served_as token Rest = record { token = None; refusal = None }

@@ -1,3 +1,4 @@
--- What is known of a registry that threads share, and which tokens are kept.
+-- What is known of a registry that threads share, which tokens are kept, and how many messages were lost.
 pub mod Hall
 pub mod Kept
+pub mod Undelivered

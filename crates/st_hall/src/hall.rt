@@ -1,5 +1,5 @@
 //! A registry that threads share.
-ghost use Rattle.std.specs.Prelude.{◌≡◌, ◌⊎◌, if◌then◌else◌, Some, None, IfOk, IfErr, IfSome, option_copied};
+ghost use Rattle.std.specs.Prelude.{◌≡◌, ◌⊎◌, if◌then◌else◌, Some, None, IsSome, IfOk, IfErr, IfSome, option_copied};
 ghost use Rattle.std.specs.Arc.{arc_value};
 ghost use Rattle.st_events.specs.declared.refusal.Refusal.TheVariants.{NoMemory, NoSuchName, NoSuchMachine, NotStopped};
 ghost use Rattle.st_core.specs.Callbacks.{callbacks_of};
@@ -9,14 +9,16 @@ ghost use Rattle.st_directory.specs.Entries.{names_of_entries};
 ghost use Rattle.st_hall.specs.Hall.{StartsSomewhere, IsNamedSomewhere, AreNamesSomewhere};
 ghost use Rattle.st_hall.specs.Kept.{is_kept};
 
-use crate::Served;
 use crate::copies::copied;
-use crate::kept::{served, unserved};
+use crate::kept::{delivered, served, unserved};
+use crate::{Served, Undelivered};
+use st_lock::Service;
+use st_pool::{Hand, Message};
 use st_registry::{
     Machine, MachineId, Module, Refusal, Refused, Registry, Started, Token, a_registry_is_in_order,
 };
 use std::alloc::{AllocError, Global};
-use std::sync::{Arc, RwLock, Wait};
+use std::sync::{Arc, Mutex, RwLock, Wait};
 
 /// A registry under a lock, which many threads may have at once to read. It keeps the handle that its locks need.
 ///
@@ -30,6 +32,7 @@ use std::sync::{Arc, RwLock, Wait};
 #[derive(Drop)]
 pub struct Hall<M: Module, R: Wait + Drop> {
     registry: RwLock<Registry<M>>,
+    undelivered: Mutex<Undelivered>,
     rt: R,
 }
 
@@ -40,6 +43,7 @@ impl<M: Module, R: Wait + Drop> Hall<M, R> {
     pub fn new(rt: R, registry: Registry<M>) -> Hall<M, R> {
         Hall {
             registry: RwLock::new(registry),
+            undelivered: Mutex::new(Undelivered::new()),
             rt,
         }
     }
@@ -136,8 +140,8 @@ impl<M: Module, R: Wait + Drop> Hall<M, R> {
     /// Removes a machine that has ended, as `Registry::remove_stopped` does. It has the registry's lock while it looks at
     /// the machine under that one's lock.
     ///
-    /// Refused with `NoSuchMachine` where the id names none now, and with `NotStopped` where the machine has not ended;
-    /// then nothing changes.
+    /// Refused with `NoSuchMachine` where the id names none now, and with `NotStopped` where the machine has not ended or a
+    /// message of it was not taken out; then nothing changes.
     ///
     /// Ours: docs/DECISIONS.md, Halls.
     pub fn remove_stopped(&self, id: MachineId) -> Result<(), Refusal>
@@ -146,31 +150,115 @@ impl<M: Module, R: Wait + Drop> Hall<M, R> {
         self.registry.write(&self.rt).remove_stopped(&self.rt, id)
     }
 
-    /// Serves the machine of a token: one turn at a moment, in milliseconds. The token comes back where the machine is to
-    /// be served by it again: it has work still, or it refused the turn and kept the token.
+    /// How many messages could not be delivered so far, by why.
     ///
-    /// `None`: the machine rests or has ended, was removed, or has another token outstanding.
-    ///
-    /// Manual: `Module:handle_event/4`; ours: docs/DECISIONS.md, Halls, Tokens.
-    pub fn turn(&self, token: Token, now: u64) -> Option<Token>
-        ensures returned { IfSome result (λ back. back ≡ token) }
-    {
-        self.serve(token, now).token
+    /// Ours: docs/DECISIONS.md, Messages.
+    pub fn undelivered(&self) -> Undelivered {
+        *self.undelivered.lock(&self.rt)
     }
 
-    /// Serves the machine of a token as `turn` does, and says too why no turn was made, if none was: `NoSuchMachine` where
-    /// the id names none now, `NotQueued` where the machine has another token outstanding, and `Moment`, `Exhausted` and
-    /// `NoMemory`, after which it keeps the token and the same turn may be asked for again.
+    /// Serves the machine of a token, at a moment, in milliseconds, with what its worker carries. It does one of three
+    /// things: a message in the hand is delivered; else the machine's first message is taken out and delivered, where it has
+    /// one; else it is given a turn.
     ///
-    /// Manual: `Module:handle_event/4`; ours: docs/DECISIONS.md, Halls, Tokens.
-    pub fn serve(&self, token: Token, now: u64) -> Served
+    /// The token comes back where the machine is to be served by it again: a message was delivered or taken out, it has
+    /// work still, or it refused the turn and kept the token. `None`: the machine rests or has ended, was removed, or has
+    /// another token outstanding.
+    ///
+    /// A message that was delivered leaves the hand, and the token that its target was issued by it, if it was, stands in
+    /// the hand. A message is lost, and counted in `undelivered`, where its target has ended, can take no event more, or is
+    /// not there. Where memory is wanted and there is none, it stays in the hand, and the next call delivers it.
+    ///
+    /// Manual: `Module:handle_event/4`; ours: docs/DECISIONS.md, Halls, Tokens, Messages.
+    pub fn turn(&self, token: Token, now: u64, hand: &mut Hand<M::Content>) -> Option<Token>
+        requires woken { hand.old.woken ≡ None }
+        ensures returned { IfSome result (λ back. back ≡ token) }
+        ensures delivering { IsSome hand.old.message → result ≡ Some token }
+        ensures carrying { IsSome hand.new.message → result ≡ Some token }
+        ensures carried { IfSome hand.old.message (λ message. (hand.new.message ≡ None) ⊎ (hand.new.message ≡ Some message)) }
+    {
+        self.serve(token, now, hand).token
+    }
+
+    /// Serves the machine of a token as `turn` does, and says too why nothing was done, if nothing was: `NoSuchMachine`
+    /// where the id names none now, `NotQueued` where the machine has another token outstanding, and `Moment`, `Exhausted`
+    /// and `NoMemory`, after which it keeps the token and the same may be asked for again. Of a message that is lost it
+    /// says nothing: that is counted.
+    ///
+    /// Manual: `Module:handle_event/4`; ours: docs/DECISIONS.md, Halls, Tokens, Messages.
+    pub fn serve(&self, token: Token, now: u64, hand: &mut Hand<M::Content>) -> Served
+        requires woken { hand.old.woken ≡ None }
         ensures returned { IfSome result.token (λ back. back ≡ token) }
+        ensures delivering { IsSome hand.old.message → result.token ≡ Some token }
+        ensures carrying { IsSome hand.new.message → result.token ≡ Some token }
+        ensures carried { IfSome hand.old.message (λ message. (hand.new.message ≡ None) ⊎ (hand.new.message ≡ Some message)) }
 
         ensures kept { IfSome result.refusal (λ refusal. result.token ≡ (if is_kept refusal then Some token else None)) }
     {
-        match self.machine(token.machine) {
-            Ok(machine) => served(token, machine.turn(&self.rt, token, now)),
-            Err(refusal) => unserved(token, refusal),
+        if let Some(message) = hand.message.take() {
+            return self.deliver(token, message, hand);
+        }
+        let machine = match self.machine(token.machine) {
+            Ok(machine) => machine,
+            Err(refusal) => return unserved(token, refusal),
+        };
+        match machine.serve(&self.rt, token, now) {
+            Ok(Service::Turned(next)) => served(token, next),
+            Ok(Service::Sent(message)) => {
+                // Nobody has a machine's lock while another machine's is taken.
+                drop(machine);
+                self.deliver(token, message, hand)
+            }
+            Err(refused) => unserved(token, refused.refusal),
+        }
+    }
+
+    /// Delivers a message of a token's machine, which is to be served again.
+    fn deliver(
+        &self,
+        token: Token,
+        message: Message<M::Content>,
+        hand: &mut Hand<M::Content>,
+    ) -> Served
+        requires none { hand.old.message ≡ None }
+        requires woken { hand.old.woken ≡ None }
+        ensures token { result.token ≡ Some token }
+        ensures carried { (hand.new.message ≡ None) ⊎ (hand.new.message ≡ Some message) }
+
+        ensures refusals { IfSome result.refusal (λ refusal. refusal ≡ NoMemory) }
+    {
+        match self.delivered(message) {
+            Ok(woken) => {
+                hand.woken = woken;
+                delivered(token)
+            }
+            Err(refused) => match refused.refusal {
+                Refusal::NoMemory => {
+                    hand.message = Some(refused.value);
+                    unserved(token, Refusal::NoMemory)
+                }
+                refusal => {
+                    self.undelivered.lock(&self.rt).count(refusal);
+                    delivered(token)
+                }
+            },
+        }
+    }
+
+    /// Delivers a message to its target, and answers the token that this one is issued by it, if it is.
+    fn delivered(
+        &self,
+        message: Message<M::Content>,
+    ) -> Result<Option<Token>, Refused<Message<M::Content>>>
+        ensures returned { IfErr result (λ refused. refused.value ≡ message) }
+    {
+        let machine = match self.machine(message.target) {
+            Ok(machine) => machine,
+            Err(refusal) => return Err(Refused::new(refusal, message)),
+        };
+        match machine.deliver(&self.rt, message) {
+            Ok(posted) => Ok(posted.wake),
+            Err(refused) => Err(refused),
         }
     }
 }

@@ -1,10 +1,10 @@
 //! Whether a machine kept the token by which it was served.
-ghost use Rattle.std.specs.Prelude.{◌≡◌};
+ghost use Rattle.std.specs.Prelude.{◌≡◌, Some, None};
 ghost use Rattle.st_hall.specs.Kept.{is_kept, served_as, unserved_as};
 
 use crate::Served;
 use st_cell::Next;
-use st_registry::{Refusal, Refused, Token};
+use st_registry::{Refusal, Token};
 
 /// Whether a machine that refused a turn for this reason has its token outstanding still.
 pub(crate) fn keeps(refusal: Refusal) -> bool
@@ -27,17 +27,26 @@ pub(crate) fn unserved(token: Token, refusal: Refusal) -> Served
     }
 }
 
-/// What comes of a token by which a machine was served.
-pub(crate) fn served(token: Token, answer: Result<Next, Refused<Token>>) -> Served
-    ensures { result ≡ served_as token answer }
+/// What comes of a token by which a machine was given a turn.
+pub(crate) fn served(token: Token, next: Next) -> Served
+    ensures { result ≡ served_as token next }
 {
-    let token = match answer {
-        Ok(Next::Again(_)) => Some(token),
-        Ok(Next::Rest) => None,
-        Err(refused) => return unserved(token, refused.refusal),
+    let token = match next {
+        Next::Again(_) => Some(token),
+        Next::Rest => None,
     };
     Served {
         token,
+        refusal: None,
+    }
+}
+
+/// What comes of a token whose machine's message was delivered or is lost: the machine is to be served again.
+pub(crate) fn delivered(token: Token) -> Served
+    ensures { result ≡ record { token = Some token; refusal = None } }
+{
+    Served {
+        token: Some(token),
         refusal: None,
     }
 }

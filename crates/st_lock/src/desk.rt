@@ -5,11 +5,11 @@ ghost use Rattle.st_core.specs.declared.command.Command.TheVariants as command;
 ghost use Rattle.st_core.specs.Callbacks.{callbacks_of};
 ghost use Rattle.st_scheduled.specs.Answered.{posted_as, ticked_as, replied_as, collected_as, stopped_as};
 ghost use Rattle.st_scheduled.specs.ScheduledMachine.{token_of};
-ghost use Rattle.st_cell.specs.Calls.{Posts, IsTold, Turns, TakesOut, Delivers, opened, look_of, cut, IsJournalOf};
-ghost use Rattle.st_cell.specs.Cell.{cell_at_first, is_removable, IsJournaled, IsOpen, count_for};
+ghost use Rattle.st_cell.specs.Calls.{Posts, IsTold, Turns, TakesOut, Delivers, opened, look_of, cut, is_removable, IsJournalOf};
+ghost use Rattle.st_cell.specs.Cell.{cell_at_first, IsJournaled, IsOpen, count_for};
 ghost use Rattle.st_cell.specs.Journal.{numbers_of};
 ghost use Rattle.st_post_counter.specs.Seen.{whole, part, IsWhole, IsPart};
-ghost use Rattle.st_lock.specs.Service.{Serves};
+ghost use Rattle.st_lock.specs.Service.{Serves, turned_as};
 ghost use Rattle.st_lock.specs.Desk.{EndsWith, desk_at_first, HasEnd, counters_of};
 
 use crate::Service;
@@ -79,6 +79,16 @@ fn add_picked<C, A: Addition<Post<C>>>(
     let _ = entry;
     let _ = content;
     counter.add_picked::<A>(end, count);
+}
+
+/// What is told of a turn.
+fn turned<C>(answer: Result<Next, Refused<Token>>) -> Result<Service<C>, Refused<Token>>
+    ensures { result ≡ turned_as answer }
+{
+    match answer {
+        Ok(next) => Ok(Service::Turned(next)),
+        Err(refused) => Err(refused),
+    }
 }
 
 impl<M: Module> Desk<M> {
@@ -250,10 +260,7 @@ impl<M: Module> Desk<M> {
     {
         match self.cell.take_out(token) {
             Ok(Some(message)) => Ok(Service::Sent(message)),
-            Ok(None) => match self.cell.turn(token, now) {
-                Ok(next) => Ok(Service::Turned(next)),
-                Err(refused) => Err(refused),
-            },
+            Ok(None) => turned(self.cell.turn(token, now)),
             Err(refused) => Err(refused),
         }
     }

@@ -1,3 +1,4 @@
 -- Lemmas on workers.
+pub mod CarryLemmas
 pub mod RoundLemmas
 pub mod ThreadLemmas

@@ -7,14 +7,16 @@ use st_runq::{Inlet, PutRefused};
 use std::sync::Wait;
 
 /// The end of the shared run queue that puts, whether the pool is closed, and how many tokens were scheduled and came to
-/// rest. It stands under one lock.
+/// rest. A token that a delivery woke counts as scheduled, and is put on its worker's own run queue. It stands under one
+/// lock.
 #[derive(Drop)]
 pub struct Intake {
     inlet: Inlet,
     closed: bool,
     scheduled: u64,
+    woken: u64,
     rested: u64,
-    ghost counted: { scheduled ≡ length (given_of inlet) },
+    ghost counted: { scheduled ≡ length (given_of inlet) + woken },
     ghost ordered: { rested ≤ scheduled },
 }
 
@@ -24,12 +26,13 @@ impl Intake {
         requires { given_of inlet ≡ [] }
         ensures inlet { result.inlet ≡ inlet }
         ensures closed { result.closed ≡ false }
-        ensures counts { (result.scheduled ≡ 0) × (result.rested ≡ 0) }
+        ensures counts { (result.scheduled ≡ 0) × (result.woken ≡ 0) × (result.rested ≡ 0) }
     {
         Intake {
             inlet,
             closed: false,
             scheduled: 0,
+            woken: 0,
             rested: 0,
         }
     }
@@ -37,7 +40,7 @@ impl Intake {
     /// From now on no token comes in.
     pub fn close(&mut self)
         ensures closed { self.new.closed ≡ true }
-        ensures same { (self.new.inlet ≡ self.old.inlet) × (self.new.scheduled ≡ self.old.scheduled) × (self.new.rested ≡ self.old.rested) }
+        ensures same { (self.new.inlet ≡ self.old.inlet) × (self.new.scheduled ≡ self.old.scheduled) × (self.new.woken ≡ self.old.woken) × (self.new.rested ≡ self.old.rested) }
     {
         self.closed = true;
     }
@@ -47,7 +50,7 @@ impl Intake {
     pub fn put<R: Wait>(&mut self, rt: &R, token: Token) -> Result<(), PutRefused>
         ensures put { OnOk result (given_of self.new.inlet ≡ given_of self.old.inlet ++ token ∷ []) }
         ensures not_closed { OnOk result (self.old.closed ≡ false) }
-        ensures same { (inlet_of self.new.inlet ≡ inlet_of self.old.inlet) × (self.new.closed ≡ self.old.closed) × (self.new.rested ≡ self.old.rested) }
+        ensures same { (inlet_of self.new.inlet ≡ inlet_of self.old.inlet) × (self.new.closed ≡ self.old.closed) × (self.new.woken ≡ self.old.woken) × (self.new.rested ≡ self.old.rested) }
 
         ensures refused { IfErr result (λ e. (e.0 ≡ token) × (given_of self.new.inlet ≡ given_of self.old.inlet)) }
     {
@@ -59,11 +62,27 @@ impl Intake {
         Ok(())
     }
 
+    /// Counts a token that a delivery woke, before its worker puts it on a run queue of its own. `false`: 2^64 - 1 tokens
+    /// were scheduled, and nothing changes.
+    pub fn count_woken(&mut self) -> bool
+        ensures counted { result ≡ true → (self.new.woken ≡ self.old.woken + 1) × (self.new.scheduled ≡ self.old.scheduled + 1) }
+        ensures same { (self.new.inlet ≡ self.old.inlet) × (self.new.closed ≡ self.old.closed) × (self.new.rested ≡ self.old.rested) }
+
+        ensures unchanged { result ≡ false → self.new ≡ self.old }
+    {
+        if self.scheduled == u64::MAX {
+            return false;
+        }
+        self.scheduled += 1;
+        self.woken += 1;
+        true
+    }
+
     /// A token came to rest. `true`: no other is to be served.
     pub fn rest(&mut self) -> bool
         ensures last { IsTrue result ↔ (self.new.rested ≡ self.new.scheduled) }
         ensures rested { self.old.rested < self.old.scheduled → self.new.rested ≡ self.old.rested + 1 }
-        ensures same { (self.new.inlet ≡ self.old.inlet) × (self.new.closed ≡ self.old.closed) × (self.new.scheduled ≡ self.old.scheduled) }
+        ensures same { (self.new.inlet ≡ self.old.inlet) × (self.new.closed ≡ self.old.closed) × (self.new.scheduled ≡ self.old.scheduled) × (self.new.woken ≡ self.old.woken) }
     {
         if self.rested < self.scheduled {
             self.rested += 1;
@@ -71,9 +90,9 @@ impl Intake {
         self.rested == self.scheduled
     }
 
-    /// Whether as many tokens came to rest as were ever put.
+    /// Whether as many tokens came to rest as were ever put or woken.
     pub fn is_drained(&self) -> bool
-        ensures { IsTrue result ↔ (self.now.rested ≡ length (given_of self.now.inlet)) }
+        ensures { IsTrue result ↔ (self.now.rested ≡ length (given_of self.now.inlet) + self.now.woken) }
     {
         self.rested == self.scheduled
     }

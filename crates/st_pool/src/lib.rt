@@ -5,6 +5,7 @@
 mod berth;
 mod found;
 mod gate;
+mod hand;
 mod intake;
 mod machines;
 mod pool;
@@ -18,13 +19,14 @@ mod work;
 mod worker;
 
 pub use gate::Gate;
+pub use hand::Hand;
 pub use machines::Machines;
 pub use pool::Pool;
 pub use pool_end::PoolEnd;
 pub use runtime::Runtime;
 pub use scheduler::Scheduler;
 pub use serving::serve_one;
-pub use st_events::{MachineId, Token};
+pub use st_events::{MachineId, Message, Token};
 pub use st_runq::PutRefused;
 pub use st_wake::Wake;
 pub use worker::Worker;

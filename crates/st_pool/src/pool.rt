@@ -8,7 +8,7 @@ use crate::pool_state::PoolState;
 use crate::work::{EndedWorker, work};
 use crate::{Gate, Machines, Runtime, Scheduler, Worker};
 use crossbeam_utils::sync::Parker;
-use st_events::Token;
+use st_events::{Message, Token};
 use st_runq::{Inlet, PutRefused, Seats};
 use std::alloc::{AllocError, Global};
 use std::sync::{Arc, Wait};
@@ -20,18 +20,21 @@ use std::{mem, thread};
 /// A pool that is let go ends its threads first: each after the turn that it is in.
 ///
 /// Ours: docs/DECISIONS.md, Pools.
-pub struct Pool<R: Threads + Wait + Drop> {
+pub struct Pool<R: Threads + Wait + Drop, C: Drop> {
     rt: R,
     alloc: Global,
     state: Arc<PoolState, Global>,
-    threads: Vec<JoinHandle<EndedWorker>>,
-    ended: Vec<Worker>,
+    threads: Vec<JoinHandle<EndedWorker<C>>>,
+    ended: Vec<Worker<C>>,
     turns: u64,
     left: Vec<Token>,
+    carried: Vec<(Token, Message<C>)>,
     ghost room: { vec_len threads + vec_len ended ≤ vec_capacity ended },
+    ghost room_left: { vec_len threads + vec_len left ≤ vec_capacity left },
+    ghost room_carried: { vec_len threads + vec_len carried ≤ vec_capacity carried },
 }
 
-impl<R: Threads + Wait + Drop> Drop for Pool<R> {
+impl<R: Threads + Wait + Drop, C: Drop> Drop for Pool<R, C> {
     fn drop(mut self) {
         self.stop();
         let Pool {
@@ -42,28 +45,37 @@ impl<R: Threads + Wait + Drop> Drop for Pool<R> {
             ended: _,
             turns: _,
             left: _,
+            carried: _,
         } = self;
     }
 }
 
-impl<R: Threads + Wait + Drop> Pool<R> {
+impl<R: Threads + Wait + Drop, C: Drop> Pool<R, C> {
     ghost use Rattle.st_pool.specs.Pool.{threads_of};
 
-    /// Ends all threads. Each gives its worker back, for which there is room.
+    /// Ends all threads. Each gives its worker back, for which there is room, and for what it carries too.
     fn stop(&mut self)
         ensures joined { threads_of self.new ≡ 0 }
         ensures ended { vec_len self.new.ended ≡ vec_len self.old.ended + threads_of self.old }
     {
         self.state.close(&self.rt);
         while let Some(thread) = self.threads.pop() {
-            let EndedWorker { worker, turns } = thread.join(&self.rt);
+            let EndedWorker { mut worker, turns } = thread.join(&self.rt);
             self.turns = self.turns.saturating_add(turns);
+            if let Some(token) = worker.transit.woken.take() {
+                self.left.push_reserved(token);
+                self.state.rest(&self.rt);
+            }
+            if let Some(carried) = worker.take_carried() {
+                self.carried.push_reserved(carried);
+                self.state.rest(&self.rt);
+            }
             self.ended.push_reserved(worker);
         }
     }
 }
 
-impl<R: Runtime> Pool<R> {
+impl<R: Runtime, C: Drop + Send + 'static> Pool<R, C> {
     ghost use Rattle.st_pool.specs.Pool.{threads_of};
 
     /// Starts 1 to 16 workers, each in a thread of its own, with no token.
@@ -77,9 +89,9 @@ impl<R: Runtime> Pool<R> {
         workers: usize,
         machines: &Arc<M, Global>,
         gate: &Arc<G, Global>,
-    ) -> Result<Pool<R>, AllocError>
+    ) -> Result<Pool<R, C>, AllocError>
     where
-        M: Machines + Drop + Send + Sync + 'static,
+        M: Machines<Content = C> + Drop + Send + Sync + 'static,
         G: Gate + Drop + Send + Sync + 'static,
         requires { (1 ≤ workers) × (workers ≤ 16) }
         ensures threads { IfOk result (λ pool. threads_of pool ≡ workers) }
@@ -102,28 +114,32 @@ impl<R: Runtime> Pool<R> {
             ended: Vec::new(alloc),
             turns: 0,
             left: Vec::new(alloc),
+            carried: Vec::new(alloc),
         };
         // From the last on, so that each worker gets the parker of its own berth.
         for started in 0..workers {
-            let (Some(seats), Some(parker)) = (seats.pop(), parkers.pop()) else {
+            let Some(seats) = seats.pop() else {
                 unreachable!()
             };
-            let worker = Worker::new(workers - 1 - started, seats);
-            pool.add(worker, parker, machines, gate)?;
+            let Some(parker) = parkers.pop() else {
+                unreachable!()
+            };
+            pool.add(workers - 1 - started, seats, parker, machines, gate)?;
         }
         Ok(pool)
     }
 
-    /// Starts a worker's thread. Before that it gets the room for the worker that comes back.
+    /// Starts the thread of the worker of this number. Before that it gets the room for the worker that comes back, and for what it carries then.
     fn add<M, G>(
         &mut self,
-        worker: Worker,
+        number: usize,
+        seats: Seats,
         parker: Parker,
         machines: &Arc<M, Global>,
         gate: &Arc<G, Global>,
     ) -> Result<(), AllocError>
     where
-        M: Machines + Drop + Send + Sync + 'static,
+        M: Machines<Content = C> + Drop + Send + Sync + 'static,
         G: Gate + Drop + Send + Sync + 'static,
         ensures added { OnOk result (threads_of self.new ≡ threads_of self.old + 1) }
     {
@@ -133,7 +149,10 @@ impl<R: Runtime> Pool<R> {
         let gate = Arc::try_clone(gate)?;
         self.threads.reserve(1)?;
         self.ended.reserve(self.threads.len() + 1)?;
+        self.left.reserve(self.threads.len() + 1)?;
+        self.carried.reserve(self.threads.len() + 1)?;
         let thread = thread::spawn(&rt, move || {
+            let worker = Worker::new(number, seats);
             work(&rt, worker, parker, &state, &*machines, &*gate)
         })?;
         self.threads.push_reserved(thread);
@@ -168,13 +187,14 @@ impl<R: Runtime> Pool<R> {
     }
 
     /// Closes the pool: no token comes in any more, each worker ends after the turn that it is in, and the tokens that
-    /// did not come to rest are handed out. A pool that was closed has none left.
+    /// did not come to rest are handed out, and the messages that workers carry, each with its token. A pool that was
+    /// closed has none left.
     ///
-    /// Where there is no memory for the list of those tokens, the pool is closed and keeps them, and the call may be made
-    /// again.
+    /// Where there is no memory for the list of those tokens, the pool is closed and keeps them with the messages, and the
+    /// call may be made again.
     ///
     /// Ours: docs/DECISIONS.md, Pools.
-    pub fn close(&mut self) -> Result<PoolEnd, AllocError>
+    pub fn close(&mut self) -> Result<PoolEnd<C>, AllocError>
         ensures joined { threads_of self.new ≡ 0 }
     {
         self.stop();
@@ -192,9 +212,11 @@ impl<R: Runtime> Pool<R> {
             }
         }
         let left = mem::replace(&mut self.left, Vec::new(self.alloc));
+        let carried = mem::replace(&mut self.carried, Vec::new(self.alloc));
         Ok(PoolEnd {
             turns: self.turns,
             left,
+            carried,
         })
     }
 }

@@ -65,8 +65,8 @@ impl PoolState {
         }
     }
 
-    /// The worker leaves a token on its own run queue.
-    fn leave_to_others(&self, number: usize) {
+    /// The worker leaves a token on its own run queue, and one that sleeps is woken.
+    pub fn leave_to_others(&self, number: usize) {
         if let Some(berth) = self.berths.get(number) {
             berth.leave_one();
             self.wake_one();
@@ -98,6 +98,11 @@ impl PoolState {
         false
     }
 
+    /// Counts a token that a delivery woke as scheduled. `false`: there are as many as can be counted.
+    pub fn count_woken<R: Wait>(&self, rt: &R) -> bool {
+        self.intake.lock(rt).count_woken()
+    }
+
     /// A token came to rest.
     pub fn rest<R: Wait>(&self, rt: &R) {
         let mut intake = self.intake.lock(rt);
@@ -106,7 +111,7 @@ impl PoolState {
         }
     }
 
-    /// Waits until each token that was scheduled has come to rest.
+    /// Waits until each token that was scheduled or woken has come to rest.
     pub fn drain<R: Wait>(&self, rt: &R) {
         let intake = self
             .drained

@@ -1,8 +1,8 @@
 //! What a worker's thread does.
-ghost use Rattle.std.specs.Prelude.{◌≡◌, ℕ, min, ◌⊎◌, true, false};
+ghost use Rattle.std.specs.Prelude.{◌≡◌, ℕ, min, ◌⊎◌, true, false, None, IfSome};
 ghost use Rattle.st_runq.specs.Ends.{put_of};
-ghost use Rattle.st_pool.specs.Round.{Holds, FindsNone, served_at};
-ghost use Rattle.st_pool.specs.Thread.{MakesRounds};
+ghost use Rattle.st_pool.specs.Round.{Holds, FindsNone, HoldsWhatCarries, GivesWoken, StaysSame, served_at};
+ghost use Rattle.st_pool.specs.Thread.{MakesRounds, Concludes};
 
 use crate::pool_state::PoolState;
 use crate::served::Served;
@@ -10,22 +10,28 @@ use crate::{Gate, Machines, Runtime, Worker};
 use crossbeam_utils::sync::Parker;
 use std::thread;
 
-/// A worker whose thread has ended, and how many turns it made.
+/// A worker whose thread has ended, and how many turns it made. Where it carries a message, it has a token.
 #[derive(Drop)]
-pub struct EndedWorker {
-    pub worker: Worker,
+pub struct EndedWorker<C> {
+    pub worker: Worker<C>,
     pub turns: u64,
+    ghost carrying: { HoldsWhatCarries worker },
 }
 
 /// Makes rounds until the pool closes, and sleeps where there is nothing to serve.
+///
+/// What a delivery woke is counted and put on the worker's run queue before the token that was served may go on: so who
+/// waits until all rest does not miss it.
 pub fn work<R: Runtime, M: Machines, G: Gate>(
     rt: &R,
-    mut worker: Worker,
+    mut worker: Worker<M::Content>,
     parker: Parker,
     state: &PoolState,
     machines: &M,
     gate: &G,
-) -> EndedWorker
+) -> EndedWorker<M::Content>
+    requires woken { worker.transit.woken ≡ None }
+    requires carrying { HoldsWhatCarries worker }
     ensures rounds { (n : ℕ) × (result.turns ≡ min n u64.MAX) × MakesRounds (served_at G.moment M.served) worker n result.worker }
 {
     let mut turns = 0u64;
@@ -43,16 +49,65 @@ pub fn work<R: Runtime, M: Machines, G: Gate>(
             continue;
         };
         turns = turns.saturating_add(1);
-        requeued = served == Served::Requeued;
-        if served == Served::Rested {
-            state.rest(rt);
-        }
+        let Some(is_requeued) = conclude(rt, &mut worker, state, served) else {
+            break;
+        };
+        requeued = is_requeued;
     }
     EndedWorker { worker, turns }
 }
 
+/// What follows a turn: what a delivery woke is put on the worker's run queue, and then the token that was served goes on.
+/// Answers whether that was put there too. `None`: the pool closed before the woken one could be put.
+fn conclude<R: Runtime, C>(
+    rt: &R,
+    worker: &mut Worker<C>,
+    state: &PoolState,
+    served: Served,
+) -> Option<bool>
+    requires carrying { HoldsWhatCarries worker.old }
+    ensures puts { Concludes worker.old worker.new }
+    ensures carrying { HoldsWhatCarries worker.new }
+    ensures woken { IfSome result (λ _. worker.new.transit.woken ≡ None) }
+{
+    let is_given = give_woken(rt, worker, state);
+    // The count of what was woken before this one: whoever waits until all rest does not miss it.
+    if served == Served::Rested {
+        state.rest(rt);
+    }
+    if !is_given {
+        return None;
+    }
+    Some(served == Served::Requeued || worker.put_back())
+}
+
+/// Puts the token that a delivery woke, if there is one, on the worker's run queue, and leaves it to the others. Where that
+/// is refused, it is put again until the pool closes. `false`: that came first, and the token is where it was.
+fn give_woken<R: Runtime, C>(rt: &R, worker: &mut Worker<C>, state: &PoolState) -> bool
+    ensures given { GivesWoken worker.old worker.new ⊎ StaysSame worker.old worker.new }
+    ensures woken { result ≡ true → worker.new.transit.woken ≡ None }
+{
+    if worker.transit.woken.is_none() {
+        return true;
+    }
+    let mut is_counted = false;
+    for _ in rt.forever() {
+        // The count before the put: once it stands there, another may serve it and come to rest.
+        is_counted = is_counted || state.count_woken(rt);
+        if is_counted && worker.give_woken() {
+            state.leave_to_others(worker.number);
+            return true;
+        }
+        if state.is_closing() {
+            break;
+        }
+        thread::yield_now();
+    }
+    false
+}
+
 /// Takes a token, where the worker has none, and tells the others what that leaves them. `false`: there was none.
-fn look<R: Runtime>(rt: &R, worker: &mut Worker, state: &PoolState, requeued: bool) -> bool
+fn look<R: Runtime, C>(rt: &R, worker: &mut Worker<C>, state: &PoolState, requeued: bool) -> bool
     ensures put { put_of worker.new.lane ≡ put_of worker.old.lane }
     ensures found { result ≡ true → Holds worker.old worker.new }
 
@@ -64,7 +119,7 @@ fn look<R: Runtime>(rt: &R, worker: &mut Worker, state: &PoolState, requeued: bo
 }
 
 /// Announces that the worker is about to sleep, looks once more, and sleeps if there is still nothing.
-fn sleep<R: Runtime>(rt: &R, worker: &mut Worker, parker: &Parker, state: &PoolState)
+fn sleep<R: Runtime, C>(rt: &R, worker: &mut Worker<C>, parker: &Parker, state: &PoolState)
     ensures { (Holds worker.old worker.new × (put_of worker.new.lane ≡ put_of worker.old.lane)) ⊎ FindsNone worker.old worker.new ⊎ (worker.new ≡ worker.old) }
 {
     let Some(berth) = state.berth(worker.number) else {

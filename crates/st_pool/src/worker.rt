@@ -1,23 +1,23 @@
 //! A worker, which takes tokens and serves them.
-ghost use Rattle.std.specs.Prelude.{◌≡◌, ℕ, None, IfSome, IfNone, map, true, false};
+ghost use Rattle.std.specs.Prelude.{◌≡◌, if◌then◌else◌, is_some, ℕ, Some, None, IfSome, IfNone, map, true, false};
 ghost use Rattle.st_runq.specs.Ends.{put_of, robbed_of, stolen_of};
-ghost use Rattle.st_pool.specs.Round.{taken_lists, TakesOne, HasSameQueues, Holds, Serves, FindsNone, served_at};
+ghost use Rattle.st_pool.specs.Round.{taken_lists, TakesOne, HasSameQueues, Holds, Serves, FindsNone, HoldsWhatCarries, GivesWoken, PutsBack, StaysSame, served_at};
 
 use crate::found::{Found, Source};
 use crate::served::Served;
-use crate::{Gate, Machines, serve_one};
-use st_events::Token;
+use crate::{Gate, Hand, Machines, serve_one};
+use st_events::{Message, Token};
 use st_runq::{Lane, Seats, Shared, Thief};
 use std::sync::Wait;
 
 /// Of so many tokens that a worker takes, it looks for one on the shared run queue first.
 const SHARED_FIRST: u8 = 61;
 
-/// A worker: its number, what it has of the run queues, and the token that it has.
+/// A worker: its number, what it has of the run queues, the token that it has, and what it carries.
 ///
 /// Ours: docs/DECISIONS.md, Workers.
 #[derive(Drop)]
-pub struct Worker {
+pub struct Worker<C> {
     /// Its number, from 0 on.
     pub number: usize,
     /// Its own end of its own run queue.
@@ -28,19 +28,22 @@ pub struct Worker {
     pub shared: Shared,
     /// The token that it has, and serves before it takes another.
     pub hand: Option<Token>,
+    /// What it carries beside that token.
+    pub transit: Hand<C>,
     until_shared: u8,
 }
 
-impl Worker {
+impl<C> Worker<C> {
     ghost use Rattle.st_runq.specs.declared.seats.Seats.{Seats};
 
-    /// A worker of this number without a token.
+    /// A worker of this number without a token, which carries nothing.
     ///
     /// Ours: docs/DECISIONS.md, Workers.
-    pub fn new(number: usize, seats: Seats) -> Worker
+    pub fn new(number: usize, seats: Seats) -> Worker<C>
         ensures number { result.number ≡ number }
         ensures queues { record { lane = result.lane; thieves = result.thieves; shared = result.shared } ≡ seats }
         ensures hand { result.hand ≡ None }
+        ensures transit { result.transit ≡ record { message = None; woken = None } }
     {
         let Seats {
             lane,
@@ -53,6 +56,7 @@ impl Worker {
             thieves,
             shared,
             hand: None,
+            transit: Hand::new(),
             until_shared: SHARED_FIRST - 1,
         }
     }
@@ -92,15 +96,24 @@ impl Worker {
         }
     }
 
-    /// Serves the token that it has, or else one that it takes as `look` does. `false`: there was none.
+    /// Serves the token that it has, or else one that it takes as `look` does. `false`: there was none. The caller sees to
+    /// it that no woken token is in the worker's hand.
     ///
-    /// A token that is to be served again goes on its own run queue; where that refuses it, for want of memory, it stays
-    /// with the worker, which serves it next.
+    /// A token that is to be served again goes on its own run queue. It stays with the worker, which serves it next, where
+    /// the queue refuses it for want of memory, and as long as the turn left a message or a woken token in the hand: from
+    /// the queue another worker might take it. A woken token is the caller's to put on the worker's own queue.
     ///
     /// Ours: docs/DECISIONS.md, Workers.
-    pub fn round<R: Wait, M: Machines, G: Gate>(&mut self, rt: &R, machines: &M, gate: &G) -> bool
+    pub fn round<R: Wait, M: Machines<Content = C>, G: Gate>(
+        &mut self,
+        rt: &R,
+        machines: &M,
+        gate: &G,
+    ) -> bool
+        requires woken { self.old.transit.woken ≡ None }
         ensures same { HasSameQueues self.old self.new }
         ensures served { result ≡ true → Serves (served_at G.moment M.served) self.old self.new }
+        ensures carrying { result ≡ true → HoldsWhatCarries self.new }
 
         ensures none { result ≡ false → FindsNone self.old self.new }
     {
@@ -108,14 +121,16 @@ impl Worker {
     }
 
     /// The same, which says what came of the token.
-    pub(crate) fn serve_next<R: Wait, M: Machines, G: Gate>(
+    pub(crate) fn serve_next<R: Wait, M: Machines<Content = C>, G: Gate>(
         &mut self,
         rt: &R,
         machines: &M,
         gate: &G,
     ) -> Option<Served>
+        requires woken { self.old.transit.woken ≡ None }
         ensures same { HasSameQueues self.old self.new }
         ensures served { IfSome result (λ _. Serves (served_at G.moment M.served) self.old self.new) }
+        ensures carrying { IfSome result (λ _. HoldsWhatCarries self.new) }
 
         ensures none { IfNone result (FindsNone self.old self.new) }
     {
@@ -127,24 +142,69 @@ impl Worker {
             },
         };
         gate.before(self.number, token);
-        let answer = serve_one(machines, token, gate.now());
+        let answer = serve_one(machines, token, gate.now(), &mut self.transit);
         gate.after(self.number, token);
-        self.hand = None;
-        let Some(token) = answer else {
+        self.hand = answer;
+        if answer.is_none() {
             return Some(Served::Rested);
-        };
-        match self.lane.put_local(token) {
-            Ok(()) => Some(Served::Requeued),
-            Err(refused) => {
-                self.hand = Some(refused.0);
-                Some(Served::Held)
-            }
         }
+        if self.transit.woken.is_none() && self.put_back() {
+            return Some(Served::Requeued);
+        }
+        Some(Served::Held)
+    }
+
+    /// Puts the token that it has on its own run queue, unless it carries a message. `false`: the token is where it was.
+    pub(crate) fn put_back(&mut self) -> bool
+        ensures put { result ≡ true → PutsBack self.old self.new }
+
+        ensures refused { result ≡ false → StaysSame self.old self.new }
+    {
+        let Some(token) = self.hand else {
+            return false;
+        };
+        if self.transit.message.is_some() || self.lane.put_local(token).is_err() {
+            return false;
+        }
+        self.hand = None;
+        true
+    }
+
+    /// Puts the token that a delivery woke on its own run queue. `false`: that refused it, for want of memory, and the
+    /// token is where it was; or there was none.
+    pub(crate) fn give_woken(&mut self) -> bool
+        ensures put { result ≡ true → GivesWoken self.old self.new }
+
+        ensures refused { result ≡ false → StaysSame self.old self.new }
+    {
+        let Some(token) = self.transit.woken else {
+            return false;
+        };
+        if self.lane.put_local(token).is_err() {
+            return false;
+        }
+        self.transit.woken = None;
+        true
+    }
+
+    /// Takes the message that it carries, with the token that it has. `None`: it carries none.
+    pub(crate) fn take_carried(&mut self) -> Option<(Token, Message<C>)>
+        requires carrying { HoldsWhatCarries self.old }
+        ensures taken { IfSome result (λ carried. (self.old.hand ≡ Some carried.0) × (self.old.transit.message ≡ Some carried.1)) }
+        ensures left { self.new ≡ record self.old { hand = if is_some self.old.transit.message then None else self.old.hand; transit = record self.old.transit { message = None } } }
+
+        ensures none { IfNone result (self.old.transit.message ≡ None) }
+    {
+        let message = self.transit.message.take()?;
+        let Some(token) = self.hand.take() else {
+            unreachable!()
+        };
+        Some((token, message))
     }
 
     /// A token of some run queue.
     fn find<R: Wait>(&mut self, rt: &R) -> Option<Found>
-        ensures same { HasSameQueues self.old self.new × (self.new.hand ≡ self.old.hand) × (put_of self.new.lane ≡ put_of self.old.lane) }
+        ensures same { HasSameQueues self.old self.new × (self.new.hand ≡ self.old.hand) × (self.new.transit ≡ self.old.transit) × (put_of self.new.lane ≡ put_of self.old.lane) }
         ensures some { IfSome result (λ found. TakesOne (taken_lists self.old) found.token (taken_lists self.new)) }
 
         ensures none { IfNone result (taken_lists self.new ≡ taken_lists self.old) }
@@ -172,7 +232,7 @@ impl Worker {
 
     /// A token of the shared run queue, where it is the time to ask that one first.
     fn find_shared_first<R: Wait>(&mut self, rt: &R) -> Option<Token>
-        ensures same { HasSameQueues self.old self.new × (self.new.hand ≡ self.old.hand) × (put_of self.new.lane ≡ put_of self.old.lane) }
+        ensures same { HasSameQueues self.old self.new × (self.new.hand ≡ self.old.hand) × (self.new.transit ≡ self.old.transit) × (put_of self.new.lane ≡ put_of self.old.lane) }
         ensures some { IfSome result (λ token. TakesOne (taken_lists self.old) token (taken_lists self.new)) }
 
         ensures none { IfNone result (taken_lists self.new ≡ taken_lists self.old) }

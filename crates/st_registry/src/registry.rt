@@ -165,11 +165,11 @@ impl<M: Module> Registry<M> {
         self.directory.is_empty()
     }
 
-    /// Removes a machine that has ended, and its name, if one is registered; the other names keep their order. Whoever has
-    /// the machine keeps it; its id names none any more, for good.
+    /// Removes a machine that has ended and of which no message is left, and its name, if one is registered; the other names
+    /// keep their order. Whoever has the machine keeps it; its id names none any more, for good.
     ///
-    /// Refused with `NoSuchMachine` where the id names none now, and with `NotStopped` where the machine has not ended;
-    /// then nothing changes.
+    /// Refused with `NoSuchMachine` where the id names none now, and with `NotStopped` where the machine has not ended or a
+    /// message of it was not taken out; then nothing changes.
     ///
     /// Ours: docs/DECISIONS.md, Directories.
     pub fn remove_stopped<R: Wait>(&mut self, rt: &R, id: MachineId) -> Result<(), Refusal>

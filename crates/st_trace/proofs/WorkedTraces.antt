@@ -1,5 +1,5 @@
 -- Traces computed on examples, byte by byte.
-use Rattle.std.proofs.Common.{◌≡◌, ℕ, Bool, true, false, Some, None, Ok, List, [], ◌∷◌, ◌++◌, codes, length, ◌+◌, refl}
+use Rattle.std.proofs.Common.{◌≡◌, ℕ, Bool, true, false, Some, Ok, List, [], ◌∷◌, ◌++◌, codes, length, ◌+◌, refl}
 use Rattle.std.specs.Fmt.{digits}
 use Rattle.st_events.specs.declared.kind.Kind.{Kind}
 use Rattle.st_events.specs.declared.kind.Kind.TheVariants as kind
@@ -22,6 +22,7 @@ use Rattle.st_core.specs.declared.entry.Entry.{Entry}
 use Rattle.st_core.specs.declared.entry.Entry.TheVariants as entry
 use Rattle.st_core.specs.declared.turned.Turned.TheVariants.{Reported}
 use Rattle.st_cell.specs.declared.journal_entry.JournalEntry.{JournalEntry}
+use Rattle.st_cell.specs.declared.source.Source.TheVariants as source
 use Rattle.st_trace.specs.Trace.{entry_line, trace_of}
 use Rattle.st_trace.specs.Totals.{totals_of}
 
@@ -41,7 +42,7 @@ id = record { slot = 0; serial = 1 }
 
 -- an entry, by its number, of an event that port 1 posted, which got a number
 abbrev posts : ℕ → Entry → ℕ → JournalEntry Bool ℕ
-posts place how number = record { number = place; port = Some 1; command = command.Post how 7; answer = answer.Post (Ok number) }
+posts place how number = record { number = place; source = source.Port 1; command = command.Post how 7; answer = answer.Post (Ok number) }
 
 -- the event time-out is set
 abbrev event_timer : List (Timer × Decision)
@@ -56,7 +57,7 @@ state_timer = (timer.State, decision.Set (After 10000)) ∷ []
 abbrev turns : ℕ → ℕ → ℕ → Kind → Bool → Bool → Done → List (Timer × Decision) → JournalEntry Bool ℕ
 turns place now number kind before after done set = record {
   number = place;
-  port = None;
+  source = source.Caller;
   command = command.Turn now;
   answer = answer.Turn (Ok (Reported (record {
     event = Some number;
@@ -73,7 +74,7 @@ turns place now number kind before after done set = record {
 
 -- an entry that is no post and no turn
 abbrev tells : ℕ → Command ℕ → Answer Bool ℕ → JournalEntry Bool ℕ
-tells place told answered = record { number = place; port = None; command = told; answer = answered }
+tells place told answered = record { number = place; source = source.Caller; command = told; answer = answered }
 
 -- ---- one button of a door with a code of two
 abbrev one_button : List (JournalEntry Bool ℕ)
@@ -200,3 +201,56 @@ taken_out_is : entry_line names 5 (tells 14 command.TakeOut (answer.TakeOut (Som
     ≡ codes "        14      - take                      -          1 to 1 2\n"
 unfolding digits
 taken_out_is = refl
+
+-- ---- a machine sends a message to another, and it is delivered there
+-- an entry of a turn that handled the event of this number and kind in the locked state, set these timers and sent these
+-- messages
+abbrev sends : ℕ → ℕ → Kind → List (Timer × Decision) → List ℕ → JournalEntry Bool ℕ
+sends place number kind set sent = record {
+  number = place;
+  source = source.Caller;
+  command = command.Turn 0;
+  answer = answer.Turn (Ok (Reported (record {
+    event = Some number;
+    done = Finished;
+    calls = Handle number kind locked ∷ [];
+    before = locked;
+    after = locked;
+    replied = [];
+    inserted = [];
+    set = set;
+    sent = sent;
+  })));
+}
+
+-- the sender: its message is taken out
+abbrev of_the_sender : List (JournalEntry Bool ℕ)
+of_the_sender =
+    posts 1 entry.Cast 1
+    ∷ sends 2 1 kind.Cast [] (1 ∷ [])
+    ∷ tells 3 command.TakeOut (answer.TakeOut (Some (record { sender = id; number = 1; target = other_id; content = 3 })))
+    ∷ []
+
+sender_is : trace_of id (codes "a") 0 of_the_sender names
+    ≡ codes "machine 0 1 a\n"
+    ++ codes "         1      1 post                      -          1 cast\n"
+    ++ codes "         2      - turn                      0          1 cast locked locked finished 0 0 0 sent 1\n"
+    ++ codes "         3      - take                      -          1 to 1 2\n"
+    ++ codes "summary posts 1 turns 1 finished 1 put_off 0\n"
+unfolding digits
+sender_is = refl
+
+-- the target: the message is posted as an info, with its sender and its number in the entry
+abbrev of_the_target : List (JournalEntry Bool ℕ)
+of_the_target =
+    record { number = 1; source = source.Message id 1; command = command.Post entry.Info 3; answer = answer.Post (Ok 1) }
+    ∷ sends 2 1 kind.Info event_timer []
+    ∷ []
+
+target_is : trace_of other_id (codes "b") 0 of_the_target names
+    ≡ codes "machine 1 2 b\n"
+    ++ codes "         1      - post                      -          1 info from 0 1 1\n"
+    ++ codes "         2      - turn                      0          1 info locked locked finished 0 0 1\n"
+    ++ codes "summary posts 1 turns 1 finished 1 put_off 0\n"
+unfolding digits
+target_is = refl

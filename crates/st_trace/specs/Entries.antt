@@ -7,6 +7,8 @@ use Rattle.st_core.specs.declared.command.Command.TheVariants as command
 use Rattle.st_core.specs.declared.report.Report.{Report}
 use Rattle.st_core.specs.declared.turned.Turned.TheVariants.{Reported, Idle}
 use Rattle.st_cell.specs.declared.journal_entry.JournalEntry.{JournalEntry}
+use Rattle.st_cell.specs.declared.source.Source.{Source}
+use Rattle.st_cell.specs.declared.source.Source.TheVariants as source
 
 module _ {C : Type 0} where
   -- the word of a command
@@ -38,6 +40,12 @@ module _ {C : Type 0} where
   moment_of latest (command.Collect tag) = None
   moment_of latest (command.Stop reason) = None
   moment_of latest command.TakeOut = None
+
+-- the port that stands in the line of what came from there
+abbrev pub port_of : Source → Option ℕ
+port_of source.Caller = None
+port_of (source.Port port) = Some port
+port_of (source.Message sender number) = None
 
 module _ {S C : Type 0} where
   -- what an answer says that a turn did

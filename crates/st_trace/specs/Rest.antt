@@ -19,6 +19,8 @@ use Rattle.st_core.specs.declared.entry.Entry.{Entry}
 use Rattle.st_core.specs.declared.entry.Entry.TheVariants as entry
 use Rattle.st_core.specs.declared.report.Report.{Report}
 use Rattle.st_cell.specs.declared.journal_entry.JournalEntry.{JournalEntry}
+use Rattle.st_cell.specs.declared.source.Source.{Source}
+use Rattle.st_cell.specs.declared.source.Source.TheVariants as source
 use Rattle.st_trace.specs.Columns.{hyphen}
 use Rattle.st_trace.specs.Entries.{report_as}
 
@@ -97,6 +99,17 @@ abbrev pub out_text : {S C : Type 0} → Answer S C → List ℕ
 out_text (answer.TakeOut (Some message)) = codes "to " ++ id_text message.target
 out_text _ = hyphen
 
+-- whose message it was that was posted, and which of its sender's: what no message was has nothing here
+abbrev pub source_text : Source → List ℕ
+source_text source.Caller = []
+source_text (source.Port port) = []
+source_text (source.Message sender number) =
+    codes " from " ++ (decimal sender.slot ++ (codes " " ++ (decimal sender.serial ++ (codes " " ++ decimal number))))
+
+-- how an event was posted, and whose message it was
+abbrev pub delivered_text : Entry → Source → List ℕ
+delivered_text how source = posted_text how ++ source_text source
+
 -- how many messages a turn sent, if it sent some
 abbrev pub sent_text : List ℕ → List ℕ
 sent_text numbers = if length numbers == 0 then [] else codes " sent " ++ decimal (length numbers)
@@ -131,16 +144,16 @@ module _ {S : Type 0} where
     turned_text None = hyphen
 
     module _ {C : Type 0} where
-      -- the end of the line of a command that was answered so
-      abbrev pub rest_by : Command C → Answer S C → List ℕ
-      rest_by (command.Post how content) answered = posted_text how
-      rest_by (command.Tick now) answered = hyphen
-      rest_by (command.Turn now) answered = turned_text (report_as answered)
-      rest_by (command.Reply tag content) answered = taken_text answered
-      rest_by (command.Collect tag) answered = handed_text answered
-      rest_by (command.Stop reason) answered = stopped_text answered
-      rest_by command.TakeOut answered = out_text answered
+      -- the end of the line of a command that came from there and was answered so
+      abbrev pub rest_by : Source → Command C → Answer S C → List ℕ
+      rest_by source (command.Post how content) answered = delivered_text how source
+      rest_by source (command.Tick now) answered = hyphen
+      rest_by source (command.Turn now) answered = turned_text (report_as answered)
+      rest_by source (command.Reply tag content) answered = taken_text answered
+      rest_by source (command.Collect tag) answered = handed_text answered
+      rest_by source (command.Stop reason) answered = stopped_text answered
+      rest_by source command.TakeOut answered = out_text answered
 
       -- the end of an entry's line
       abbrev pub rest_of : JournalEntry S C → List ℕ
-      rest_of entry = rest_by entry.command entry.answer
+      rest_of entry = rest_by entry.source entry.command entry.answer

@@ -1,9 +1,9 @@
 //! What an entry of a journal tells: which command it is, a moment, and a number.
 ghost use Rattle.std.specs.Prelude.{◌≡◌};
 ghost use Rattle.st_trace.specs.Columns.{IsPlain};
-ghost use Rattle.st_trace.specs.Entries.{word_of, latest_after, moment_of, number_as, number_of};
+ghost use Rattle.st_trace.specs.Entries.{word_of, latest_after, moment_of, port_of, number_as, number_of};
 
-use st_cell::{Answer, Command, JournalEntry, Turned};
+use st_cell::{Answer, Command, JournalEntry, Source, Turned};
 
 /// The word of a command.
 pub(crate) fn word<C>(command: &Command<C>) -> &'static str
@@ -43,6 +43,16 @@ pub(crate) fn moment<C>(latest: u64, command: &Command<C>) -> Option<u64>
         Command::Tick(_) => Some(latest),
         Command::Turn(_) => Some(latest),
         _ => None,
+    }
+}
+
+/// The port that stands in the line of what came from there.
+pub(crate) fn port(source: Source) -> Option<u64>
+    ensures { result ≡ port_of source }
+{
+    match source {
+        Source::Port(port) => Some(port),
+        Source::Caller | Source::Message(_, _) => None,
     }
 }
 

@@ -3,7 +3,7 @@ ghost use Rattle.std.specs.Prelude.{◌≡◌, IfOk, string_bytes, decimal};
 ghost use Rattle.st_trace.specs.Columns.{number_or_hyphen, IsPlain};
 ghost use Rattle.st_trace.specs.Trace.{machine_line, entry_line, summary_line};
 
-use crate::entries::{moment, number, word};
+use crate::entries::{moment, number, port, word};
 use crate::rest::{HYPHEN, rest};
 use crate::{StateNames, Totals};
 use st_cell::JournalEntry;
@@ -58,7 +58,7 @@ pub fn entry_line<S: Copy, C, N: StateNames<S>>(
     ensures { IfOk result (λ text. string_bytes text ≡ entry_line (N.name_is names.now) latest entry.now) }
 {
     let place = entry.number;
-    let port = number_or_hyphen(alloc, entry.port)?;
+    let port = number_or_hyphen(alloc, port(entry.source))?;
     let word = word(&entry.command);
     let moment = number_or_hyphen(alloc, moment(latest, &entry.command))?;
     let number = number_or_hyphen(alloc, number(entry))?;

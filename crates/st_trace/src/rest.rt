@@ -1,10 +1,10 @@
 //! What stands at the end of an entry's line.
 ghost use Rattle.std.specs.Prelude.{◌≡◌, IfOk, string_bytes};
-ghost use Rattle.st_trace.specs.Rest.{posted_text, timer_text, kind_text, done_text, handled_text, counts_text, numbers_text, report_text, taken_text, collected_text, handed_text, stopped_text, sent_text, out_text, turned_text, rest_of};
+ghost use Rattle.st_trace.specs.Rest.{posted_text, source_text, delivered_text, timer_text, kind_text, done_text, handled_text, counts_text, numbers_text, report_text, taken_text, collected_text, handed_text, stopped_text, sent_text, out_text, turned_text, rest_of};
 ghost use Rattle.st_trace.specs.Entries.{report_as};
 
 use crate::StateNames;
-use st_cell::{Answer, Collected, Command, Entry, JournalEntry, Report, Turned};
+use st_cell::{Answer, Collected, Command, Entry, JournalEntry, Report, Source, Turned};
 use st_core::{Call, Calls, Done};
 use st_events::{Kind, PlainList, Timer};
 use std::alloc::{AllocError, Global};
@@ -21,6 +21,30 @@ fn posted(entry: Entry) -> &'static str
         Entry::Cast => "cast",
         Entry::Info => "info",
     }
+}
+
+/// Whose message it was that was posted, and which of its sender's: what no message was has nothing here.
+fn origin(alloc: Global, source: Source) -> Result<String, AllocError>
+    ensures { IfOk result (λ text. string_bytes text ≡ source_text source) }
+{
+    match source {
+        Source::Message(sender, number) => {
+            let slot = sender.slot;
+            let serial = sender.serial;
+            format!(in alloc; " from {slot} {serial} {number}")
+        }
+        Source::Caller | Source::Port(_) => Ok(String::new(alloc)),
+    }
+}
+
+/// How an event was posted, and whose message it was.
+fn delivered(alloc: Global, entry: Entry, source: Source) -> Result<String, AllocError>
+    ensures { IfOk result (λ text. string_bytes text ≡ delivered_text entry source) }
+{
+    let origin = origin(alloc, source)?;
+    let mut text = String::from_str(alloc, posted(entry))?;
+    text.push_str(origin.as_str())?;
+    Ok(text)
 }
 
 /// Which time-out an event is.
@@ -196,7 +220,7 @@ pub(crate) fn rest<S: Copy, C, N: StateNames<S>>(
     ensures { IfOk result (λ text. string_bytes text ≡ rest_of (N.name_is names.now) entry.now) }
 {
     match &entry.command {
-        Command::Post(how, _) => String::from_str(alloc, posted(*how)),
+        Command::Post(how, _) => delivered(alloc, *how, entry.source),
         Command::Tick(_) => String::from_str(alloc, HYPHEN),
         Command::Turn(_) => turned(alloc, names, &entry.answer),
         Command::Reply(_, _) => String::from_str(alloc, taken(&entry.answer)),

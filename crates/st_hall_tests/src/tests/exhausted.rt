@@ -46,7 +46,7 @@ fn posted(rt: &impl Abort, threads: &impl Wait, machine: &Arc<Machine<Plain>>) -
 fn goes_round<R: Runtime>(
     rt: &impl Abort,
     threads: R,
-    pool: &Pool<R>,
+    pool: &Pool<R, u32>,
     gate: &Turnstile,
     machine: &Machine<Plain>,
 ) {

@@ -4,20 +4,20 @@ use super::cast::posts;
 use super::host::{Host, got, holds};
 use super::mark::Mark;
 use super::plain::Plain;
-use st_hall::{Hall, MachineId, Refusal, Token};
+use st_hall::{Hall, Hand, MachineId, Refusal, Token};
 use std::process::Abort;
 use std::sync::{Arc, Wait};
 
 /// Serves a machine that has two events by its token. A turn at a moment that is too late leaves the token outstanding.
 fn is_served_twice<R: Wait + Drop>(rt: &impl Abort, hall: &Hall<Plain, R>, token: Token) {
-    let late = hall.serve(token, 1 << 63);
+    let late = hall.serve(token, 1 << 63, &mut Hand::new());
     holds(rt, "it is too late for a turn", late.token == Some(token));
     holds(rt, "it says so", late.refusal == Some(Refusal::Moment));
-    let first = hall.turn(token, 5);
+    let first = hall.turn(token, 5, &mut Hand::new());
     holds(rt, "one more event waits", first == Some(token));
-    let second = hall.turn(token, 5);
+    let second = hall.turn(token, 5, &mut Hand::new());
     holds(rt, "no event waits", second == None);
-    let third = hall.serve(token, 5);
+    let third = hall.serve(token, 5, &mut Hand::new());
     holds(rt, "the token was retired", third.token == None);
     let is_told = third.refusal == Some(Refusal::NotQueued);
     holds(rt, "it says so too", is_told);
@@ -71,7 +71,7 @@ fn a_machine_is_found_served_and_removed(rt: HostRuntime) {
     let (_, second) = posts(&rt, &threads, &mut port);
     holds(&rt, "the tokens differ", second != first);
     is_removed(&rt, &threads, &hall, id, "front");
-    holds(&rt, "its token rests", hall.turn(second, 5) == None);
+    holds(&rt, "its token rests", hall.turn(second, 5, &mut Hand::new()) == None);
     holds(&rt, "it is empty at last", hall.is_empty());
     drop(port);
     drop(hall);

@@ -26,7 +26,7 @@ pub struct Work {
 fn casts_all<R: Runtime>(
     rt: &impl Abort,
     threads: R,
-    pool: &Pool<R>,
+    pool: &Pool<R, u32>,
     ports: &mut Vec<Port<Plain>>,
     work: Work,
 ) {

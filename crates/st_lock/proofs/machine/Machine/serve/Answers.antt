@@ -1,0 +1,6 @@
+use Rattle.std.proofs.Common.{rules}
+use Rattle.st_lock.proofs.machine.Machine.serve.Goals as goal
+
+-- the cell that lay under the lock answers so
+pub returns-clause-does : goal.returns-clause-does
+returns-clause-does g c = (c.deref_mut.result.now.cell, c.serve-answer.new.self.cell, record { own = search rules; journaled = search rules }, c.serve-answer.ensures.does)
