@@ -1,5 +1,5 @@
 -- What the module of the load does with each kind of work.
-use Rattle.std.specs.Prelude.{ℕ, zero, suc, Bool, true, false, List, [], ◌∷◌, ◌++◌, ◌+◌, nat_lt, if◌then◌else◌}
+use Rattle.std.specs.Prelude.{ℕ, zero, suc, Bool, true, false, List, [], ◌∷◌, ◌++◌, ◌+◌, ◌-◌, ◌==◌, nat_lt, if◌then◌else◌}
 use Rattle.st_events.specs.declared.action.Action.{Action}
 use Rattle.st_events.specs.declared.action.Action.TheVariants as action
 use Rattle.st_events.specs.declared.kind.Kind.{Kind}
@@ -31,6 +31,16 @@ answer_to asked = elim asked as (λ k. List (Action Work)) [
   | kind.Internal ↦ []
 ]
 
+-- the place that follows one in a ring, whose last place this is
+abbrev pub next_place : ℕ → ℕ → ℕ
+next_place here last = if nat_lt here last then here + 1 else 0
+
+-- a message is sent to the next machine of the ring, unless it was passed on often enough
+abbrev pub passed : ℕ → ℕ → ℕ → List (Action Work)
+passed left here last =
+    let next = next_place here last in
+    if left == 0 then [] else action.Send (record { slot = next; serial = next + 1 }) (work.Pass (left - 1) next last) ∷ []
+
 -- the actions that a piece of work asks for in a state
 abbrev pub actions_of : Kind → Work → ℕ → List (Action Work)
 actions_of asked content state = elim content as (λ w. List (Action Work)) [
@@ -44,6 +54,7 @@ actions_of asked content state = elim content as (λ w. List (Action Work)) [
   | work.Cancel number ↦ action.Set (timer.Named number) time.Infinity work.Keep ∷ []
   | work.Update number ↦ action.Update (timer.Named number) work.Keep ∷ []
   | work.Send serial ↦ action.Send (record { slot = 0; serial = serial }) work.Keep ∷ []
+  | work.Pass left here last ↦ passed left here last
 ]
 
 -- whether a piece of work leads to another state
@@ -59,6 +70,7 @@ leads_on content state = elim content as (λ w. Bool) [
   | work.Cancel number ↦ false
   | work.Update number ↦ false
   | work.Send serial ↦ false
+  | work.Pass left here last ↦ false
 ]
 
 -- the outcome: the next state, or both are kept

@@ -12,7 +12,7 @@ use crate::robbed_queue::RobbedQueue;
 use crate::rounds::rounds;
 use crate::shared::{Shared, cast_in_threads, share};
 use crate::shared_queue::SharedQueue;
-use crate::workers::{call_to_pool, cast_to_pool, insert_by_workers};
+use crate::workers::{call_to_pool, cast_to_pool, insert_by_workers, pass_by_workers};
 use st_core::{Core, MachineId, Refusal};
 use st_pool::Runtime;
 use st_runq::Lane;
@@ -100,10 +100,17 @@ pub enum Line {
     TwoWorkers,
     /// The same by four workers.
     FourWorkers,
+    /// A message that is handed round a ring of so many machines, so often, served by a pool of one worker: the entries of
+    /// the journals are counted.
+    RingByOne,
+    /// The same by two workers.
+    RingByTwo,
+    /// The same by four workers.
+    RingByFour,
 }
 
 /// Each line by its name.
-pub const LINES: [(&str, Line); 35] = [
+pub const LINES: [(&str, Line); 38] = [
     ("casts", Line::Casts),
     ("casts-beside", Line::CastsBeside),
     ("casts-with-ticks", Line::CastsWithTicks),
@@ -139,6 +146,9 @@ pub const LINES: [(&str, Line); 35] = [
     ("pool-1", Line::OneWorker),
     ("pool-2", Line::TwoWorkers),
     ("pool-4", Line::FourWorkers),
+    ("ring-1", Line::RingByOne),
+    ("ring-2", Line::RingByTwo),
+    ("ring-4", Line::RingByFour),
 ];
 
 impl Line {
@@ -161,6 +171,9 @@ impl Line {
             Line::PoolCasts | Line::PoolCalls => self.done_by_client(rt, alloc, count, more),
             Line::OneWorker | Line::TwoWorkers | Line::FourWorkers => {
                 self.done_by_workers(rt, alloc, count, more)
+            }
+            Line::RingByOne | Line::RingByTwo | Line::RingByFour => {
+                self.done_round(rt, alloc, count, more)
             }
             _ => self.done_by_one(alloc, count, more),
         }
@@ -296,6 +309,21 @@ impl Line {
             Line::OneWorker => insert_by_workers(rt, alloc, 1, count, more),
             Line::TwoWorkers => insert_by_workers(rt, alloc, 2, count, more),
             _ => insert_by_workers(rt, alloc, 4, count, more),
+        }
+    }
+
+    /// Does a line of a ring of machines that workers serve.
+    fn done_round<R: Runtime>(
+        self,
+        rt: R,
+        alloc: Global,
+        count: u32,
+        more: u32,
+    ) -> Result<u64, Refusal> {
+        match self {
+            Line::RingByOne => pass_by_workers(rt, alloc, 1, count, more),
+            Line::RingByTwo => pass_by_workers(rt, alloc, 2, count, more),
+            _ => pass_by_workers(rt, alloc, 4, count, more),
         }
     }
 

@@ -3,7 +3,7 @@ ghost use Rattle.std.specs.Prelude.{◌≡◌, false, [], ◌∷◌, IfOk};
 ghost use Rattle.std.proofs.Common.{rules};
 ghost use Rattle.st_events.specs.declared.enter_outcome.EnterOutcome.TheVariants as enter_outcome;
 ghost use Rattle.st_events.specs.declared.init.Init.TheVariants as init;
-ghost use Rattle.bench.specs.Loaded.{settings_below, inserts_of, answer_to, actions_of, leads_on, loaded};
+ghost use Rattle.bench.specs.Loaded.{settings_below, inserts_of, answer_to, passed, actions_of, leads_on, loaded};
 
 use st_core::{
     Action, Actions, EnterActions, EnterOutcome, Init, Kind, MachineId, Module, Outcome, Reason,
@@ -37,6 +37,9 @@ pub enum Work {
     Update(u32),
     /// A message is sent to the machine with this serial.
     Send(u64),
+    /// A message that is to be passed on so often yet is sent from this place of a ring to the next one, and from this last
+    /// place to the first.
+    Pass(u32, u32, u32),
 }
 
 /// A machine that does what it is told. Its states are numbers from 0 on; its data is 0.
@@ -84,6 +87,21 @@ fn answer(alloc: Global, kind: Kind) -> Result<Actions<Work>, AllocError>
     }
 }
 
+/// A message is sent to the next machine of a ring, unless it was passed on often enough.
+fn passed(alloc: Global, left: u32, here: u32, last: u32) -> Result<Actions<Work>, AllocError>
+    ensures { IfOk result (λ actions. actions ≡ passed left here last) }
+{
+    if left == 0 {
+        return Ok(Actions::new(alloc));
+    }
+    let next = if here < last { here + 1 } else { 0 };
+    let to = MachineId {
+        slot: next as usize,
+        serial: next as u64 + 1,
+    };
+    one(alloc, Action::Send(to, Work::Pass(left - 1, next, last)))
+}
+
 /// The actions that a piece of work asks for in a state.
 fn actions(
     alloc: Global,
@@ -112,6 +130,7 @@ fn actions(
             alloc,
             Action::Send(MachineId { slot: 0, serial }, Work::Keep),
         ),
+        Work::Pass(left, here, last) => passed(alloc, left, here, last),
     }
 }
 

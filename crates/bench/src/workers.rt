@@ -67,6 +67,38 @@ fn insert_each<R: Wait, W: Wake>(
     Ok(())
 }
 
+/// How many entries the journals of the machines of some ports have.
+fn entries<R: Wait>(rt: &R, ports: &mut Vec<Port<Load>>) -> Result<u64, Refusal> {
+    let mut entries = 0u64;
+    for port in ports.iter_mut() {
+        entries = entries.saturating_add(port.look(rt)?.entries);
+    }
+    Ok(entries)
+}
+
+/// So many workers hand a message round a ring of so many machines, so often. It answers how many entries the journals
+/// have then: three a message, for it is posted, handled and passed on, and two for that which begins it.
+pub fn pass_by_workers<R: Runtime>(
+    rt: R,
+    alloc: Global,
+    workers: usize,
+    count: u32,
+    many: u32,
+) -> Result<u64, Refusal>
+    requires { (1 ≤ workers) × (workers ≤ 16) }
+{
+    let (hall, mut ports) = filled(rt, alloc, many)?;
+    let mut pool = pool(rt, alloc, workers, &hall)?;
+    let work = Work::Pass(count, 0, many.saturating_sub(1));
+    if let Some(port) = ports.first_mut() {
+        if let Err(refused) = cast(&rt, port, &pool.scheduler()?, work) {
+            return Err(refused.refusal);
+        }
+    }
+    turns(&mut pool)?;
+    entries(&rt, &mut ports)
+}
+
 /// So many workers serve so many machines, each of which handles an event that inserts so many others, and those. It
 /// answers how many turns the workers made.
 pub fn insert_by_workers<R: Runtime>(

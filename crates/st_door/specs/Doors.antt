@@ -126,10 +126,15 @@ is_recorded (answer.Stop (Ok word)) = true
 is_recorded (answer.Stop (Err refusal)) = false
 is_recorded (answer.TakeOut message) = is_some message
 
--- where a command comes from: a post comes by the door's one port
+-- where a command comes from: a post comes by the door's one port, all else from who calls the door
 abbrev pub source_of : Command DoorContent → Source
 source_of (command.Post entry content) = source.Port 1
-source_of _ = source.Caller
+source_of (command.Tick moment) = source.Caller
+source_of (command.Turn moment) = source.Caller
+source_of (command.Reply tag content) = source.Caller
+source_of (command.Collect tag) = source.Caller
+source_of (command.Stop reason) = source.Caller
+source_of command.TakeOut = source.Caller
 
 -- the entry of a command that was answered so, with this number, if it is kept
 abbrev pub recorded : ℕ → Command DoorContent → DoorAnswer → List DoorEntry

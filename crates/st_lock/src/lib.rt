@@ -16,7 +16,6 @@ pub use room::MachineRoom;
 pub use service::Service;
 pub use st_cell::{
     Answer, Cell, Collected, Command, Core, Entry, Journal, JournalEntry, Look, MachineId, Message,
-    Module,
-    Next, PlainList, Post, Posted, Reason, Refusal, Refused, Report, Snapshot, Tag, Ticked, Token,
-    Turned,
+    Module, Next, PlainList, Post, Posted, Reason, Refusal, Refused, Report, Snapshot, Source, Tag,
+    Ticked, Token, Turned,
 };
