@@ -1,5 +1,6 @@
 -- What a round of a worker does.
 use Rattle.std.specs.Prelude.{◌≡◌, ◌⊎◌, ◌<◌, ◌++◌, ℕ, List, [], ◌∷◌, length, map, Option, Some, None, IsSome, slice_set, slice_index_or}
+use Rattle.st_events.specs.declared.message.Message.{Message}
 use Rattle.st_events.specs.declared.token.Token.{Token}
 use Rattle.st_runq.specs.Ends.{lane_of, put_of, taken_of, robbed_of, stolen_of, source_of, fetched_of}
 use Rattle.st_runq.specs.RunQueue.{Entry}
@@ -72,3 +73,9 @@ PutsBack old new = (token : Token) × (old.hand ≡ Some token) × (old.transit.
 abbrev pub StaysSame : {C : Type 0} → Worker C → Worker C → Type 0
 StaysSame old new = HasSameQueues old new × (taken_lists new ≡ taken_lists old) × (put_of new.lane ≡ put_of old.lane)
     × (new.hand ≡ old.hand) × (new.transit ≡ old.transit)
+
+-- the message that is carried, with the token
+abbrev pub carried_by : {C : Type 0} → Option Token → Option (Message C) → List (Token × Message C)
+carried_by (Some token) (Some message) = (token, message) ∷ []
+carried_by (Some token) None = []
+carried_by None message = []

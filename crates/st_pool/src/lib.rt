@@ -1,4 +1,5 @@
-//! The workers: each takes a token and serves it, which is one turn of its machine. A pool runs them in threads.
+//! The workers: each takes a token and serves it, which is one turn of its machine, and carries what the turn leaves in its
+//! hand. A pool runs them in threads.
 //! It knows nothing of what a turn does, and of a machine nothing but its token.
 #![tactic(auto)]
 

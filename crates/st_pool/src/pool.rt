@@ -62,12 +62,8 @@ impl<R: Threads + Wait + Drop, C: Drop> Pool<R, C> {
         while let Some(thread) = self.threads.pop() {
             let EndedWorker { mut worker, turns } = thread.join(&self.rt);
             self.turns = self.turns.saturating_add(turns);
-            if let Some(token) = worker.transit.woken.take() {
-                self.left.push_reserved(token);
-                self.state.rest(&self.rt);
-            }
-            if let Some(carried) = worker.take_carried() {
-                self.carried.push_reserved(carried);
+            let tokens = worker.hand_over(&mut self.left, &mut self.carried);
+            for _ in 0..tokens {
                 self.state.rest(&self.rt);
             }
             self.ended.push_reserved(worker);
@@ -129,7 +125,8 @@ impl<R: Runtime, C: Drop + Send + 'static> Pool<R, C> {
         Ok(pool)
     }
 
-    /// Starts the thread of the worker of this number. Before that it gets the room for the worker that comes back, and for what it carries then.
+    /// Starts the thread of the worker of this number. Before that it gets the room for the worker that comes back, and for
+    /// what it carries then.
     fn add<M, G>(
         &mut self,
         number: usize,

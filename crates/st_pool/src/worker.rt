@@ -1,7 +1,7 @@
 //! A worker, which takes tokens and serves them.
-ghost use Rattle.std.specs.Prelude.{◌≡◌, if◌then◌else◌, is_some, ℕ, Some, None, IfSome, IfNone, map, true, false};
+ghost use Rattle.std.specs.Prelude.{◌≡◌, ◌+◌, ◌<◌, ◌≤◌, ◌++◌, if◌then◌else◌, ℕ, length, map, Some, None, is_some, option_to_list, IfSome, IfNone, vec_len, vec_capacity, true, false};
 ghost use Rattle.st_runq.specs.Ends.{put_of, robbed_of, stolen_of};
-ghost use Rattle.st_pool.specs.Round.{taken_lists, TakesOne, HasSameQueues, Holds, Serves, FindsNone, HoldsWhatCarries, GivesWoken, PutsBack, StaysSame, served_at};
+ghost use Rattle.st_pool.specs.Round.{taken_lists, TakesOne, HasSameQueues, Holds, Serves, FindsNone, HoldsWhatCarries, GivesWoken, PutsBack, StaysSame, carried_by, served_at};
 
 use crate::found::{Found, Source};
 use crate::served::Served;
@@ -187,19 +187,36 @@ impl<C> Worker<C> {
         true
     }
 
-    /// Takes the message that it carries, with the token that it has. `None`: it carries none.
-    pub(crate) fn take_carried(&mut self) -> Option<(Token, Message<C>)>
+    /// Hands over what it carries: a woken token, and a message with the token that it has. Answers how many tokens these
+    /// are.
+    pub(crate) fn hand_over(
+        &mut self,
+        left: &mut Vec<Token>,
+        carried: &mut Vec<(Token, Message<C>)>,
+    ) -> u32
         requires carrying { HoldsWhatCarries self.old }
-        ensures taken { IfSome result (λ carried. (self.old.hand ≡ Some carried.0) × (self.old.transit.message ≡ Some carried.1)) }
-        ensures left { self.new ≡ record self.old { hand = if is_some self.old.transit.message then None else self.old.hand; transit = record self.old.transit { message = None } } }
-
-        ensures none { IfNone result (self.old.transit.message ≡ None) }
+        requires room_left { vec_len left.old < vec_capacity left.old }
+        requires room_carried { vec_len carried.old < vec_capacity carried.old }
+        ensures left { left.new.items ≡ left.old.items ++ option_to_list self.old.transit.woken }
+        ensures carried { carried.new.items ≡ carried.old.items ++ carried_by self.old.hand self.old.transit.message }
+        ensures tokens { length left.new.items + length carried.new.items ≡ length left.old.items + length carried.old.items + result }
+        ensures rest { self.new ≡ record self.old { hand = if is_some self.old.transit.message then None else self.old.hand; transit = record { message = None; woken = None } } }
+        ensures capacity { (vec_capacity left.new ≡ vec_capacity left.old) × (vec_capacity carried.new ≡ vec_capacity carried.old) }
+        ensures at_most { (vec_len left.new ≤ vec_len left.old + 1) × (vec_len carried.new ≤ vec_len carried.old + 1) }
     {
-        let message = self.transit.message.take()?;
+        let mut tokens = 0u32;
+        if let Some(token) = self.transit.woken.take() {
+            left.push_reserved(token);
+            tokens += 1;
+        }
+        let Some(message) = self.transit.message.take() else {
+            return tokens;
+        };
         let Some(token) = self.hand.take() else {
             unreachable!()
         };
-        Some((token, message))
+        carried.push_reserved((token, message));
+        tokens + 1
     }
 
     /// A token of some run queue.

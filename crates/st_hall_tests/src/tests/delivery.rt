@@ -116,7 +116,7 @@ fn a_delivery_that_finds_no_memory_is_made_again(rt: HostRuntime) {
     let woken = serves_to_rest(&rt, &hall, token, &mut hand);
     let wanted = Token {
         machine: target,
-        wake: 0,
+        wake: 1,
     };
     holds(&rt, "its target is woken", woken == Some(wanted));
     holds(&rt, "nothing is carried", hand.message.is_none());

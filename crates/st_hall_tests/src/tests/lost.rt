@@ -62,7 +62,7 @@ fn a_message_wakes_its_target(rt: HostRuntime) {
     let mut port = ring_port(&rt, &threads, &hall, sender);
     let token = Token {
         machine: target,
-        wake: 0,
+        wake: 1,
     };
     casts_one(&rt, &threads, &hall, &mut port, Some(token));
     casts_one(&rt, &threads, &hall, &mut port, None);

@@ -1,5 +1,5 @@
 //! Machines that count their turns.
-use st_pool::{MachineId, Machines, Token};
+use st_pool::{Hand, MachineId, Machines, Token};
 use std::alloc::{AllocError, Global};
 use std::sync::Arc;
 use std::sync::atomic::{AtomicU64, Ordering};
@@ -57,11 +57,16 @@ impl Counted {
 }
 
 impl Machines for Counted {
+    type Content = u64;
+
     ghost use Rattle.std.specs.Prelude.{◌≡◌, IfSome};
 
     ghost served = { λ token now answer. IfSome answer (λ back. back ≡ token) };
 
-    fn turn(&self, token: Token, _now: u64) -> Option<Token> {
+    fn turn(&self, token: Token, _now: u64, hand: &mut Hand<u64>) -> Option<Token> {
+        if hand.message.is_some() {
+            return Some(token);
+        }
         let turns = self.turns.get(token.machine.slot)?;
         if turns.fetch_add(1, Ordering::SeqCst).saturating_add(1) < self.each {
             Some(token)

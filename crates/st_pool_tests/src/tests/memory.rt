@@ -1,11 +1,13 @@
 //! A pool where one allocation is refused: nothing is lost, nobody hangs, and the call is made again.
 use super::counted::{Counted, token};
+use super::flood::Flood;
 use super::host::{Host, holds, same};
 use super::silent::Silent;
 use super::started::{closes, schedules, started, times};
 use std::alloc::Global;
 use std::process::Abort;
 use std::sync::Arc;
+use std::thread;
 
 /// Machines that never rest. Where there is no memory, they are made again.
 fn endless(rt: &Host<impl Abort>, alloc: Global, count: usize) -> Arc<Counted> {
@@ -60,5 +62,51 @@ fn a_refused_call_loses_no_token(rt: HostRuntime) {
         "the second close finds none left",
         again.left.is_empty(),
     );
+    rt.end();
+}
+
+/// Machines of which one wakes so many others. Where there is no memory, they are made again.
+fn flood(rt: &Host<impl Abort>, alloc: Global, most: u64) -> Arc<Flood> {
+    match Flood::new(alloc, most) {
+        Ok(machines) => machines,
+        Err(_) => {
+            rt.retry();
+            Flood::new(alloc, most).expect(rt, "one allocation alone is refused")
+        }
+    }
+}
+
+/// Waits until so many are woken, or gives up.
+pub fn waits_until_woken(machines: &Flood, count: u64) {
+    for _ in 0..1_000_000 {
+        if machines.woken() == count {
+            return;
+        }
+        thread::yield_now();
+    }
+}
+
+#[test]
+fn a_woken_token_that_finds_no_room_is_not_lost(rt: HostRuntime) {
+    let threads = rt;
+    let rt = Host::new(rt);
+    let machines = flood(&rt, rt.alloc(), 200);
+    let gate = silent(&rt, rt.alloc());
+    let mut pool = started(&rt, threads, 2, &machines, &gate);
+    schedules(&rt, &pool, 0, 1);
+    waits_until_woken(&machines, 200);
+    let end = closes(&rt, &mut pool);
+    let woken = machines.woken();
+    let left = (woken as usize).saturating_add(1);
+    same(&rt, "all are left", &end.left.len(), &left);
+    for slot in 0..left {
+        same(
+            &rt,
+            "each is left once",
+            &times(end.left.as_slice(), token(slot)),
+            &1,
+        );
+    }
+    same(&rt, "all were woken", &woken, &200);
     rt.end();
 }

@@ -1,7 +1,7 @@
 //! Machines and a gate in one, which note what they are told.
 ghost use Rattle.std.specs.Prelude.{◌≡◌};
 
-use st_pool::{Gate, Machines, Token};
+use st_pool::{Gate, Hand, Machines, Token};
 use std::sync::atomic::{AtomicU64, Ordering};
 
 /// Notes the moment of the last turn, and the worker that was named before it and behind it. Each machine rests after its
@@ -50,11 +50,14 @@ impl Gate for Noted {
 }
 
 impl Machines for Noted {
+    type Content = u64;
+
     ghost use Rattle.std.specs.Prelude.{None};
 
     ghost served = { λ token now answer. answer ≡ None };
 
-    fn turn(&self, _token: Token, now: u64) -> Option<Token> {
+    fn turn(&self, _token: Token, now: u64, hand: &mut Hand<u64>) -> Option<Token> {
+        hand.message = None;
         self.moment.store(now, Ordering::SeqCst);
         None
     }

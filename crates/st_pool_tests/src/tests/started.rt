@@ -1,21 +1,24 @@
 //! Pools of a test, and what is asked of them.
 ghost use Rattle.std.specs.Prelude.{◌≤◌};
 
-use super::counted::{Counted, token};
+use super::counted::token;
 use super::host::{Host, got, holds, same};
-use st_pool::{Gate, Pool, PoolEnd, PutRefused, Runtime, Token};
+use st_pool::{Gate, Machines, Pool, PoolEnd, PutRefused, Runtime, Token};
 use std::alloc::Global;
 use std::process::Abort;
 use std::sync::Arc;
 
 /// A pool of so many workers. Where it finds no memory, it is started again.
-pub fn started<R: Runtime, G: Gate + Drop + Send + Sync + 'static>(
+pub fn started<R: Runtime, M, G>(
     rt: &Host<impl Abort + AllocGlobal>,
     threads: R,
     workers: usize,
-    machines: &Arc<Counted>,
+    machines: &Arc<M>,
     gate: &Arc<G>,
-) -> Pool<R>
+) -> Pool<R, u64>
+where
+    M: Machines<Content = u64> + Drop + Send + Sync + 'static,
+    G: Gate + Drop + Send + Sync + 'static,
     requires { (1 ≤ workers) × (workers ≤ 16) }
 {
     match Pool::start(threads, rt.alloc(), workers, machines, gate) {
@@ -31,7 +34,7 @@ pub fn started<R: Runtime, G: Gate + Drop + Send + Sync + 'static>(
 }
 
 /// Schedules the token of each slot from one up to another. One that finds no memory comes back, and is scheduled again.
-pub fn schedules<R: Runtime>(rt: &Host<impl Abort>, pool: &Pool<R>, first: usize, end: usize) {
+pub fn schedules<R: Runtime>(rt: &Host<impl Abort>, pool: &Pool<R, u64>, first: usize, end: usize) {
     for slot in first..end {
         if let Err(refused) = pool.schedule(token(slot)) {
             same(
@@ -51,7 +54,7 @@ pub fn schedules<R: Runtime>(rt: &Host<impl Abort>, pool: &Pool<R>, first: usize
 }
 
 /// Closes a pool. Where it finds no memory, it is closed again.
-pub fn closes<R: Runtime>(rt: &Host<impl Abort>, pool: &mut Pool<R>) -> PoolEnd {
+pub fn closes<R: Runtime>(rt: &Host<impl Abort>, pool: &mut Pool<R, u64>) -> PoolEnd<u64> {
     match pool.close() {
         Ok(end) => end,
         Err(_) => {

@@ -3,13 +3,13 @@ use super::counted::{Counted, token};
 use super::host::{Host, holds, same};
 use super::noted::Noted;
 use super::silent::Silent;
-use st_pool::{Worker, serve_one};
+use st_pool::{Gate, Hand, Machines, Worker, serve_one};
 use st_runq::{Inlet, PutRefused, Seats};
 use std::process::Abort;
 use std::sync::Wait;
 
 /// Workers over an empty shared run queue, numbered from 0 on.
-fn workers(rt: &Host<impl Abort + AllocGlobal>, count: usize) -> (Inlet, Vec<Worker>) {
+pub fn workers(rt: &Host<impl Abort + AllocGlobal>, count: usize) -> (Inlet, Vec<Worker<u64>>) {
     let inlet = Inlet::new(rt.alloc()).expect(rt, "a shared queue");
     let all = Seats::for_workers(rt.alloc(), &inlet, count).expect(rt, "seats");
     let mut workers = Vec::new(rt.alloc());
@@ -22,6 +22,22 @@ fn workers(rt: &Host<impl Abort + AllocGlobal>, count: usize) -> (Inlet, Vec<Wor
     (inlet, workers)
 }
 
+/// A worker in whose hand no woken token is goes one round.
+pub fn goes_round<M: Machines<Content = u64>, G: Gate>(
+    rt: &Host<impl Abort>,
+    wait: &impl Wait,
+    worker: &mut Worker<u64>,
+    machines: &M,
+    gate: &G,
+) -> bool {
+    holds(
+        rt,
+        "nothing that was woken is left",
+        worker.transit.woken.is_none(),
+    );
+    worker.round(wait, machines, gate)
+}
+
 #[test]
 fn a_token_is_served_by_one_turn(rt: HostRuntime) {
     let rt = Host::with_memory(rt);
@@ -30,14 +46,14 @@ fn a_token_is_served_by_one_turn(rt: HostRuntime) {
     same(
         &rt,
         "it comes back for a turn",
-        &serve_one(&*machines, own, 5),
+        &serve_one(&*machines, own, 5, &mut Hand::new()),
         &Some(own),
     );
     same(&rt, "one turn is made", &machines.turns_of(1), &1);
     same(
         &rt,
         "it rests after its last turn",
-        &serve_one(&*machines, own, 5),
+        &serve_one(&*machines, own, 5, &mut Hand::new()),
         &None,
     );
     same(&rt, "a second turn is made", &machines.turns_of(1), &2);
@@ -50,7 +66,7 @@ fn a_token_is_served_by_one_turn(rt: HostRuntime) {
     same(
         &rt,
         "no machine, no turn",
-        &serve_one(&*machines, token(2), 5),
+        &serve_one(&*machines, token(2), 5, &mut Hand::new()),
         &None,
     );
     rt.end_with_memory();
@@ -68,7 +84,7 @@ fn a_round_serves_a_token_of_another_worker(rt: HostRuntime) {
     holds(
         &rt,
         "there is no token yet",
-        !own.round(&wait, &*machines, &Silent),
+        !goes_round(&rt, &wait, &mut own, &*machines, &Silent),
     );
     same(
         &rt,
@@ -79,7 +95,7 @@ fn a_round_serves_a_token_of_another_worker(rt: HostRuntime) {
     holds(
         &rt,
         "it is robbed and served",
-        own.round(&wait, &*machines, &Silent),
+        goes_round(&rt, &wait, &mut own, &*machines, &Silent),
     );
     same(&rt, "that was one turn", &machines.turns_of(0), &1);
     same(
@@ -93,19 +109,19 @@ fn a_round_serves_a_token_of_another_worker(rt: HostRuntime) {
     holds(
         &rt,
         "nothing is left for the other",
-        !other.round(&wait, &*machines, &Silent),
+        !goes_round(&rt, &wait, &mut other, &*machines, &Silent),
     );
     holds(
         &rt,
         "what is in the hand is served",
-        own.round(&wait, &*machines, &Silent),
+        goes_round(&rt, &wait, &mut own, &*machines, &Silent),
     );
     same(&rt, "the hand is empty", &own.hand, &None);
     same(&rt, "that was its last turn", &machines.turns_of(0), &2);
     holds(
         &rt,
         "no token comes back",
-        !own.round(&wait, &*machines, &Silent),
+        !goes_round(&rt, &wait, &mut own, &*machines, &Silent),
     );
     rt.end_with_memory();
 }
@@ -119,7 +135,11 @@ fn a_turn_has_the_gates_moment_and_its_workers_number(rt: HostRuntime) {
     let mut worker = all.pop().expect(&rt, "a second worker");
     let put = worker.lane.put_local(token(0));
     same(&rt, "it gets a token", &put, &Ok(()));
-    holds(&rt, "it serves it", worker.round(&wait, &noted, &noted));
+    holds(
+        &rt,
+        "it serves it",
+        goes_round(&rt, &wait, &mut worker, &noted, &noted),
+    );
     same(&rt, "moment and worker", &noted.told(), &(7, 1, 1));
     rt.end_with_memory();
 }
@@ -128,7 +148,7 @@ fn a_turn_has_the_gates_moment_and_its_workers_number(rt: HostRuntime) {
 fn makes_rounds(
     rt: &Host<impl Abort>,
     wait: &impl Wait,
-    worker: &mut Worker,
+    worker: &mut Worker<u64>,
     machines: &Counted,
     count: u64,
 ) {
@@ -136,7 +156,7 @@ fn makes_rounds(
         holds(
             rt,
             "each round serves a token",
-            worker.round(wait, machines, &Silent),
+            goes_round(rt, wait, worker, machines, &Silent),
         );
     }
 }

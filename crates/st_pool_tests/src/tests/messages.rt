@@ -1,0 +1,366 @@
+//! What workers do with the messages that they carry, and with the tokens that deliveries wake.
+ghost use Rattle.std.specs.Prelude.{◌≤◌};
+
+use super::counted::token;
+use super::eager::Eager;
+use super::flood::Flood;
+use super::host::{Host, holds, same};
+use super::mail::Mail;
+use super::meeting::Meeting;
+use super::memory::waits_until_woken;
+use super::ring::Ring;
+use super::silent::Silent;
+use super::slow::Slow;
+use super::started::{closes, schedules, started, times};
+use super::workers::{goes_round, workers};
+use st_pool::{Gate, Hand, Pool, PoolEnd, Runtime, serve_one};
+use std::process::Abort;
+use std::sync::Arc;
+use std::thread;
+
+/// So many senders send so many messages each to so many targets, by so many workers, and so many rounds anew. Each message
+/// is refused so many times.
+#[derive(Clone, Copy)]
+struct Sending {
+    workers: usize,
+    senders: usize,
+    targets: usize,
+    each: u64,
+    refusals: u64,
+    rounds: u32,
+}
+
+/// All messages arrive, in order, and whoever drains the pool misses none.
+fn all_arrive<R: Runtime, G: Gate + Drop + Send + Sync + 'static>(
+    rt: &Host<impl Abort + AllocGlobal>,
+    threads: R,
+    gate: &Arc<G>,
+    sending: Sending,
+)
+    requires { (1 ≤ sending.workers) × (sending.workers ≤ 16) }
+{
+    let Sending {
+        workers,
+        senders,
+        targets,
+        each,
+        refusals,
+        rounds,
+    } = sending;
+    let mail = Mail::new(rt.alloc(), senders, targets, each, refusals).expect(rt, "machines");
+    let mut pool = started(rt, threads, workers, &mail, gate);
+    let all = (senders as u64).saturating_mul(each);
+    for _ in 0..rounds {
+        mail.begin_anew();
+        schedules(rt, &pool, 0, senders);
+        pool.drain();
+        same(rt, "all were handled once drained", &mail.handled(), &all);
+    }
+    let end = closes(rt, &mut pool);
+    same(rt, "none came out of turn", &mail.faults(), &0);
+    holds(rt, "no token is left", end.left.is_empty());
+    holds(rt, "no message is carried", end.carried.is_empty());
+}
+
+#[test]
+fn messages_arrive_once_and_in_order(rt: HostRuntime) {
+    let threads = rt;
+    let rt = Host::with_memory(rt);
+    let gate = Silent::new(rt.alloc()).expect(&rt, "a gate");
+    let sending = Sending {
+        workers: 4,
+        senders: 100,
+        targets: 1,
+        each: 10,
+        refusals: 0,
+        rounds: 20,
+    };
+    all_arrive(&rt, threads, &gate, sending);
+    let sending = Sending {
+        workers: 1,
+        senders: 100,
+        targets: 100,
+        each: 10,
+        refusals: 0,
+        rounds: 1,
+    };
+    all_arrive(&rt, threads, &gate, sending);
+    let sending = Sending {
+        workers: 3,
+        senders: 50,
+        targets: 7,
+        each: 20,
+        refusals: 0,
+        rounds: 20,
+    };
+    all_arrive(&rt, threads, &gate, sending);
+    rt.end_with_memory();
+}
+
+#[test]
+fn a_message_refused_at_first_arrives_all_the_same(rt: HostRuntime) {
+    let threads = rt;
+    let rt = Host::with_memory(rt);
+    let gate = Silent::new(rt.alloc()).expect(&rt, "a gate");
+    let sending = Sending {
+        workers: 4,
+        senders: 20,
+        targets: 3,
+        each: 10,
+        refusals: 3,
+        rounds: 20,
+    };
+    all_arrive(&rt, threads, &gate, sending);
+    let sending = Sending {
+        workers: 1,
+        senders: 20,
+        targets: 3,
+        each: 10,
+        refusals: 1,
+        rounds: 1,
+    };
+    all_arrive(&rt, threads, &gate, sending);
+    rt.end_with_memory();
+}
+
+#[test]
+fn whoever_drains_waits_for_what_was_woken(rt: HostRuntime) {
+    let threads = rt;
+    let rt = Host::with_memory(rt);
+    let gate = Slow::new(rt.alloc()).expect(&rt, "a gate");
+    let sending = Sending {
+        workers: 2,
+        senders: 1,
+        targets: 1,
+        each: 1,
+        refusals: 0,
+        rounds: 500,
+    };
+    all_arrive(&rt, threads, &gate, sending);
+    rt.end_with_memory();
+}
+
+#[test]
+fn what_was_woken_is_left_to_the_others(rt: HostRuntime) {
+    let threads = rt;
+    let rt = Host::with_memory(rt);
+    let machines = Eager::new(rt.alloc()).expect(&rt, "machines");
+    let gate = Meeting::new(rt.alloc(), 2).expect(&rt, "a gate");
+    let mut pool = started(&rt, threads, 2, &machines, &gate);
+    // Both workers are to sleep first.
+    for _ in 0..200_000 {
+        thread::yield_now();
+    }
+    for _ in 0..200 {
+        gate.begin_anew();
+        schedules(&rt, &pool, 0, 1);
+        pool.drain();
+    }
+    same(&rt, "none waits in vain", &gate.gave_up(), &0);
+    same(
+        &rt,
+        "each made its turns",
+        &closes(&rt, &mut pool).turns,
+        &800,
+    );
+    rt.end_with_memory();
+}
+
+#[test]
+fn what_was_woken_is_served_before_more_is(rt: HostRuntime) {
+    let threads = rt;
+    let rt = Host::with_memory(rt);
+    let machines = Flood::new(rt.alloc(), 200).expect(&rt, "machines");
+    let gate = Silent::new(rt.alloc()).expect(&rt, "a gate");
+    let mut pool = started(&rt, threads, 1, &machines, &gate);
+    schedules(&rt, &pool, 0, 1);
+    waits_until_woken(&machines, 200);
+    let end = closes(&rt, &mut pool);
+    same(&rt, "all are left", &end.left.len(), &201);
+    same(
+        &rt,
+        "the first had its turn at once",
+        &machines.served_at(),
+        &1,
+    );
+    rt.end_with_memory();
+}
+
+/// A ring goes round so many times, so many turns each time. Whoever drains the pool finds it at its end.
+fn goes_to_its_end<R: Runtime>(
+    rt: &Host<impl Abort + AllocGlobal>,
+    threads: R,
+    workers: usize,
+    turns: u64,
+    rounds: u32,
+)
+    requires { (1 ≤ workers) × (workers ≤ 16) }
+{
+    let ring = Ring::new(rt.alloc(), 10).expect(rt, "machines");
+    let gate = Silent::new(rt.alloc()).expect(rt, "a gate");
+    let mut pool = started(rt, threads, workers, &ring, &gate);
+    for _ in 0..rounds {
+        ring.begin_anew(turns);
+        schedules(rt, &pool, 0, 1);
+        pool.drain();
+        same(rt, "no turn is left once drained", &ring.left(), &0);
+    }
+    let end = closes(rt, &mut pool);
+    let all = turns.saturating_mul(u64::from(rounds));
+    same(rt, "so many turns were made", &end.turns, &all);
+    holds(rt, "no token is left", end.left.is_empty());
+}
+
+#[test]
+fn a_ring_goes_to_its_end(rt: HostRuntime) {
+    let threads = rt;
+    let rt = Host::with_memory(rt);
+    goes_to_its_end(&rt, threads, 1, 10_000, 1);
+    goes_to_its_end(&rt, threads, 1, 20, 1_000);
+    goes_to_its_end(&rt, threads, 2, 20, 1_000);
+    goes_to_its_end(&rt, threads, 16, 20, 100);
+    rt.end_with_memory();
+}
+
+/// Waits until so many workers carry a message, or gives up.
+fn waits_until_carried(mail: &Mail, count: u64) {
+    for _ in 0..10_000_000 {
+        if mail.carried() == count {
+            return;
+        }
+        thread::yield_now();
+    }
+}
+
+/// Each message that is carried stands there with its sender's token, which is not left.
+fn are_carried(rt: &Host<impl Abort>, end: &PoolEnd<u64>) {
+    for (own, message) in &end.carried {
+        same(rt, "with its sender's token", &message.sender, &own.machine);
+        same(
+            rt,
+            "which is not left",
+            &times(end.left.as_slice(), *own),
+            &0,
+        );
+    }
+}
+
+#[test]
+fn a_close_hands_out_what_is_carried(rt: HostRuntime) {
+    let threads = rt;
+    let rt = Host::with_memory(rt);
+    let mail = Mail::new(rt.alloc(), 10, 1, 5, u64::MAX).expect(&rt, "machines");
+    let gate = Silent::new(rt.alloc()).expect(&rt, "a gate");
+    let mut pool = started(&rt, threads, 3, &mail, &gate);
+    schedules(&rt, &pool, 0, 10);
+    waits_until_carried(&mail, 3);
+    let end = closes(&rt, &mut pool);
+    pool.drain();
+    same(&rt, "each worker carries one", &end.carried.len(), &3);
+    are_carried(&rt, &end);
+    same(&rt, "the other tokens are left", &end.left.len(), &7);
+    same(&rt, "the others wait", &mail.waiting(), &47);
+    same(&rt, "none was delivered", &mail.delivered(), &0);
+    same(&rt, "none came out of turn", &mail.faults(), &0);
+    let again = closes(&rt, &mut pool);
+    holds(&rt, "none is carried twice", again.carried.is_empty());
+    holds(&rt, "none is left twice", again.left.is_empty());
+    rt.end_with_memory();
+}
+
+/// Each message is delivered, carried, or waits with its sender.
+fn are_all_there(rt: &Host<impl Abort>, mail: &Mail, end: &PoolEnd<u64>, all: u64) {
+    same(
+        rt,
+        "none is lost, and none comes twice",
+        &mail
+            .delivered()
+            .saturating_add(end.carried.len() as u64)
+            .saturating_add(mail.waiting()),
+        &all,
+    );
+    same(rt, "none came out of turn", &mail.faults(), &0);
+    are_carried(rt, end);
+}
+
+#[test]
+fn a_close_in_the_midst_loses_no_message(rt: HostRuntime) {
+    let threads = rt;
+    let rt = Host::with_memory(rt);
+    let gate = Silent::new(rt.alloc()).expect(&rt, "a gate");
+    for _ in 0..100 {
+        let mail = Mail::new(rt.alloc(), 100, 60, 20, 1).expect(&rt, "machines");
+        let mut pool = started(&rt, threads, 4, &mail, &gate);
+        schedules(&rt, &pool, 0, 100);
+        let end = closes(&rt, &mut pool);
+        are_all_there(&rt, &mail, &end, 2_000);
+    }
+    rt.end_with_memory();
+}
+
+#[test]
+fn a_token_stays_with_the_worker_that_carries(rt: HostRuntime) {
+    let wait = rt;
+    let rt = Host::with_memory(rt);
+    let mail = Mail::new(rt.alloc(), 1, 1, 1, 1).expect(&rt, "machines");
+    let (_inlet, mut all) = workers(&rt, 2);
+    let mut other = all.pop().expect(&rt, "a second worker");
+    let mut own = all.pop().expect(&rt, "a first worker");
+    let put = own.lane.put_local(token(0));
+    same(&rt, "it gets a token", &put, &Ok(()));
+    holds(
+        &rt,
+        "its message is refused",
+        goes_round(&rt, &wait, &mut own, &*mail, &Silent),
+    );
+    holds(&rt, "it carries it", own.transit.message.is_some());
+    same(&rt, "and has the token", &own.hand, &Some(token(0)));
+    holds(&rt, "which nobody steals", !other.look(&wait));
+    holds(
+        &rt,
+        "its message is delivered",
+        goes_round(&rt, &wait, &mut own, &*mail, &Silent),
+    );
+    holds(&rt, "it carries none", own.transit.message.is_none());
+    same(
+        &rt,
+        "but what was woken",
+        &own.transit.woken.take(),
+        &Some(token(1)),
+    );
+    same(&rt, "and has the token", &own.hand, &Some(token(0)));
+    holds(&rt, "which nobody steals", !other.look(&wait));
+    holds(
+        &rt,
+        "the sender rests",
+        goes_round(&rt, &wait, &mut own, &*mail, &Silent),
+    );
+    same(&rt, "the hand is empty", &own.hand, &None);
+    same(&rt, "one arrived", &mail.delivered(), &1);
+    rt.end_with_memory();
+}
+
+#[test]
+fn a_message_in_the_hand_is_served_first(rt: HostRuntime) {
+    let rt = Host::with_memory(rt);
+    let mail = Mail::new(rt.alloc(), 1, 1, 2, 1).expect(&rt, "machines");
+    let mut hand = Hand::new();
+    same(
+        &rt,
+        "the token comes back with a message",
+        &serve_one(&*mail, token(0), 5, &mut hand),
+        &Some(token(0)),
+    );
+    same(&rt, "one is carried", &mail.carried(), &1);
+    hand.woken = None;
+    same(
+        &rt,
+        "the token comes back without one",
+        &serve_one(&*mail, token(0), 5, &mut hand),
+        &Some(token(0)),
+    );
+    same(&rt, "it was delivered", &mail.delivered(), &1);
+    same(&rt, "none is carried", &mail.carried(), &0);
+    same(&rt, "one waits", &mail.waiting(), &1);
+    rt.end_with_memory();
+}
