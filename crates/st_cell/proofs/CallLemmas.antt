@@ -1,7 +1,6 @@
 -- What a call answers and leaves, by what the machine was told and by the entry that was written.
 use Rattle.std.proofs.Common.{◌≡◌, ℕ, inl, inr, Bool, true, false, if◌then◌else◌, Option, Some, None, List, [], ◌∷◌, ◌++◌, refl, sym, ap, subst, ◌∙◌, ◌&&◌, length, arith, append-nil}
 use Rattle.std.specs.Prelude.{is_some, is_none, is_err, Result, Ok, Err, OnOk, IfErr}
-use Rattle.st_events.specs.declared.message.Message.{Message}
 use Rattle.st_events.specs.declared.refusal.Refusal.{Refusal}
 use Rattle.st_events.specs.declared.refusal.Refusal.TheVariants.{NoMemory}
 use Rattle.st_events.specs.declared.refused.Refused.{Refused}
@@ -19,15 +18,15 @@ use Rattle.st_scheduled.specs.declared.step_answer.StepAnswer.{StepAnswer}
 use Rattle.st_scheduled.specs.declared.step_answer.StepAnswer.TheVariants as step
 use Rattle.st_scheduled.specs.Answered.{is_counted}
 use Rattle.st_scheduled.specs.ScheduledMachine.{ScheduledMachine, is_token_of, has_event, has_message}
-use Rattle.st_scheduled.specs.Serving.{content_of, refused_with, takes_memory_as, is_turn, retired, served_idle, told_on, served_on, Tells, Serves}
-use Rattle.st_scheduled.proofs.CountLemmas.{takes_counted, turn_counted}
+use Rattle.st_scheduled.specs.Serving.{content_of, refused_with, takes_memory_as, retired, served_idle, told_on, served_on, Serves}
+use Rattle.st_scheduled.proofs.CountLemmas.{turn_counted}
 use Rattle.st_cell.specs.declared.journal_entry.JournalEntry.{JournalEntry}
 use Rattle.st_cell.specs.declared.next.Next.{Next}
 use Rattle.st_cell.specs.declared.next.Next.TheVariants.{Again, Rest}
 use Rattle.st_cell.specs.declared.source.Source.{Source}
 use Rattle.st_cell.specs.declared.source.Source.TheVariants as source
 use Rattle.st_cell.specs.Cell.{CellState, JournaledState, HasRoom}
-use Rattle.st_cell.specs.Calls.{kept_answer, entry_of, call_takes_memory, with_entry, done_as, next_as, given_as, MeetsCall, IsTold, IsServed, TurnsBy, Turns, TakesOutBy, TakesOut}
+use Rattle.st_cell.specs.Calls.{kept_answer, entry_of, call_takes_memory, with_entry, done_as, next_as, MeetsCall, IsServed, TurnsBy, Turns}
 
 -- a call that found no memory has no entry
 no_entry_for : {S C : Type 0} (entries : List (JournalEntry S C)) (number : ℕ) (source : Source) (command : Command C) (answer : StepAnswer S C)
@@ -119,16 +118,6 @@ module _ {M S D C : Type 0} (callbacks : M → Callbacks S D C) where
   turn_refused old new token now refusal answer own served done =
       turns_own (is_token_of token old.scheduled) old new token now (Err (record { refusal = refusal; value = token })) own answer served
       (sym (next_refused token answer (is_some new.scheduled.token) refusal done))
-
-  -- a take-out by the machine's token
-  takes_own : (own : Bool) (old new : CellState M S D C) (token : Token) (result : Result (Option (Message C)) (Refused Token)) → own ≡ true
-      → IsTold callbacks old command.TakeOut (given_as result) new → TakesOutBy callbacks own old token result new
-  takes_own true old new token result own told = told
-  takes_own false old new token result own told = let same : false ≡ true = own in cc
-
-  pub takes_done : (old new : CellState M S D C) (token : Token) (result : Result (Option (Message C)) (Refused Token)) → is_token_of token old.scheduled ≡ true
-      → IsTold callbacks old command.TakeOut (given_as result) new → TakesOut callbacks old token result new
-  takes_done old new token result own told = takes_own (is_token_of token old.scheduled) old new token result own told
 
   -- the machine was served, and nothing was written, for what it answered was not counted
   pub served_unwritten : (old new : CellState M S D C) (now : ℕ) (answer : StepAnswer S C) → Serves callbacks old.scheduled now answer new.scheduled

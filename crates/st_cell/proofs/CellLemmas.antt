@@ -458,7 +458,7 @@ module _ {M S D C : Type 0} where
     posts_open old new port entry content answer (inr none) = ap (λ (cell : CellState M S D C). length cell.ports) none.2
 
     -- by another command
-    pub told_by_ports : (old new : CellState M S D C) (source : Source) (command : Command C) (answer : StepAnswer S C)
+    told_by_ports : (old new : CellState M S D C) (source : Source) (command : Command C) (answer : StepAnswer S C)
         → IsToldBy callbacks old source command answer new → new.ports ≡ old.ports
     told_by_ports old new source command answer (inl done) = ap (λ (cell : CellState M S D C). cell.ports) done.1
     told_by_ports old new source command answer (inr none) = ap (λ (cell : CellState M S D C). cell.ports) none.2

@@ -1,5 +1,5 @@
 -- What each call does to the posts of ports: a post that is taken is one more of its port, and every other call posts nothing.
-use Rattle.std.proofs.Common.{◌≡◌, ℕ, inl, inr, Bool, true, false, if◌then◌else◌, Option, Some, None, [], ◌∷◌, ◌++◌, refl, sym, ap, ◌∙◌, eq-eqb}
+use Rattle.std.proofs.Common.{◌≡◌, ℕ, inl, inr, Bool, true, false, if◌then◌else◌, Option, [], ◌∷◌, ◌++◌, refl, sym, ap, ◌∙◌, eq-eqb}
 use Rattle.std.specs.Prelude.{Result, Ok, Err, IfOk}
 use Rattle.st_events.specs.declared.message.Message.{Message}
 use Rattle.st_events.specs.declared.refused.Refused.{Refused}

@@ -214,10 +214,7 @@ impl<M: Module> Cell<M> {
     /// refusal changes nothing and gives the token back.
     ///
     /// Ours: docs/DECISIONS.md, Messages.
-    pub fn take_out(
-        &mut self,
-        token: Token,
-    ) -> Result<Option<Message<M::Content>>, Refused<Token>>
+    pub fn take_out(&mut self, token: Token) -> Result<Option<Message<M::Content>>, Refused<Token>>
         ensures does { TakesOut (callbacks_of M.Module M.State.eq) self.old token result self.new }
         ensures posts { HasPostedNothing self.old self.new }
         ensures ports { length self.new.ports ≡ length self.old.ports }

@@ -29,8 +29,8 @@ pub use next::Next;
 pub use post::Post;
 pub use source::Source;
 pub use st_core::{
-    Answer, Collected, Command, Core, Entry, MachineId, Message, Module, PlainList, Reason, Refusal,
-    Refused, Report, Snapshot, Tag, Turned,
+    Answer, Collected, Command, Core, Entry, MachineId, Message, Module, PlainList, Reason,
+    Refusal, Refused, Report, Snapshot, Tag, Turned,
 };
 pub use st_events::Token;
 pub use st_scheduled::{Posted, Ticked};

@@ -122,7 +122,11 @@ impl<M: Module> Journaled<M> {
         };
         match self.scheduled.reply(tag, content) {
             Ok(taken) => {
-                self.write(Source::Caller, Command::Reply(tag, copy), Answer::Reply(taken));
+                self.write(
+                    Source::Caller,
+                    Command::Reply(tag, copy),
+                    Answer::Reply(taken),
+                );
                 Ok(taken)
             }
             Err(refused) => Err(refused),
@@ -143,7 +147,11 @@ impl<M: Module> Journaled<M> {
         };
         match self.scheduled.collect(tag) {
             Ok(collected) => {
-                self.write(Source::Caller, Command::Collect(tag), Answer::Collect(shown));
+                self.write(
+                    Source::Caller,
+                    Command::Collect(tag),
+                    Answer::Collect(shown),
+                );
                 Ok(collected)
             }
             Err(refusal) => Err(refusal),
@@ -158,7 +166,11 @@ impl<M: Module> Journaled<M> {
     {
         match self.scheduled.stop(reason) {
             Ok(word) => {
-                self.write(Source::Caller, Command::Stop(reason), Answer::Stop(Ok(word)));
+                self.write(
+                    Source::Caller,
+                    Command::Stop(reason),
+                    Answer::Stop(Ok(word)),
+                );
                 Ok(word)
             }
             Err(refusal) => Err(refusal),

@@ -3,6 +3,7 @@ use super::begin::{Begin, begun};
 use super::few::Few;
 use super::host::{Host, got, holds};
 use super::seen::{Kept, Running, Seen, Whole};
+use super::shown::{Taken, read_message};
 use super::table::Table;
 use super::told::{Told, tag};
 use st_core::{Answer, Command, Core, Entry, Module, Refusal, Refused, Snapshot, Tag, Turns};
@@ -35,6 +36,9 @@ pub trait Machine: Drop {
 
     /// The moment at which the next time-out is due.
     fn next_due(&self) -> Option<u64>;
+
+    /// The first message that was not taken out yet.
+    fn first_message(&self) -> Option<Taken>;
 
     /// The tag of the request that a post with this number opens.
     fn tag_of(&self, request: u64) -> Tag;
@@ -121,6 +125,10 @@ impl Machine for Core<Table> {
 
     fn next_due(&self) -> Option<u64> {
         Core::next_due(self)
+    }
+
+    fn first_message(&self) -> Option<Taken> {
+        Core::first_message(self).map(read_message)
     }
 
     fn tag_of(&self, request: u64) -> Tag {

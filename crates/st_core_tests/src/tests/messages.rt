@@ -44,14 +44,19 @@ const TAKES_NONE: Row = Tells(TakeOut, TakenOut(None));
 /// The first event, a cast, has two messages sent.
 const SENDS_TWO: Row = Turns(0, 1, Kind::Cast, 0, 0, &[Sends(1), Sends(2)]);
 
-/// A message is taken out: its number, its target and its content. The machine is its sender.
-fn takes(number: u64, target: MachineId, content: u32) -> Row {
-    let message = Taken {
+/// A message with this number, this target and this content. The machine is its sender.
+fn message(number: u64, target: MachineId, content: u32) -> Taken {
+    Taken {
         sender: ID,
         number,
         target,
         content,
-    };
+    }
+}
+
+/// Such a message is taken out.
+fn takes(number: u64, target: MachineId, content: u32) -> Row {
+    let message = message(number, target, content);
     Tells(TakeOut, TakenOut(Some(message)))
 }
 
@@ -66,6 +71,28 @@ fn messages_come_in_the_order_in_which_they_were_sent(rt: HostRuntime) {
         Tells(Turn(0), Idle),
     ];
     answers_are(rt, &BEGIN, &rows, &at_rest(0, 7, 0));
+}
+
+/// Does the commands of rows, and looks after each at the first message that is left.
+fn is_first_after<T: Machine>(rt: &Host<impl Abort>, alloc: Global, rows: &[(Row, Option<Taken>)]) {
+    let mut machine = T::begun(rt, alloc, &BEGIN);
+    for (row, wanted) in rows {
+        does(rt, &mut machine, row.told(), &row.wanted());
+        same(rt, "the first message", &machine.first_message(), wanted);
+    }
+}
+
+#[test]
+fn the_first_message_is_shown_until_it_is_taken_out(rt: HostRuntime) {
+    let rt = Host::new(rt);
+    let rows = [
+        (Tells(Cast(52), Posted(1)), None),
+        (SENDS_TWO, Some(message(1, OTHER, 5))),
+        (takes(1, OTHER, 5), Some(message(2, THIRD, 6))),
+        (takes(2, THIRD, 6), None),
+    ];
+    is_first_after::<Core<Table>>(&rt, rt.alloc(), &rows);
+    rt.end();
 }
 
 /// The numbers go on, also where all that was sent has been taken out.

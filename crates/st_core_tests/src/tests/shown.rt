@@ -46,7 +46,7 @@ impl Clone for Shown {
     }
 }
 
-/// A message that is taken out: its sender, its number, its target and its content.
+/// A message of a machine: its sender, its number, its target and its content.
 #[derive(Copy, Debug, PartialEq, Eq)]
 pub struct Taken {
     pub sender: MachineId,
@@ -117,7 +117,7 @@ fn read_collected(collected: &Collected<u32>) -> Shown {
 }
 
 /// A message, as a value that can be compared.
-fn read_message(message: &Message<u32>) -> Taken {
+pub fn read_message(message: &Message<u32>) -> Taken {
     Taken {
         sender: message.sender,
         number: message.number,

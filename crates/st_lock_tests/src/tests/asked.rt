@@ -1,7 +1,8 @@
 //! What a cell is asked, and what it answers.
-use st_core::{Collected, Entry, Reason, Refusal, Refused, Tag};
+use super::begun::ID;
+use st_core::{Collected, Entry, MachineId, Message, Reason, Refusal, Refused, Tag};
 use st_events::Token;
-use st_lock::{Journal, Look, Next};
+use st_lock::{Journal, Look, Next, Service};
 use st_scheduled::{Posted, Ticked};
 
 /// A call of a cell, which can be made again.
@@ -10,6 +11,11 @@ pub enum Asked {
     Port,
     Post(u64, Entry, u32),
     Turn(Token, u64),
+    TakeOut(Token),
+    /// The sender of the message that is delivered, its number and its content.
+    Deliver(MachineId, u64, u32),
+    /// It is answered as the call that it comes to: a take-out, or else a turn.
+    Serve(Token, u64),
     Tick(u64),
     Collect(Tag),
     Reply(Tag, u32),
@@ -28,6 +34,8 @@ pub enum Answered {
     Port(Result<u64, Refusal>),
     Posted(Result<Posted, Refused<u32>>),
     Turned(Result<Next, Refused<Token>>),
+    TakenOut(Result<Option<Message<u32>>, Refused<Token>>),
+    Delivered(Result<Posted, Refused<Message<u32>>>),
     Ticked(Result<Ticked, Refusal>),
     Collected(Result<Collected<u32>, Refusal>),
     Replied(Result<bool, Refused<u32>>),
@@ -53,6 +61,8 @@ impl Answered {
             Answered::Port(Err(refusal)) => Some(*refusal),
             Answered::Posted(Err(refused)) => Some(refused.refusal),
             Answered::Turned(Err(refused)) => Some(refused.refusal),
+            Answered::TakenOut(Err(refused)) => Some(refused.refusal),
+            Answered::Delivered(Err(refused)) => Some(refused.refusal),
             Answered::Ticked(Err(refusal)) => Some(*refusal),
             Answered::Collected(Err(refusal)) => Some(*refusal),
             Answered::Replied(Err(refused)) => Some(refused.refusal),
@@ -65,6 +75,16 @@ impl Answered {
     }
 }
 
+/// A message to the machine.
+fn delivered(sender: MachineId, number: u64, content: u32) -> Message<u32> {
+    Message {
+        sender,
+        number,
+        target: ID,
+        content,
+    }
+}
+
 /// What a call answers that is refused, with what it was given. The last three are never refused, and have no such
 /// answer.
 pub fn refused(asked: Asked, refusal: Refusal) -> Answered {
@@ -72,6 +92,12 @@ pub fn refused(asked: Asked, refusal: Refusal) -> Answered {
         Asked::Port => Answered::Port(Err(refusal)),
         Asked::Post(_, _, content) => Answered::Posted(Err(Refused::new(refusal, content))),
         Asked::Turn(token, _) => Answered::Turned(Err(Refused::new(refusal, token))),
+        Asked::TakeOut(token) => Answered::TakenOut(Err(Refused::new(refusal, token))),
+        Asked::Deliver(sender, number, content) => {
+            let message = delivered(sender, number, content);
+            Answered::Delivered(Err(Refused::new(refusal, message)))
+        }
+        Asked::Serve(token, _) => Answered::Turned(Err(Refused::new(refusal, token))),
         Asked::Tick(_) => Answered::Ticked(Err(refusal)),
         Asked::Collect(_) => Answered::Collected(Err(refusal)),
         Asked::Reply(_, content) => Answered::Replied(Err(Refused::new(refusal, content))),
@@ -106,6 +132,15 @@ impl Given {
             Given::Answer(answered) => *answered == *wanted,
             _ => false,
         }
+    }
+}
+
+/// What it came to that a machine was served.
+pub fn served(service: Result<Service<u32>, Refused<Token>>) -> Answered {
+    match service {
+        Ok(Service::Sent(message)) => Answered::TakenOut(Ok(Some(message))),
+        Ok(Service::Turned(next)) => Answered::Turned(Ok(next)),
+        Err(refused) => Answered::Turned(Err(refused)),
     }
 }
 

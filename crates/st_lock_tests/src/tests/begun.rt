@@ -1,7 +1,7 @@
 //! How a cell of a test begins.
 use super::host::{Host, got, holds};
 use super::pair::Pair;
-use super::plain::Plain;
+use super::plain::{OTHER, Plain};
 use super::twin::{snapshot_of, steps};
 use st_core::{
     Answer, Command, Core, Entry, MachineId, MachineState, Refusal, Refused, Start, Tag,
@@ -80,13 +80,18 @@ pub fn is_made_again(rt: &Host<impl Abort>, refusal: Refusal) {
 }
 
 /// Makes the call of a start, at the moment 0. Where it finds no memory, it is made again.
-fn start(rt: &Host<impl Abort>, alloc: Global, first: u64) -> Result<Start<Plain>, Refused<Plain>> {
+fn start(
+    rt: &Host<impl Abort>,
+    alloc: Global,
+    id: MachineId,
+    first: u64,
+) -> Result<Start<Plain>, Refused<Plain>> {
     holds(rt, "the first number is above 0", first >= 1);
     holds(rt, "the first number is below 2^63", first < 1 << 63);
-    let started = Core::start_from(alloc, Plain, ID, &(), 0, first);
+    let started = Core::start_from(alloc, Plain, id, &(), 0, first);
     if matches!(&started, Err(refused) if refused.refusal == Refusal::NoMemory) {
         rt.retry();
-        return Core::start_from(alloc, Plain, ID, &(), 0, first);
+        return Core::start_from(alloc, Plain, id, &(), 0, first);
     }
     started
 }
@@ -99,15 +104,26 @@ fn running(rt: &impl Abort, started: Start<Plain>) -> Core<Plain> {
     }
 }
 
-/// A machine whose first event gets this number, and to which casts with these contents were posted.
-pub fn machine(rt: &Host<impl Abort>, alloc: Global, first: u64, contents: &[u32]) -> Core<Plain> {
-    let started = got(rt, "the machine is started", start(rt, alloc, first));
+/// A machine of this id whose first event gets this number, and to which casts with these contents were posted.
+fn machine_of(
+    rt: &Host<impl Abort>,
+    alloc: Global,
+    id: MachineId,
+    first: u64,
+    contents: &[u32],
+) -> Core<Plain> {
+    let started = got(rt, "the machine is started", start(rt, alloc, id, first));
     let mut core = running(rt, started);
     for content in contents {
         let answer = steps(rt, &mut core, &Command::Post(Entry::Cast, *content));
         holds(rt, "it is posted", matches!(answer, Answer::Post(Ok(_))));
     }
     core
+}
+
+/// A machine whose first event gets this number, and to which casts with these contents were posted.
+pub fn machine(rt: &Host<impl Abort>, alloc: Global, first: u64, contents: &[u32]) -> Core<Plain> {
+    machine_of(rt, alloc, ID, first, contents)
 }
 
 /// Makes a cell of a machine, which is equal to this base. Where it finds no memory, the machine comes back as it was,
@@ -133,6 +149,20 @@ fn cell_of(
     )
 }
 
+/// A cell over a machine, and a machine that has begun alike. This is its token, if it is issued one.
+fn beside(
+    rt: &Host<impl Abort>,
+    alloc: Global,
+    core: Core<Plain>,
+    mut twin: Core<Plain>,
+    wake: Option<Token>,
+) -> Pair {
+    let base = snapshot_of(rt, &mut twin);
+    let (cell, token) = cell_of(rt, alloc, core, &base);
+    holds(rt, "the token at first", token == wake);
+    Pair { cell, twin }
+}
+
 /// A cell whose machine gives its first event this number, and to which casts with these contents were posted; this is
 /// its token, if it is issued one. And a machine that has begun alike.
 pub fn begun(
@@ -142,15 +172,19 @@ pub fn begun(
     contents: &[u32],
     wake: Option<Token>,
 ) -> Pair {
-    let mut twin = machine(rt, alloc, first, contents);
-    let base = snapshot_of(rt, &mut twin);
+    let twin = machine(rt, alloc, first, contents);
     let core = machine(rt, alloc, first, contents);
-    let (cell, token) = cell_of(rt, alloc, core, &base);
-    holds(rt, "the token at first", token == wake);
-    Pair { cell, twin }
+    beside(rt, alloc, core, twin, wake)
 }
 
 /// A cell whose machine has just started, and a machine that has begun alike.
 pub fn just_begun(rt: &Host<impl Abort>, alloc: Global) -> Pair {
     begun(rt, alloc, 1, [].as_slice(), None)
+}
+
+/// The same, of the machine to which messages are sent.
+pub fn other_just_begun(rt: &Host<impl Abort>, alloc: Global) -> Pair {
+    let twin = machine_of(rt, alloc, OTHER, 1, [].as_slice());
+    let core = machine_of(rt, alloc, OTHER, 1, [].as_slice());
+    beside(rt, alloc, core, twin, None)
 }

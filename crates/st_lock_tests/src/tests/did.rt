@@ -6,14 +6,15 @@ use std::process::Abort;
 /// The event that a turn is to handle: its number and its kind.
 pub type Handled = (u64, Kind);
 
-/// What a turn is to do in the state 0: how it ends, the requests that are answered, the events that are inserted, and
-/// the timers that are set.
+/// What a turn is to do in the state 0: how it ends, the requests that are answered, the events that are inserted, the
+/// timers that are set, and the messages that are sent.
 #[derive(Clone, Copy)]
 pub struct Did {
     pub done: Done,
     pub replied: &'static [Tag],
     pub inserted: &'static [u64],
     pub set: &'static [(Timer, Decision)],
+    pub sent: &'static [u64],
 }
 
 /// The event is finished, and nothing else is done.
@@ -22,6 +23,19 @@ pub const FINISHED: Did = Did {
     replied: &[],
     inserted: &[],
     set: &[],
+    sent: &[],
+};
+
+/// The first message is sent.
+pub const SENT: Did = Did {
+    sent: &[1],
+    ..FINISHED
+};
+
+/// The first two messages are sent.
+pub const SENT_TWO: Did = Did {
+    sent: &[1, 2],
+    ..FINISHED
 };
 
 /// The event is postponed.
@@ -79,4 +93,6 @@ pub fn reports(rt: &impl Abort, row: usize, report: &Report<u32>, handled: Handl
     shows(rt, row, "the events that are inserted", inserted);
     let set = report.set.as_slice() == did.set;
     shows(rt, row, "the timers that are set", set);
+    let sent = report.sent.as_slice() == did.sent;
+    shows(rt, row, "the messages that are sent", sent);
 }

@@ -15,7 +15,7 @@ const FOREIGN: Token = Token {
 };
 
 /// The first moment that is refused.
-const TOO_LATE: u64 = 9_223_372_036_854_775_808;
+pub const TOO_LATE: u64 = 9_223_372_036_854_775_808;
 
 /// The first request is answered.
 const REPLIED: Did = Did {

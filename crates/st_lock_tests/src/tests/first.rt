@@ -3,6 +3,7 @@ use super::asked::Asked;
 use super::begun::{ID, TOKEN_0, TOKEN_1, TOKEN_3, begun};
 use super::did::{Did, FINISHED};
 use super::host::Host;
+use super::plain::OTHER;
 use super::row::{Row, Sight};
 use st_core::{Entry, Kind, Refusal, Tag};
 use st_lock::Next;
@@ -52,10 +53,11 @@ fn an_event_comes_first(rt: HostRuntime) {
 }
 
 /// The last number is given, and no other.
-static LAST_GIVEN: [Row; 5] = [
+static LAST_GIVEN: [Row; 6] = [
     Row::Opens(1),
     Row::Posts(1, (1, Entry::Call, 0), LAST, Some(TOKEN_1)),
     Row::Refuses(Asked::Post(1, Entry::Cast, 8), Refusal::Exhausted),
+    Row::Refuses(Asked::Deliver(OTHER, 1, 8), Refusal::Exhausted),
     Row::Turns(
         2,
         TOKEN_1,

@@ -1,9 +1,9 @@
 //! A cell as a test sees it: what it is asked, and what can be read of it.
 use super::asked::{Answered, Asked, Given, copied, looked};
 use super::plain::Plain;
-use st_core::{Entry, MachineState, Reason, Refusal};
+use st_core::{Entry, MachineId, MachineState, Message, Reason, Refusal};
 use st_events::Token;
-use st_lock::{Cell, JournalEntry, Look};
+use st_lock::{Cell, Core, JournalEntry, Look};
 
 /// What can be read of a cell that takes no memory, but its journal and its base.
 #[derive(Clone, Copy, PartialEq)]
@@ -11,6 +11,8 @@ pub struct Seen {
     pub state: u32,
     pub held: u32,
     pub waiting: usize,
+    /// The number of the first message.
+    pub message: Option<u64>,
     pub ended: Option<(Reason, u32)>,
     pub latest: u64,
     pub is_ready: bool,
@@ -52,6 +54,34 @@ fn look(cell: &Cell<Plain>, port: u64) -> Given {
         return Given::Answer(Answered::NotOpen);
     }
     looked(cell.look(port))
+}
+
+/// Delivers a message.
+fn deliver(cell: &mut Cell<Plain>, sender: MachineId, number: u64, content: u32) -> Answered {
+    let target = cell.core().id();
+    Answered::Delivered(cell.deliver(Message {
+        sender,
+        number,
+        target,
+        content,
+    }))
+}
+
+/// Makes a call that is about messages.
+fn ask_messages(cell: &mut Cell<Plain>, asked: Asked) -> Answered {
+    match asked {
+        Asked::TakeOut(token) => Answered::TakenOut(cell.take_out(token)),
+        Asked::Deliver(sender, number, content) => deliver(cell, sender, number, content),
+        _ => Answered::NotOpen,
+    }
+}
+
+/// The number of the first message, if there is one.
+fn first_message(core: &Core<Plain>) -> Option<u64> {
+    match core.first_message() {
+        Some(message) => Some(message.number),
+        None => None,
+    }
 }
 
 /// Makes a call of the machine.
@@ -101,6 +131,9 @@ impl Kept for Cell<Plain> {
             Asked::Post(_, _, _) | Asked::Turn(_, _) | Asked::Tick(_) | Asked::Stop(_) => {
                 Given::Answer(ask_machine(self, asked))
             }
+            Asked::TakeOut(_) | Asked::Deliver(_, _, _) => {
+                Given::Answer(ask_messages(self, asked))
+            }
             Asked::Collect(_) | Asked::Reply(_, _) | Asked::Port | Asked::Cut => {
                 Given::Answer(ask_cell(self, asked))
             }
@@ -114,6 +147,7 @@ impl Kept for Cell<Plain> {
             state: core.state(),
             held: *core.data(),
             waiting: core.waiting(),
+            message: first_message(core),
             ended: core.ended(),
             latest: core.latest(),
             is_ready: core.is_ready(),

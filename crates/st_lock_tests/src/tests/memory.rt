@@ -1,8 +1,9 @@
 //! Each call where one allocation is refused: nothing that can be read changes, and it is made again.
 use super::asked::Asked;
 use super::begun::{REQUEST_1, TOKEN_1, TOKEN_5, just_begun};
-use super::did::{Did, FINISHED};
+use super::did::{Did, FINISHED, SENT};
 use super::host::Host;
+use super::plain::OTHER;
 use super::row::{Row, Sight};
 use st_core::{Decision, Entry, Kind, Refusal, Time, Timer};
 use st_lock::Next;
@@ -16,7 +17,7 @@ const SET: Did = Did {
 };
 
 /// Each call, one after another.
-pub static EACH_CALL: [Row; 12] = [
+pub static EACH_CALL: [Row; 16] = [
     Row::Opens(1),
     Row::Posts(1, (1, Entry::Call, 0), 1, Some(TOKEN_1)),
     Row::Posts(2, (1, Entry::Cast, 3), 2, None),
@@ -30,20 +31,31 @@ pub static EACH_CALL: [Row; 12] = [
     ),
     Row::Turns(4, TOKEN_1, 0, Next::Rest, (2, Kind::Cast), SET),
     Row::Ticks(5, 5, 1, Some(TOKEN_5)),
-    Row::Replies(6, REQUEST_1, 60, true),
-    Row::Collects(7, REQUEST_1, 60),
+    Row::Delivers(6, (OTHER, 1, 10), 4, None),
+    Row::Turns(
+        7,
+        TOKEN_5,
+        5,
+        Next::Again(TOKEN_5),
+        (3, Kind::Timeout(Timer::State)),
+        FINISHED,
+    ),
+    Row::Turns(8, TOKEN_5, 5, Next::Again(TOKEN_5), (4, Kind::Info), SENT),
+    Row::Takes(9, TOKEN_5, 1, 3),
+    Row::Replies(10, REQUEST_1, 60, true),
+    Row::Collects(11, REQUEST_1, 60),
     Row::Looks(
         1,
         Sight {
             waiting: 0,
-            entries: 7,
+            entries: 11,
             mine: 2,
             numbers: &[1, 2],
             ended: None,
         },
     ),
     Row::Copies("front", 0),
-    Row::Stops(8, 3, 7),
+    Row::Stops(12, 3, 7),
     Row::Rests(TOKEN_5, 5),
 ];
 

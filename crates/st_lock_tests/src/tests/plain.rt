@@ -1,7 +1,7 @@
 //! A module whose contents each ask for something else.
 ghost use Rattle.std.specs.Prelude.{◌≡◌, ◌==◌, if◌then◌else◌, ℕ, true, false, None, [], ◌∷◌, refl};
 ghost use Rattle.std.proofs.Common.{rules};
-ghost use Rattle.st_events.specs.declared.action.Action.TheVariants.{NextEvent, Postpone, Reply, Set};
+ghost use Rattle.st_events.specs.declared.action.Action.TheVariants.{NextEvent, Postpone, Reply, Send, Set};
 ghost use Rattle.st_events.specs.declared.enter_outcome.EnterOutcome.TheVariants as enter_outcome;
 ghost use Rattle.st_events.specs.declared.init.Init.TheVariants as init;
 ghost use Rattle.st_events.specs.declared.kind.Kind.TheVariants.{Call, Cast, Info, Timeout, Internal};
@@ -11,9 +11,13 @@ ghost use Rattle.st_events.specs.declared.time.Time.TheVariants.{After};
 ghost use Rattle.st_events.specs.declared.timer.Timer.TheVariants.{State as StateTimer};
 
 use st_core::{
-    Action, Actions, EnterActions, EnterOutcome, Init, Kind, Module, Outcome, Reason, Time, Timer,
+    Action, Actions, EnterActions, EnterOutcome, Init, Kind, MachineId, Module, Outcome, Reason,
+    Time, Timer,
 };
 use std::alloc::{AllocError, Global};
+
+/// The machine to which messages are sent.
+pub const OTHER: MachineId = MachineId { slot: 1, serial: 2 };
 
 /// States, data and contents are numbers. The state is 0 and the data 7, and `terminate` answers the data.
 ///
@@ -26,6 +30,8 @@ use std::alloc::{AllocError, Global};
 /// | 5 | inserts 0 as internal, and sets the state time-out for 5, with the content 0 |
 /// | 6 | replies 50 where it is a call |
 /// | 7 | inserts 0 as internal twice |
+/// | 10 | sends 3 to the other machine |
+/// | 11 | sends 3 and then 4 to it |
 /// | other | keeps both |
 #[derive(Clone, Copy)]
 pub struct Plain;
@@ -55,7 +61,9 @@ impl Module for Plain {
           | Internal ↦ KeepStateAndData []
         ])
         else (if content == 7 then KeepStateAndData (NextEvent Internal 0 ∷ NextEvent Internal 0 ∷ [])
-        else KeepStateAndData [])))))) };
+        else (if content == 10 then KeepStateAndData (Send (record { slot = 1; serial = 2 }) 3 ∷ [])
+        else (if content == 11 then KeepStateAndData (Send (record { slot = 1; serial = 2 }) 3 ∷ Send (record { slot = 1; serial = 2 }) 4 ∷ [])
+        else KeepStateAndData [])))))))) };
 
     ghost enters_is = { λ plain. false };
 
@@ -93,6 +101,11 @@ impl Module for Plain {
             7 => {
                 actions.push(Action::NextEvent(Kind::Internal, 0))?;
                 actions.push(Action::NextEvent(Kind::Internal, 0))?;
+            }
+            10 => actions.push(Action::Send(OTHER, 3))?,
+            11 => {
+                actions.push(Action::Send(OTHER, 3))?;
+                actions.push(Action::Send(OTHER, 4))?;
             }
             _ => {}
         }

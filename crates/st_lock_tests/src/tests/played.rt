@@ -26,7 +26,8 @@ fn is_told(rt: &impl Abort, row: usize, answer: &Answer<u32, u32>, told: &Told) 
 /// Looks that an entry is the one that is wanted of a row.
 fn is_line(rt: &impl Abort, row: usize, entry: &JournalEntry<u32, u32>, line: &Line) {
     shows(rt, row, "the entry's number", entry.number == line.number);
-    shows(rt, row, "the entry's port", entry.port == line.port);
+    let is_from_there = entry.source == line.source;
+    shows(rt, row, "where the entry came from", is_from_there);
     let is_asked = entry.command == line.command;
     shows(rt, row, "the entry's command", is_asked);
     is_told(rt, row, &entry.answer, &line.told);

@@ -1,7 +1,10 @@
 //! Rows: a call, what it is to answer, and the entry that it is to have.
 use super::asked::{Answered, Asked, refused};
+use super::begun::ID;
 use super::did::{Did, Handled};
-use st_core::{Answer, Collected, Command, Entry, Reason, Refusal, Tag};
+use super::plain::OTHER;
+use st_cell::Source;
+use st_core::{Answer, Collected, Command, Entry, MachineId, Message, Reason, Refusal, Tag};
 use st_events::Token;
 use st_lock::Next;
 use st_scheduled::{Posted, Ticked};
@@ -29,13 +32,26 @@ pub enum Told {
 #[derive(Drop)]
 pub struct Line {
     pub number: u64,
-    pub port: Option<u64>,
+    pub source: Source,
     pub command: Command<u32>,
     pub told: Told,
 }
 
 /// What a port posts: the port, how, and a content.
 pub type Post = (u64, Entry, u32);
+
+/// What is delivered: the message's sender, its number and its content.
+pub type Delivery = (MachineId, u64, u32);
+
+/// A message of the machine to the other one, with this number and this content.
+fn message(number: u64, content: u32) -> Message<u32> {
+    Message {
+        sender: ID,
+        number,
+        target: OTHER,
+        content,
+    }
+}
 
 /// A call, and what it is to answer. Where it is to have an entry, that entry's number comes first.
 #[derive(Clone, Copy)]
@@ -47,6 +63,14 @@ pub enum Row {
     /// The machine is served by a token, at a moment: what becomes of the token, the event that is handled, and what is
     /// done.
     Turns(u64, Token, u64, Next, Handled, Did),
+    /// The first message, which has this number and this content, is taken out by a token.
+    Takes(u64, Token, u64, u32),
+    /// A message is delivered, whose event gets this number; and the token is issued, if one is.
+    Delivers(u64, Delivery, u64, Option<Token>),
+    /// The machine is served by a token, at a moment, and its first message is taken out: its number and its content.
+    ServesMessage(u64, Token, u64, u64, u32),
+    /// The machine is served by a token, at a moment, and a turn is made, as `Turns` says.
+    ServesTurn(u64, Token, u64, Next, Handled, Did),
     /// The machine is told the moment: so many time-outs expire; and the token is issued, if one is.
     Ticks(u64, u64, u64, Option<Token>),
     /// A request is answered with a content, which is taken or not.
@@ -63,6 +87,13 @@ pub enum Row {
     Misses(Tag),
     /// The token of a machine that has no work, or has ended, is retired at a moment, with no turn.
     Rests(Token, u64),
+    /// The same, where the machine is served by the token.
+    ServesRest(Token, u64),
+    /// The token of a machine that has no event for a turn, or has ended, and has a message, stays outstanding at a
+    /// moment, with no turn.
+    Stays(Token, u64),
+    /// Nothing is taken out by a token: there is no message.
+    TakesNone(Token),
     /// A look through a port.
     Looks(u64, Sight),
     /// A copy of the journal, with a label; the machine had seen this moment before the first entry.
@@ -93,7 +124,16 @@ impl Row {
             Row::Stops(_, reason, _) => Asked::Stop(reason),
             Row::Waits(tag) => Asked::Collect(tag),
             Row::Misses(tag) => Asked::Collect(tag),
+            Row::Takes(_, token, _, _) => Asked::TakeOut(token),
+            Row::Delivers(_, (sender, number, content), _, _) => {
+                Asked::Deliver(sender, number, content)
+            }
+            Row::ServesMessage(_, token, now, _, _) => Asked::Serve(token, now),
+            Row::ServesTurn(_, token, now, _, _, _) => Asked::Serve(token, now),
             Row::Rests(token, now) => Asked::Turn(token, now),
+            Row::ServesRest(token, now) => Asked::Serve(token, now),
+            Row::Stays(token, now) => Asked::Turn(token, now),
+            Row::TakesNone(token) => Asked::TakeOut(token),
             Row::Looks(port, _) => Asked::Look(port),
             Row::Copies(label, _) => Asked::Journal(label),
             Row::Cuts => Asked::Cut,
@@ -119,7 +159,14 @@ impl Row {
             Row::Stops(_, _, word) => Answered::Stopped(Ok(word)),
             Row::Waits(_) => Answered::Collected(Ok(Collected::Waiting)),
             Row::Misses(_) => Answered::Collected(Ok(Collected::Gone)),
-            Row::Rests(_, _) => Answered::Turned(Ok(Next::Rest)),
+            Row::Takes(_, _, number, content) | Row::ServesMessage(_, _, _, number, content) => {
+                Answered::TakenOut(Ok(Some(message(number, content))))
+            }
+            Row::Delivers(_, _, number, wake) => Answered::Delivered(Ok(Posted { number, wake })),
+            Row::ServesTurn(_, _, _, next, _, _) => Answered::Turned(Ok(next)),
+            Row::Rests(_, _) | Row::ServesRest(_, _) => Answered::Turned(Ok(Next::Rest)),
+            Row::Stays(token, _) => Answered::Turned(Ok(Next::Again(token))),
+            Row::TakesNone(_) => Answered::TakenOut(Ok(None)),
             Row::Looks(_, _) | Row::Copies(_, _) => Answered::InParts,
             Row::Cuts => Answered::Cut(Ok(())),
             Row::HasPorts(ports) => Answered::Ports(ports),
@@ -134,43 +181,57 @@ impl Row {
         match *self {
             Row::Posts(number, (port, how, content), event, _) => Some(Line {
                 number,
-                port: Some(port),
+                source: Source::Port(port),
                 command: Command::Post(how, content),
                 told: Told::Answer(Answer::Post(Ok(event))),
             }),
-            Row::Turns(number, _, now, _, handled, did) => Some(Line {
+            Row::Takes(number, _, sent, content)
+            | Row::ServesMessage(number, _, _, sent, content) => Some(Line {
                 number,
-                port: None,
+                source: Source::Caller,
+                command: Command::TakeOut,
+                told: Told::Answer(Answer::TakeOut(Some(message(sent, content)))),
+            }),
+            Row::Delivers(number, (sender, sent, content), event, _) => Some(Line {
+                number,
+                source: Source::Message(sender, sent),
+                command: Command::Post(Entry::Info, content),
+                told: Told::Answer(Answer::Post(Ok(event))),
+            }),
+            Row::Turns(number, _, now, _, handled, did)
+            | Row::ServesTurn(number, _, now, _, handled, did) => Some(Line {
+                number,
+                source: Source::Caller,
                 command: Command::Turn(now),
                 told: Told::Turned(handled, did),
             }),
             Row::Ticks(number, now, expired, _) => Some(Line {
                 number,
-                port: None,
+                source: Source::Caller,
                 command: Command::Tick(now),
                 told: Told::Answer(Answer::Tick(Ok(expired))),
             }),
             Row::Replies(number, tag, content, taken) => Some(Line {
                 number,
-                port: None,
+                source: Source::Caller,
                 command: Command::Reply(tag, content),
                 told: Told::Answer(Answer::Reply(taken)),
             }),
             Row::Collects(number, tag, content) => Some(Line {
                 number,
-                port: None,
+                source: Source::Caller,
                 command: Command::Collect(tag),
                 told: Told::Answer(Answer::Collect(Collected::Reply(content))),
             }),
             Row::CollectsReason(number, tag, reason) => Some(Line {
                 number,
-                port: None,
+                source: Source::Caller,
                 command: Command::Collect(tag),
                 told: Told::Answer(Answer::Collect(Collected::Stopped(reason))),
             }),
             Row::Stops(number, reason, word) => Some(Line {
                 number,
-                port: None,
+                source: Source::Caller,
                 command: Command::Stop(reason),
                 told: Told::Answer(Answer::Stop(Ok(word))),
             }),
@@ -185,6 +246,10 @@ impl Row {
             Row::Opens(_) => true,
             Row::Posts(_, _, _, _) => true,
             Row::Turns(_, _, _, _, _, _) => true,
+            Row::Takes(_, _, _, _) => true,
+            Row::Delivers(_, _, _, _) => true,
+            Row::ServesMessage(_, _, _, _, _) => true,
+            Row::ServesTurn(_, _, _, _, _, _) => true,
             Row::Ticks(_, _, _, _) => true,
             Row::Replies(_, _, _, _) => true,
             Row::Collects(_, _, _) => true,

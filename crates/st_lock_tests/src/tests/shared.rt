@@ -2,14 +2,16 @@
 ghost use Rattle.std.specs.Prelude.{◌≡◌};
 ghost use Rattle.st_lock.specs.Machines.{id_for};
 
-use super::asked::{Answered, Asked, Given, copied, looked};
+use super::asked::{Answered, Asked, Given, copied, looked, served};
 use super::begun::{ID, is_made_again, machine};
 use super::host::{Host, got, holds};
 use super::plain::Plain;
 use super::played::{are_lines, is_given_back, is_labelled, is_sight};
 use super::row::Row;
 use super::shows::shows;
-use st_lock::{Core, Entry, Journal, Look, Machine, MachineId, MachineRoom, Port, Refusal, Token};
+use st_lock::{
+    Core, Entry, Journal, Look, Machine, MachineId, MachineRoom, Message, Port, Refusal, Token,
+};
 use std::alloc::Global;
 use std::process::Abort;
 use std::sync::{Arc, Wait};
@@ -139,7 +141,36 @@ impl Shared {
         }
     }
 
-    /// Makes a call of the machine that is about no request.
+    /// Delivers a message.
+    fn deliver(
+        &self,
+        threads: &impl Wait,
+        sender: MachineId,
+        number: u64,
+        content: u32,
+    ) -> Answered {
+        let message = Message {
+            sender,
+            number,
+            target: self.machine.id(),
+            content,
+        };
+        Answered::Delivered(self.machine.deliver(threads, message))
+    }
+
+    /// Makes a call that is about messages.
+    fn ask_messages(&self, threads: &impl Wait, asked: Asked) -> Answered {
+        match asked {
+            Asked::TakeOut(token) => Answered::TakenOut(self.machine.take_out(threads, token)),
+            Asked::Deliver(sender, number, content) => {
+                self.deliver(threads, sender, number, content)
+            }
+            Asked::Serve(token, now) => served(self.machine.serve(threads, token, now)),
+            _ => Answered::NotOpen,
+        }
+    }
+
+    /// Makes a call of the machine that is about no request and no message.
     fn ask_machine(&self, threads: &impl Wait, asked: Asked) -> Answered {
         match asked {
             Asked::Turn(token, now) => Answered::Turned(self.machine.turn(threads, token, now)),
@@ -169,6 +200,9 @@ impl Shared {
             Asked::Post(port, entry, content) => self.post(threads, port, entry, content),
             Asked::Turn(_, _) | Asked::Tick(_) | Asked::Stop(_) | Asked::Cut => {
                 self.ask_machine(threads, asked)
+            }
+            Asked::TakeOut(_) | Asked::Deliver(_, _, _) | Asked::Serve(_, _) => {
+                self.ask_messages(threads, asked)
             }
             _ => self.ask_request(threads, asked),
         }

@@ -1,8 +1,8 @@
-//! The trace of a cell whose journal was cut.
+//! The trace of a cell, and of one whose journal was cut.
 ghost use Rattle.std.specs.Prelude.{codes};
 
 use super::asked::{Answered, Asked};
-use super::begun::{ID, TOKEN_5, is_made_again, just_begun};
+use super::begun::{TOKEN_5, is_made_again, just_begun};
 use super::by_rows::BEFORE_A_CUT;
 use super::host::{Host, got, holds, same};
 use super::kept::Kept;
@@ -18,10 +18,10 @@ use std::process::Abort;
 struct Names;
 
 impl StateNames<u32> for Names {
-    ghost name_is = { λ names state. codes "idle" };
+    ghost name_is = { λ names state. codes "locked" };
 
     fn name(&self, _state: u32) -> &str {
-        "idle"
+        "locked"
     }
 }
 
@@ -29,12 +29,12 @@ impl StateNames<u32> for Names {
 const TRACE: &str = "\
 machine 0 1 front
          5      1 post                      -          3 cast
-         6      - turn                      7          3 cast idle idle finished 0 0 0
+         6      - turn                      7          3 cast locked locked finished 0 0 0
 summary posts 1 turns 1 finished 1 put_off 0
 ";
 
 /// Makes a call of a cell, and looks at its answer. Where there is no memory, it is made again.
-fn answers(rt: &Host<impl Abort>, cell: &mut Cell<Plain>, asked: Asked, wanted: Answered) {
+pub fn answers(rt: &Host<impl Abort>, cell: &mut Cell<Plain>, asked: Asked, wanted: Answered) {
     let given = cell.ask(asked);
     if given.refusal() != Some(Refusal::NoMemory) {
         holds(rt, "the answer", given.is(&wanted));
@@ -45,12 +45,12 @@ fn answers(rt: &Host<impl Abort>, cell: &mut Cell<Plain>, asked: Asked, wanted: 
 }
 
 /// The journal. Where there is no memory, it is copied again.
-fn journal(rt: &Host<impl Abort>, cell: &Cell<Plain>) -> Journal<u32, u32> {
-    match cell.journal("front") {
+fn journal(rt: &Host<impl Abort>, cell: &Cell<Plain>, label: &str) -> Journal<u32, u32> {
+    match cell.journal(label) {
         Ok(journal) => journal,
         Err(refusal) => {
             is_made_again(rt, refusal);
-            let again = cell.journal("front");
+            let again = cell.journal(label);
             got(rt, "one allocation alone is refused", again)
         }
     }
@@ -68,6 +68,13 @@ fn text(rt: &Host<impl Abort>, alloc: Global, journal: &Journal<u32, u32>) -> Ve
     }
 }
 
+/// Looks at what is printed of a cell, with a label.
+pub fn prints(rt: &Host<impl Abort>, alloc: Global, cell: &Cell<Plain>, label: &str, wanted: &str) {
+    let journal = journal(rt, cell, label);
+    let text = text(rt, alloc, &journal);
+    same(rt, "the trace", &text.as_slice(), &wanted.as_bytes());
+}
+
 #[test]
 fn a_trace_begins_behind_the_cut(rt: HostRuntime) {
     let rt = Host::new(rt);
@@ -81,12 +88,7 @@ fn a_trace_begins_behind_the_cut(rt: HostRuntime) {
     answers(&rt, &mut pair.cell, post, Answered::Posted(Ok(posted)));
     let turn = Asked::Turn(TOKEN_5, 7);
     answers(&rt, &mut pair.cell, turn, Answered::Turned(Ok(Next::Rest)));
-    let journal = journal(&rt, &pair.cell);
-    holds(&rt, "whose journal it is", journal.id == ID);
-    let text = text(&rt, rt.alloc(), &journal);
-    same(&rt, "the trace", &text.as_slice(), &TRACE.as_bytes());
-    drop(text);
-    drop(journal);
+    prints(&rt, rt.alloc(), &pair.cell, "front", TRACE);
     drop(pair);
     rt.end();
 }

@@ -234,6 +234,42 @@ summary posts 1 turns 1 finished 1 put_off 0
 }
 
 #[test]
+fn a_delivered_message_says_from_whom_it_comes(rt: HostRuntime) {
+    let rt = Host::new(rt);
+    let first = MachineId { slot: 0, serial: 1 };
+    let far = MachineId {
+        slot: 12,
+        serial: 345,
+    };
+    prints(
+        &rt,
+        rt.alloc(),
+        0,
+        &[
+            (1, Row::Delivers(first, 1, 1)),
+            (2, Row::Delivers(far, 18_446_744_073_709_551_615, 2)),
+            (3, Row::Takes(1)),
+            (4, Row::Posts(1, Entry::Info, 4)),
+        ],
+        Totals {
+            posts: 3,
+            turns: 0,
+            finished: 0,
+            put_off: 0,
+        },
+        "\
+machine 0 1 front
+         1      - post                      -          1 info from 0 1 1
+         2      - post                      -          2 info from 12 345 18446744073709551615
+         3      - take                      -          1 to 1 2
+         4      1 post                      -          4 info
+summary posts 3 turns 0 finished 0 put_off 0
+",
+    );
+    rt.end();
+}
+
+#[test]
 fn entries_keep_their_numbers_after_a_cut(rt: HostRuntime) {
     let rt = Host::new(rt);
     prints(

@@ -2,7 +2,7 @@
 
 use st_cell::{
     Answer, Collected, Command, Entry, Journal, JournalEntry, MachineId, PlainList, Reason, Report,
-    Tag, Turned,
+    Source, Tag, Turned,
 };
 use st_core::{Call, Done, Message, OneInline};
 use st_events::{Decision, Kind, Time, Timer};
@@ -34,6 +34,8 @@ pub struct Turn {
 pub enum Row {
     /// A port posts an event, which gets a number.
     Posts(u64, Entry, u64),
+    /// The message of a machine with a number is delivered, and its event gets a number.
+    Delivers(MachineId, u64, u64),
     /// At a moment so many time-outs expire.
     Ticks(u64, u64),
     /// A turn.
@@ -55,13 +57,23 @@ fn tag(request: u64) -> Tag {
     Tag::new(MACHINE, request)
 }
 
-/// An entry that has no port.
+/// An entry of a call that comes from no port and is no message.
 fn told(number: u64, command: Command<char>, answer: Answer<bool, char>) -> DoorEntry {
     JournalEntry {
         number,
-        port: None,
+        source: Source::Caller,
         command,
         answer,
+    }
+}
+
+/// The entry of a post that comes from there.
+fn posted(number: u64, source: Source, how: Entry, event: u64) -> DoorEntry {
+    JournalEntry {
+        number,
+        source,
+        command: Command::Post(how, 'x'),
+        answer: Answer::Post(Ok(event)),
     }
 }
 
@@ -112,12 +124,11 @@ fn message(number: u64) -> Message<char> {
 /// The entry of a row.
 fn entry(alloc: Global, number: u64, row: Row) -> Result<DoorEntry, AllocError> {
     match row {
-        Row::Posts(port, how, event) => Ok(JournalEntry {
-            number,
-            port: Some(port),
-            command: Command::Post(how, 'x'),
-            answer: Answer::Post(Ok(event)),
-        }),
+        Row::Posts(port, how, event) => Ok(posted(number, Source::Port(port), how, event)),
+        Row::Delivers(sender, sent, event) => {
+            let source = Source::Message(sender, sent);
+            Ok(posted(number, source, Entry::Info, event))
+        }
         Row::Ticks(now, expired) => Ok(told(number, Command::Tick(now), Answer::Tick(Ok(expired)))),
         Row::Turns(turn) => turned(alloc, number, turn),
         Row::Replies(request, taken) => {
