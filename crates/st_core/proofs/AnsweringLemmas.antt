@@ -1,5 +1,5 @@
 -- One reply more of a list of actions is done.
-use Rattle.std.proofs.Common.{◌≡◌, ℕ, ◌≤◌, true, false, Some, None, Option, List, [], ◌∷◌, ◌++◌, refl, sym, ap, ◌∙◌, length, length-append, append_assoc, arith}
+use Rattle.std.proofs.Common.{◌≡◌, ℕ, ◌<◌, ◌≤◌, true, false, Some, None, Option, List, [], ◌∷◌, ◌++◌, refl, sym, ap, ◌∙◌, length, length-append, append_assoc, append-nil, arith}
 use Rattle.std.specs.Option.{option_to_list}
 use Rattle.st_events.specs.declared.action.Action.{Action}
 use Rattle.st_events.specs.declared.action.Action.TheVariants.{Reply, Postpone, NextEvent, Set, Cancel, Update, Send, Hibernate}
@@ -48,6 +48,19 @@ module _ {C : Type 0} (old : List (Request C)) (replies : List (Tag × C)) (befo
         taken = rw answered (sym (ap (λ (ts : List Tag). listed ++ ts) tags) ∙ known.taken);
         reserved = omega (arith, ap length first, known.reserved);
       }
+
+  -- for the tag of one more there is a place
+  pub has_place : (requests : List (Request C)) (listed : List Tag) (capacity : ℕ) (left rest : List (Tag × C)) (reply : Option (Tag × C)) (one : Tag × C)
+      → reply ≡ Some one → left ≡ option_to_list reply ++ rest → AnsweredSoFar old replies before requests listed capacity left → length listed < capacity
+  has_place requests listed capacity left rest reply one there taken known =
+      let first : left ≡ one ∷ rest = taken ∙ ap (λ (o : Option (Tag × C)). option_to_list o ++ rest) there in
+      omega (arith, ap length first, known.reserved)
+
+  -- none is left
+  pub all_answered : (requests : List (Request C)) (listed : List Tag) (capacity : ℕ) (left : List (Tag × C)) → left ≡ [] → AnsweredSoFar old replies before requests listed capacity left
+      → (requests ≡ with_answers old replies) × (listed ≡ before ++ taken_by old replies)
+  all_answered requests listed capacity left none known =
+      (rw none at known.all, sym (append-nil listed) ∙ (rw none at known.taken))
 
 -- there are no more replies than actions
 pub replies_within : {C : Type 0} (actions : List (Action C)) → length (replies_of actions) ≤ length actions

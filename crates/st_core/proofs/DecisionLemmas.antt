@@ -1,5 +1,5 @@
 -- What actions ask of timers, one action after another.
-use Rattle.std.proofs.Common.{◌≡◌, ℕ, zero, suc, ◌+◌, Option, Some, None, List, [], ◌∷◌, ◌++◌, length, length-append, drop, refl, sym, ap, ◌∙◌, append_assoc}
+use Rattle.std.proofs.Common.{◌≡◌, ℕ, zero, suc, ◌+◌, Option, Some, None, List, [], ◌∷◌, ◌++◌, length, length-append, drop, refl, sym, ap, ◌∙◌, append_assoc, append-nil}
 use Rattle.std.specs.Prelude.{slice_get}
 use Rattle.std.specs.Option.{option_and_then, option_map, option_to_list}
 use Rattle.st_events.specs.declared.action.Action.{Action}
@@ -69,3 +69,7 @@ module _ {C : Type 0} where
       let split : decisions_of (all_settings_of (drop index actions)) ≡ decision ∷ rest =
       decisions_split actions index (suc index) found refl found_is ∙ ap (λ (o : Option (Timer × Decision)). option_to_list o ++ rest) there in
       sym (ap length (sym (ap (λ (xs : List (Timer × Decision)). decisions ++ xs) split) ∙ known)) ∙ length-append decisions (decision ∷ rest)
+
+-- with none after them, they are all
+pub all_noted : {T : Type 0} (noted rest whole : List T) → rest ≡ [] → noted ++ rest ≡ whole → noted ≡ whole
+all_noted noted rest whole none known = sym (append-nil noted) ∙ (rw none at known)

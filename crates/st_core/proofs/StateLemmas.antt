@@ -39,6 +39,12 @@ module _ {C : Type 0} where
       nothing_next schedule.pending schedule.postponed schedule.running schedule.next_number over.0 over.2 in
       absurd (none_not_some (option_map (λ (event : Event C). event.number) (next_in schedule)) number none next)
 
+  -- what is equal part by part can come about where the other can
+  pub lawful_same : (id : MachineId) (ended : Option (ℕ × ℕ)) {schedule schedule2 : Schedule C} {requests requests2 : List (Request C)} {outbox outbox2 : Outbox C} {latest latest2 : ℕ}
+      → schedule ≡ schedule2 → requests ≡ requests2 → outbox ≡ outbox2 → latest ≡ latest2
+      → IsLawfulOf id schedule2 requests2 outbox2 latest2 ended → IsLawfulOf id schedule requests outbox latest ended
+  lawful_same id ended same_schedule same_requests same_outbox same_latest lawful = rw (same_schedule, same_requests, same_outbox, same_latest) lawful
+
   module _ (id : MachineId) (schedule : Schedule C) (requests : List (Request C)) (outbox : Outbox C) (latest now : ℕ) (ended : Option (ℕ × ℕ)) where
     early : now < 2 ^ 63 → latest < 2 ^ 63 → max latest now < 2 ^ 63
     early below lawful = omega (arith, below, lawful)

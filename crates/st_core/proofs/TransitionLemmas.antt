@@ -11,6 +11,9 @@ use Rattle.st_events.specs.declared.insert.Insert.{Insert}
 use Rattle.st_events.specs.declared.refusal.Refusal.{Refusal}
 use Rattle.st_events.specs.declared.refusal.Refusal.TheVariants.{Exhausted, NoMemory}
 use Rattle.st_events.specs.declared.setting.Setting.{Setting}
+use Rattle.st_events.specs.declared.decision.Decision.{Decision}
+use Rattle.st_events.specs.declared.tag.Tag.{Tag}
+use Rattle.st_events.specs.declared.timer.Timer.{Timer}
 use Rattle.st_outbox.specs.declared.outbox.Outbox.{Outbox}
 use Rattle.st_requests.specs.declared.request.Request.{Request}
 use Rattle.st_agenda.specs.declared.schedule.Schedule.{Schedule}
@@ -226,6 +229,18 @@ module _ {C : Type 0} (number : ℕ) where
       ∙ ap (λ (d : Bool). settled_in latest2 schedule2 number postpone2 d inserts settings) same_change
       ∙ ap (λ (i : List (Insert C)). settled_in latest2 schedule2 number postpone2 changed2 i settings) same_inserts
       ∙ ap (λ (r : List (Setting C)). settled_in latest2 schedule2 number postpone2 changed2 inserts2 r) same_settings
+
+-- ---- what is reported, by its parts
+module _ {S : Type 0} (event : Option ℕ) (before : S) where
+  abbrev pub told_of : Done → List (Call S) → S → List Tag → List ℕ → List (Timer × Decision) → List ℕ → Report S
+  told_of done calls after replied inserted set sent =
+      record { event = event; done = done; calls = calls; before = before; after = after; replied = replied; inserted = inserted; set = set; sent = sent }
+
+  pub told_is : {done done2 : Done} {calls calls2 : List (Call S)} {after after2 : S} {replied replied2 : List Tag} {inserted inserted2 : List ℕ} {set set2 : List (Timer × Decision)} {sent sent2 : List ℕ}
+      → done ≡ done2 → calls ≡ calls2 → after ≡ after2 → replied ≡ replied2 → inserted ≡ inserted2 → set ≡ set2 → sent ≡ sent2
+      → told_of done calls after replied inserted set sent ≡ told_of done2 calls2 after2 replied2 inserted2 set2 sent2
+  told_is same_end same_calls same_state same_replies same_inserts same_timers same_sends =
+      rw (same_end, same_calls, same_state, same_replies, same_inserts, same_timers, same_sends) refl
 
 -- ---- numbers
 -- there are enough for the events alone

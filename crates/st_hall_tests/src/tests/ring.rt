@@ -1,5 +1,5 @@
 //! A module whose machines send messages to each other.
-ghost use Rattle.std.specs.Prelude.{◌≡◌, ◌==◌, ◌-◌, if◌then◌else◌, false, [], ◌∷◌};
+ghost use Rattle.std.specs.Prelude.{◌≡◌, ◌==◌, ◌-◌, if◌then◌else◌, false, [], ◌∷◌, IfOk};
 ghost use Rattle.std.proofs.Common.{rules};
 ghost use Rattle.st_events.specs.declared.action.Action.TheVariants.{Send};
 ghost use Rattle.st_events.specs.declared.enter_outcome.EnterOutcome.TheVariants as enter_outcome;

@@ -1,5 +1,7 @@
-use Rattle.std.proofs.Common.{◌≡◌, ◌+◌, suc, ◌∙◌, arith}
-use Rattle.st_core.proofs.DecisionLemmas.{one_left, decision_more, decision_none}
+use Rattle.std.proofs.Common.{◌≡◌, ◌+◌, suc, [], drop, refl, ◌∙◌, arith}
+use Rattle.std.proofs.lemmas.List.{drop_all}
+use Rattle.st_actions.specs.Taking.{all_settings_of}
+use Rattle.st_core.proofs.DecisionLemmas.{one_left, decision_more, decision_none, as_many_decisions, all_noted}
 use Rattle.st_core.proofs.decisions.decisions_of.Goals as goal
 use Rattle.st_core.proofs.decisions.decisions_of.Goals.{in-Some, in_default}
 
@@ -25,3 +27,15 @@ loop-index-preserved g c =
         | in_default w ↦ rw w.decisions-is c.loop-index.invariant.reserved
       ];
     }
+
+pub loop-index-init : goal.loop-index-init
+loop-index-init g c = record {
+  decisions = rw c.in_ok-decisions.ensures.items refl;
+  reserved = omega (arith, c.in_ok-decisions.ensures.exact, c.requires, as_many_decisions (all_settings_of c.args.actions.now));
+}
+
+-- each is noted
+pub returns : goal.returns
+returns g c =
+    let all : drop c.loop-index.index c.args.actions.now ≡ [] = drop_all c.loop-index.index c.args.actions.now (omega (arith, c.loop-index-test.false, c.len-index-end.ensures.length)) in
+    c.from.ensures ∙ all_noted c.loop-index.decisions.items [] _ refl (rw all at c.loop-index.invariant.decisions)

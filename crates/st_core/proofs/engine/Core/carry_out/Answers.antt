@@ -4,18 +4,18 @@ use Rattle.std.proofs.lemmas.Bool.{leb-true}
 use Rattle.st_actions.proofs.OnceLemmas.{settings_once}
 use Rattle.st_actions.specs.Plan.{replies_of, inserts_of, postpone_of, settings_of, sends_of}
 use Rattle.st_actions.specs.Taking.{all_settings_of}
-use Rattle.st_requests.specs.Requests.{taken_by}
+use Rattle.st_requests.specs.Requests.{taken_by, with_answers}
 use Rattle.st_events.specs.declared.event.Event.{Event}
 use Rattle.st_agenda.specs.declared.schedule.Schedule.{Schedule}
-use Rattle.st_agenda.specs.Agenda.{Agenda, next_in, settled_in, running_on}
+use Rattle.st_agenda.specs.Agenda.{Agenda, next_in, settled_in, inserted_in, all_set_in, running_on}
 use Rattle.st_agenda.specs.Timing.{numbers_taken}
 use Rattle.st_agenda.proofs.LawfulTurn.{still_running}
 use Rattle.st_outbox.specs.declared.outbox.Outbox.{Outbox}
 use Rattle.st_outbox.specs.Outbox.{with_sent}
 use Rattle.st_outbox.proofs.OutboxLemmas.{numbers_sent}
-use Rattle.st_core.specs.Transition.{with_moment, has_numbers, sent_by}
-use Rattle.st_core.proofs.StateLemmas.{settled_keeps}
-use Rattle.st_core.proofs.TransitionLemmas.{went_on_is, went_on_refused, machine_is, settled_is, enough_for_all, both_true}
+use Rattle.st_core.specs.Transition.{with_moment, has_numbers, done_by, inserted_by, decisions_of, sent_by}
+use Rattle.st_core.proofs.StateLemmas.{lawful_same, settled_keeps}
+use Rattle.st_core.proofs.TransitionLemmas.{went_on_is, went_on_refused, told_is, machine_is, settled_is, enough_for_all, both_true}
 use Rattle.st_core.proofs.engine.Core.carry_out.Goals as goal
 
 -- the answer and what is left are the definition's
@@ -36,15 +36,20 @@ returns-clause-step g c called comes =
     let replied : c.answer_each.new.taken.items ≡ taken_by machine.requests (replies_of called.actions) =
     rw (c.answer_each.ensures.taken, c.in-Ok.ensures.replied, to_reply, ← c.self.view_is) refl in
     let settled : c.set_all.new.self.schedule ≡ settled_in c.max-self-inside.result c.prepare.new.agenda.schedule c.args.course.number c.unwrap_or-postpone.result c.args.course.changed
-    (inserts_of c.answer_each.new.actions) (all_settings_of c.insert.new.actions) = rw (c.set_all.ensures.set, c.insert.ensures.inserted, c.settle.ensures.schedule) refl in
+    (inserts_of c.answer_each.new.actions) (all_settings_of c.insert.new.actions) =
+    c.set_all.ensures.set
+    ∙ ap (λ (s : Schedule _). all_set_in c.max-self-inside.result s (all_settings_of c.insert.new.actions))
+    (ap (λ (a : Agenda _). a.schedule) c.insert.ensures.inserted ∙ ap (λ (s : Schedule _). inserted_in s (inserts_of c.answer_each.new.actions)) c.settle.ensures.schedule) in
     let to_send : sends_of c.set_all.new.actions ≡ sends_of called.actions =
     rw comes.actions (c.set_all.ensures.same_sends ∙ (c.insert.ensures.same_sends ∙ (c.answer_each.ensures.same_sends ∙ c.prepare.ensures.same_sends))) in
     let sent : c.send_each.new.outgoing.outbox ≡ with_sent machine.id machine.outbox (sends_of called.actions) =
     rw (c.send_each.ensures, to_send, c.prepare.ensures.same_outbox, ← c.self.view_is) refl in
     let told : c.prepare.new.gathered.sent ≡ sent_by machine called.actions =
     rw (comes.actions, ← c.self.view_is) (c.in-Ok.ensures.sent ∙ sym (numbers_sent old.id old.outgoing.outbox.next_number (sends_of actions))) in
+    let inserted : c.prepare.new.gathered.inserted ≡ inserted_by machine called.actions = rw (comes.actions, ← c.self.view_is) c.in-Ok.ensures.inserted in
+    let set : c.prepare.new.gathered.set ≡ decisions_of (settings_of called.actions) = rw comes.actions c.in-Ok.ensures.set in
     went_on_is machine (with_moment machine c.args.course.now) _ c.args.course.number called enough
-    (rw (c.done_by.ensures, postponed, c.in-Ok.ensures.inserted, c.in-Ok.ensures.set, told, replied, c.prepare.ensures.same_calls, comes.calls, comes.state, comes.actions, ← c.self.view_is) refl)
+    (told_is (Some c.args.course.number) machine.state (c.done_by.ensures ∙ ap done_by postponed) (c.prepare.ensures.same_calls ∙ sym comes.calls) (sym comes.state) replied inserted set told)
     (machine_is (rw (← c.self.view_is) refl) (sym comes.state)
     (rw (c.replace.ensures, comes.data, ← c.self.view_is) refl)
     (settled ∙ settled_is c.args.course.number latest same postponed (sym comes.changed) to_insert to_set)
@@ -150,6 +155,14 @@ invariant_of-self-2 g c =
     let inserts : inserts_of c.answer_each.new.actions ≡ inserts_of actions = c.answer_each.ensures.same_inserts ∙ c.prepare.ensures.same_inserts in
     let places = leb-true (old.outgoing.outbox.next_number + length (sends_of actions)) (2 ^ 63) c.in-Ok.ensures.message_numbers in
     let sends : sends_of c.set_all.new.actions ≡ sends_of actions = c.set_all.ensures.same_sends ∙ (c.insert.ensures.same_sends ∙ (c.answer_each.ensures.same_sends ∙ c.prepare.ensures.same_sends)) in
-    rw (c.send_each.ensures, sends, c.prepare.ensures.same_outbox, c.set_all.ensures.set, c.insert.ensures.inserted, c.settle.ensures.schedule, c.answer_each.ensures.answered, settings, inserts, c.prepare.ensures.same_replies, c.prepare.ensures.same_schedule, c.max-self-inside.ensures)
+    let settled : c.set_all.new.self.schedule ≡ settled_in c.max-self-inside.result c.prepare.new.agenda.schedule c.args.course.number c.unwrap_or-postpone.result c.args.course.changed
+    (inserts_of c.answer_each.new.actions) (all_settings_of c.insert.new.actions) =
+    c.set_all.ensures.set
+    ∙ ap (λ (s : Schedule _). all_set_in c.max-self-inside.result s (all_settings_of c.insert.new.actions))
+    (ap (λ (a : Agenda _). a.schedule) c.insert.ensures.inserted ∙ ap (λ (s : Schedule _). inserted_in s (inserts_of c.answer_each.new.actions)) c.settle.ensures.schedule) in
+    let scheduled = settled ∙ settled_is c.args.course.number c.max-self-inside.ensures c.prepare.ensures.same_schedule refl refl inserts settings in
+    let answered : c.answer_each.new.requests ≡ with_answers old.requests (replies_of actions) = rw (c.answer_each.ensures.answered, c.prepare.ensures.same_replies) refl in
+    let sent : c.send_each.new.outgoing.outbox ≡ with_sent old.id old.outgoing.outbox (sends_of actions) = rw (c.send_each.ensures, sends, c.prepare.ensures.same_outbox) refl in
+    lawful_same old.id old.ended scheduled answered sent c.max-self-inside.ensures
     (settled_keeps old.id old.agenda.schedule old.requests old.outgoing.outbox old.latest c.args.course.now old.ended c.args.course.number c.unwrap_or-postpone.result c.args.course.changed (inserts_of actions) (settings_of actions) (replies_of actions)
     (sends_of actions) c.requires.moment next (settings_once actions) enough places c.self.invariant)

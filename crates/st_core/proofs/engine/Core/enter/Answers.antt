@@ -1,4 +1,4 @@
-use Rattle.std.proofs.Common.{◌≡◌, refl, ap, sym, ◌∙◌, inr}
+use Rattle.std.proofs.Common.{◌≡◌, refl, ap, sym, ◌∙◌, inr, rules}
 use Rattle.std.proofs.lemmas.Result.{err_from_is_err_and}
 use Rattle.std.specs.Prelude.{None, Some}
 use Rattle.st_core.specs.Callbacks.{Called, callbacks_of, or_old, entered_as, entered_with}
@@ -68,3 +68,18 @@ returns-in-Some-clause-step g c handled called comes called_is =
       changed = rw called_as comes.changed;
       actions = rw (called_as, c.in_ok-data.ensures.added, comes.actions) refl;
     }))
+
+pub add_entered-requires : goal.add_entered-requires
+add_entered-requires g c = (search rules, (g.met.M.Module.lawful.enter_outcome_fits, (g.met.M.Module.lawful.enter_actions_fit, g.met.M.Module.lawful.replies_fit)))
+
+pub returns-in-None-clause-unchanged_module : goal.returns-in-None-clause-unchanged_module
+returns-in-None-clause-unchanged_module g c = c.go_on.ensures.unchanged_module
+
+pub returns-in-None-clause-unchanged : goal.returns-in-None-clause-unchanged
+returns-in-None-clause-unchanged g c = c.go_on.ensures.unchanged
+
+pub returns-in-Some-clause-unchanged_module : goal.returns-in-Some-clause-unchanged_module
+returns-in-Some-clause-unchanged_module g c = c.stop_at.ensures.unchanged_module
+
+pub returns-in-Some-clause-unchanged : goal.returns-in-Some-clause-unchanged
+returns-in-Some-clause-unchanged g c = c.stop_at.ensures.unchanged

@@ -1,4 +1,4 @@
-use Rattle.std.proofs.Common.{◌≡◌, ◌+◌, ◌^◌, false, [], length, refl, ap, sym, ◌∙◌, arith}
+use Rattle.std.proofs.Common.{◌≡◌, ◌+◌, ◌^◌, false, None, [], length, refl, ap, sym, ◌∙◌, arith}
 use Rattle.std.specs.List.{range_with_len}
 use Rattle.std.proofs.lemmas.Bool.{leb-true}
 use Rattle.st_actions.proofs.OnceLemmas.{settings_once}
@@ -9,12 +9,12 @@ use Rattle.st_agenda.specs.Agenda.{Agenda, running_on}
 use Rattle.st_agenda.specs.Timing.{numbers_taken}
 use Rattle.st_outbox.specs.declared.outbox.Outbox.{Outbox}
 use Rattle.st_outbox.proofs.OutboxLemmas.{numbers_sent}
-use Rattle.st_core.specs.Start.{first_state}
-use Rattle.st_core.specs.Transition.{sent_by}
+use Rattle.st_core.specs.Start.{first_state, with_begun}
+use Rattle.st_core.specs.Transition.{decisions_of, inserted_by, sent_by}
 use Rattle.st_core.proofs.LawfulLemmas.{none_runs}
 use Rattle.st_core.proofs.StartLemmas.{started_refused, started_is}
-use Rattle.st_core.proofs.StateLemmas.{begun_keeps}
-use Rattle.st_core.proofs.TransitionLemmas.{enough_for_all, both_true}
+use Rattle.st_core.proofs.StateLemmas.{begun_keeps, lawful_same}
+use Rattle.st_core.proofs.TransitionLemmas.{enough_for_all, both_true, machine_is, told_is}
 use Rattle.st_core.proofs.engine.Core.run_with.Goals as goal
 
 -- numbers or memory are wanting
@@ -103,9 +103,14 @@ returns g c =
           let told : c.prepare.new.gathered.sent ≡ sent_by machine called.actions =
           rw same_actions (c.in-Ok.ensures.sent ∙ (ap (λ (o : Outbox _). range_with_len o.next_number (length (sends_of c.args.actions.now))) c.new-outgoing.ensures
           ∙ sym (numbers_sent c.args.opening.id 1 (sends_of c.args.actions.now)))) in
+          let inserted : c.prepare.new.gathered.inserted ≡ inserted_by machine called.actions = rw (same_actions, ← next) c.in-Ok.ensures.inserted in
+          let set : c.prepare.new.gathered.set ≡ decisions_of (settings_of called.actions) = rw same_actions c.in-Ok.ensures.set in
+          let scheduled : c.set_all.new.self.schedule ≡ (with_begun machine called.actions).schedule =
+          rw (c.set_all.ensures.set, c.insert.ensures.inserted, settings, c.prepare.ensures.same_inserts, c.prepare.ensures.same_schedule, c.new-agenda.ensures, same_actions) refl in
+          let sent : c.send_each.new.outgoing.outbox ≡ (with_begun machine called.actions).outbox = rw (c.send_each.ensures, sends, c.prepare.ensures.same_outbox, c.new-outgoing.ensures, same_actions) refl in
           started_is _ c.args.opening.module machine called (rw (same_actions, none_runs called.changed c.args.opening.first) (both_true numbers messages))
-          (rw (c.send_each.ensures, sends, c.prepare.ensures.same_outbox, c.new-outgoing.ensures, c.set_all.ensures.set, c.insert.ensures.inserted, settings, c.prepare.ensures.same_inserts, c.prepare.ensures.same_schedule, c.new-agenda.ensures, c.new-2.ensures, same_actions) refl)
-          (rw (c.into_report-report.ensures, c.in-Ok.ensures.replied, c.in-Ok.ensures.inserted, c.in-Ok.ensures.set, told, c.prepare.ensures.same_calls, next, same_calls, same_actions) refl);
+          (machine_is refl refl refl scheduled c.new-2.ensures sent refl refl)
+          (c.into_report-report.ensures ∙ told_is None c.args.state refl (c.prepare.ensures.same_calls ∙ sym same_calls) refl c.in-Ok.ensures.replied inserted set told);
     }
 
 -- it can come about
@@ -118,5 +123,9 @@ invariant_of-core g c =
     let settings : all_settings_of c.insert.new.actions ≡ settings_of actions = c.insert.ensures.same_settings ∙ c.in-Ok.ensures.last in
     let sends : sends_of c.set_all.new.actions ≡ sends_of actions = c.set_all.ensures.same_sends ∙ (c.insert.ensures.same_sends ∙ c.prepare.ensures.same_sends) in
     let places = leb-true (1 + length (sends_of actions)) (2 ^ 63) (rw c.new-outgoing.ensures at c.in-Ok.ensures.message_numbers) in
-    rw (c.send_each.ensures, sends, c.prepare.ensures.same_outbox, c.new-outgoing.ensures, c.set_all.ensures.set, c.insert.ensures.inserted, settings, c.prepare.ensures.same_inserts, c.prepare.ensures.same_schedule, c.new-agenda.ensures, c.new-2.ensures)
+    let machine = first_state c.args.opening.id c.args.state c.args.data c.args.opening.now c.args.opening.first in
+    let scheduled : c.set_all.new.self.schedule ≡ (with_begun machine actions).schedule =
+    rw (c.set_all.ensures.set, c.insert.ensures.inserted, settings, c.prepare.ensures.same_inserts, c.prepare.ensures.same_schedule, c.new-agenda.ensures) refl in
+    let sent : c.send_each.new.outgoing.outbox ≡ (with_begun machine actions).outbox = rw (c.send_each.ensures, sends, c.prepare.ensures.same_outbox, c.new-outgoing.ensures) refl in
+    lawful_same c.args.opening.id None scheduled c.new-2.ensures sent refl
     (begun_keeps c.args.opening.id c.args.opening.now c.args.opening.first (inserts_of actions) (settings_of actions) (sends_of actions) c.requires.moment (settings_once actions) enough places)
