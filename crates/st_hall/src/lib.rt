@@ -11,8 +11,8 @@ mod undelivered;
 
 pub use hall::Hall;
 pub use served::Served;
-pub use undelivered::Undelivered;
 pub use st_pool::{Hand, Message};
 pub use st_registry::{
     Machine, MachineId, Module, Port, Reason, Refusal, Refused, Registry, Started, Token,
 };
+pub use undelivered::Undelivered;

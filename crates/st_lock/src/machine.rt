@@ -16,9 +16,9 @@ ghost use Rattle.st_scheduled.specs.Answered.{ticked_as, collected_as, replied_a
 ghost use Rattle.st_lock.specs.Machines.{id_of, DeliversSomewhere, IsJournalAt, IsToldSomewhere, ServesSomewhere, TakesOutSomewhere, TurnsSomewhere};
 ghost use Rattle.st_lock.specs.Ports.{port_at_first};
 
-use crate::{Port, Service};
 use crate::claim::{ByPort, Claim};
 use crate::desk::{Desk, PostOf, a_desk_is_journaled};
+use crate::{Port, Service};
 use st_cell::{
     Collected, Core, Journal, MachineId, Message, Module, Next, Posted, Reason, Refusal, Refused,
     Tag, Ticked, Token,

@@ -139,11 +139,7 @@ fn is_over<R: Runtime>(rt: &impl Abort, pool: &mut Pool<R, u32>) {
 }
 
 /// So many workers hand a message round a ring of ten machines, 10,000 times.
-fn goes_round<R: Runtime>(
-    rt: &Host<impl Abort + AllocGlobal>,
-    threads: R,
-    workers: usize,
-)
+fn goes_round<R: Runtime>(rt: &Host<impl Abort + AllocGlobal>, threads: R, workers: usize)
     requires { (1 ≤ workers) × (workers ≤ 16) }
 {
     let hall = ring_hall(rt, threads);

@@ -71,7 +71,11 @@ fn a_machine_is_found_served_and_removed(rt: HostRuntime) {
     let (_, second) = posts(&rt, &threads, &mut port);
     holds(&rt, "the tokens differ", second != first);
     is_removed(&rt, &threads, &hall, id, "front");
-    holds(&rt, "its token rests", hall.turn(second, 5, &mut Hand::new()) == None);
+    holds(
+        &rt,
+        "its token rests",
+        hall.turn(second, 5, &mut Hand::new()) == None,
+    );
     holds(&rt, "it is empty at last", hall.is_empty());
     drop(port);
     drop(hall);

@@ -75,7 +75,11 @@ fn a_look_shows_what_the_last_turn_reported(rt: HostRuntime) {
     holds(&rt, "one more event waits", first == Some(token));
     let waiting = seen_after(&rt, &threads, &mut port, number);
     holds(&rt, "the event that it inserted", waiting == 1);
-    holds(&rt, "no event waits", hall.turn(token, 5, &mut Hand::new()) == None);
+    holds(
+        &rt,
+        "no event waits",
+        hall.turn(token, 5, &mut Hand::new()) == None,
+    );
     let inserted = number.saturating_add(1);
     let waiting = seen_after(&rt, &threads, &mut port, inserted);
     holds(&rt, "no event was inserted", waiting == 0);
