@@ -18,6 +18,8 @@ fn sends_one<R: Wait + Drop>(
     let turned = hall.turn(token, 5, hand);
     holds(rt, "its message is left", turned == Some(token));
     holds(rt, "nothing is in the hand", hand.message.is_none());
+    holds(rt, "nothing was woken", hand.woken == None);
+    hand.woken = None;
     let carried = hall.turn(token, 5, hand);
     holds(rt, "its message is taken", carried == Some(token));
     holds(rt, "nothing is in the hand", hand.message.is_none());

@@ -15,22 +15,25 @@ set_all-requires g c =
     let before = ap (λ (s : Schedule _). s.next_number) c.reserve_for.ensures.unchanged in (
       search rules,
       (
-        search rules,
+        omega (arith, settings, c.counted-inserts.ensures.settings),
         (
-          rw c.insert.ensures.same_settings c.counted-inserts.ensures.once,
+          search rules,
           (
-            omega (arith, settings, reserved, c.reserve_for.ensures.reserved, c.counted-inserts.ensures.settings),
-            omega (
-              arith,
-              few,
-              settings,
-              next,
-              before,
-              c.numbers_are_low.ensures,
-              c.counted-inserts.ensures.inserts,
-              c.counted-inserts.ensures.settings,
-              c.counted-inserts.ensures.few_inserts,
-              c.counted-inserts.ensures.few_settings,
+            rw c.insert.ensures.same_settings c.counted-inserts.ensures.once,
+            (
+              omega (arith, settings, reserved, c.reserve_for.ensures.reserved, c.counted-inserts.ensures.settings),
+              omega (
+                arith,
+                few,
+                settings,
+                next,
+                before,
+                c.numbers_are_low.ensures,
+                c.counted-inserts.ensures.inserts,
+                c.counted-inserts.ensures.settings,
+                c.counted-inserts.ensures.few_inserts,
+                c.counted-inserts.ensures.few_settings,
+              ),
             ),
           ),
         ),
