@@ -374,4 +374,20 @@ impl<M: Module> Cell<M> {
     {
         self.journaled.cut()
     }
+
+    /// Hands the journal out, with a label, and cuts it: it answers what `journal` answers, without a copy, and leaves what `cut`
+    /// leaves. So no entry is lost between the two.
+    ///
+    /// Refused with `NoMemory` where memory is wanted and there is none; then the journal stays.
+    ///
+    /// Ours: docs/DECISIONS.md, Journals.
+    pub fn take_journal(&mut self, label: &str) -> Result<Journal<M::State, M::Content>, Refusal>
+        ensures journal { IfOk result (λ journal. IsJournalOf self.old label.now journal) }
+        ensures cut { OnOk result (self.new ≡ cut self.old) }
+
+        ensures refusals { IfErr result (λ refusal. refusal ≡ NoMemory) }
+        ensures unchanged { OnErr result (self.new ≡ self.old) }
+    {
+        self.journaled.take_journal(label)
+    }
 }

@@ -10,6 +10,7 @@ use crate::journaled::{EntryOf, Journaled};
 use crate::{Journal, JournalEntry, Look};
 use st_core::{Answer, Command, Module, PlainList, Refusal};
 use std::alloc::{AllocError, Global};
+use std::mem;
 
 /// The numbers of a port's events whose entries are in a journal, in order.
 fn numbers_in<S, C>(
@@ -103,5 +104,31 @@ impl<M: Module> Journaled<M> {
         self.base = base;
         self.journal = journal;
         Ok(())
+    }
+
+    /// The journal itself, which is cut.
+    pub(crate) fn take_journal(
+        &mut self,
+        label: &str,
+    ) -> Result<Journal<M::State, M::Content>, Refusal>
+        ensures journal { IfOk result (λ journal. IsJournalOf self.old.cell label.now journal) }
+        ensures cut { OnOk result (self.new.cell ≡ cut self.old.cell) }
+        ensures room { HasRoom self.old → HasRoom self.new }
+
+        ensures refusals { IfErr result (λ refusal. refusal ≡ NoMemory) }
+        ensures unchanged { OnErr result (self.new.cell ≡ self.old.cell) }
+    {
+        let (id, from) = (self.scheduled.core().id(), self.base.latest);
+        let label = String::from_str(self.alloc, label)?;
+        let base = self.scheduled.snapshot()?;
+        let journal = Vec::with_capacity(self.alloc, 1)?;
+        let entries = mem::replace(&mut self.journal, journal);
+        self.base = base;
+        Ok(Journal {
+            id,
+            label,
+            from,
+            entries: PlainList::from(entries),
+        })
     }
 }

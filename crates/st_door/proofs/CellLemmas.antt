@@ -23,14 +23,16 @@ use Rattle.st_events.proofs.ComparedLemmas.{same_number}
 use Rattle.st_scheduled.proofs.TokensCompared.{some_is, same_id_self}
 use Rattle.st_cell.specs.Calls.{MeetsCall, Turns, entry_of, kept_answer, next_as, served_at}
 use Rattle.st_cell.specs.declared.next.Next.{Next}
+use Rattle.st_cell.specs.declared.source.Source.{Source}
+use Rattle.st_cell.specs.declared.source.Source.TheVariants as source
 use Rattle.st_door.specs.contracts.door.DoorModule.TheImpl.{ghosts}
 use Rattle.st_door.specs.contracts.door_state.DoorStatePartialEq.TheImpl.{eq-value}
 use Rattle.st_door.specs.declared.door_content.DoorContent.{DoorContent}
 use Rattle.st_door.specs.declared.door_state.DoorState.{DoorState}
 use Rattle.st_door.specs.declared.door.Door.{Door}
 use Rattle.st_door.specs.declared.door_data.DoorData.{DoorData}
-use Rattle.st_door.specs.Doors.{DoorAnswer, DoorEntry, DoorMachine, source_of, recorded, refusal_in, told_kept}
-use Rattle.st_door.specs.Entries.{DoorCore, ScheduledDoor, DoorCellState, HasTold, IsDoorCell, door_in, history_in, machine_in, recorded_in, told_in}
+use Rattle.st_door.specs.Doors.{DoorAnswer, DoorEntry, DoorMachine, recorded, refusal_in, kept_told_by}
+use Rattle.st_door.specs.Entries.{DoorCore, ScheduledDoor, DoorCellState, HasTold, HasToldBy, IsDoorCell, door_in, history_in, machine_in, recorded_in, told_in}
 use Rattle.st_door.proofs.ToldLemmas.{given-callbacks, told-refused}
 
 -- what a door's cell answers to a command
@@ -81,51 +83,51 @@ told-on cell command ready =
     (given-callbacks cell.scheduled.core.module_))
 
 -- the entry of what is told, and the count of commands: it has one where the definition's answer is recorded
-entry-told : (old : ScheduledDoor) (command : Command DoorContent) (said : DoorAnswer) (core : DoorCore)
-    → (entry_of (told_as old said core).1.count (source_of command) command (kept_answer (told_as old said core).0) ≡ recorded (old.count + 1) command said)
-    × ((told_as old said core).1.count ≡ old.count + length (recorded (old.count + 1) command said))
-entry-told old command (answer.Post (Ok number)) core = (refl, refl)
-entry-told old command (answer.Post (Err refused)) core = (refl, omega arith)
-entry-told old command (answer.Tick (Ok expired)) core = (refl, refl)
-entry-told old command (answer.Tick (Err refusal)) core = (refl, omega arith)
-entry-told old command (answer.Turn (Ok (Reported report))) core = (refl, refl)
-entry-told old command (answer.Turn (Ok Idle)) core = elim (cases_Bool (has_message core)) [
+entry-told : (old : ScheduledDoor) (source : Source) (command : Command DoorContent) (said : DoorAnswer) (core : DoorCore)
+    → (entry_of (told_as old said core).1.count source command (kept_answer (told_as old said core).0) ≡ recorded (old.count + 1) source command said)
+    × ((told_as old said core).1.count ≡ old.count + length (recorded (old.count + 1) source command said))
+entry-told old source command (answer.Post (Ok number)) core = (refl, refl)
+entry-told old source command (answer.Post (Err refused)) core = (refl, omega arith)
+entry-told old source command (answer.Tick (Ok expired)) core = (refl, refl)
+entry-told old source command (answer.Tick (Err refusal)) core = (refl, omega arith)
+entry-told old source command (answer.Turn (Ok (Reported report))) core = (refl, refl)
+entry-told old source command (answer.Turn (Ok Idle)) core = elim (cases_Bool (has_message core)) [
   | inl sending ↦ rw sending (refl, omega arith)
   | inr none ↦ rw none (refl, omega arith)
 ]
-entry-told old command (answer.Turn (Err refusal)) core = (refl, omega arith)
-entry-told old command (answer.Reply taken) core = (refl, refl)
-entry-told old command (answer.Collect shown) core = elim (cases_Bool (hands_out shown)) [
+entry-told old source command (answer.Turn (Err refusal)) core = (refl, omega arith)
+entry-told old source command (answer.Reply taken) core = (refl, refl)
+entry-told old source command (answer.Collect shown) core = elim (cases_Bool (hands_out shown)) [
   | inl given ↦ rw given (refl, refl)
   | inr kept ↦ rw kept (refl, omega arith)
 ]
-entry-told old command (answer.Stop (Ok word)) core = (refl, refl)
-entry-told old command (answer.Stop (Err refusal)) core = (refl, omega arith)
-entry-told old command (answer.TakeOut None) core = (refl, omega arith)
-entry-told old command (answer.TakeOut (Some message)) core = (refl, refl)
+entry-told old source command (answer.Stop (Ok word)) core = (refl, refl)
+entry-told old source command (answer.Stop (Err refusal)) core = (refl, omega arith)
+entry-told old source command (answer.TakeOut None) core = (refl, omega arith)
+entry-told old source command (answer.TakeOut (Some message)) core = (refl, refl)
 
 -- the callbacks of a door's module
 abbrev given : Door → Callbacks DoorState DoorData DoorContent
 given door = callbacks_of ghosts eq-value.it door
 
 -- what a cell answers that is told a command, and what it is then, but for what its ports have posted
-abbrev WithEntry : DoorCellState → Command DoorContent → DoorStep × DoorCellState → Type 0
-WithEntry cell command definition =
+abbrev WithEntry : DoorCellState → Source → Command DoorContent → DoorStep × DoorCellState → Type 0
+WithEntry cell source command definition =
     (definition.0 ≡ (told_on given cell.scheduled command).0)
     × (definition.1.scheduled ≡ (told_on given cell.scheduled command).1)
-    × (definition.1.journal ≡ cell.journal ++ entry_of (told_on given cell.scheduled command).1.count (source_of command) command (kept_answer (told_on given cell.scheduled command).0))
+    × (definition.1.journal ≡ cell.journal ++ entry_of (told_on given cell.scheduled command).1.count source command (kept_answer (told_on given cell.scheduled command).0))
     × (definition.1.base ≡ cell.base)
 
 -- a call that found memory is answered so, and leaves the definition's machine, and its entry
-pub called : (cell new : DoorCellState) (command : Command DoorContent) (said : DoorStep) (definition : DoorStep × DoorCellState)
+pub called : (cell new : DoorCellState) (source : Source) (command : Command DoorContent) (said : DoorStep) (definition : DoorStep × DoorCellState)
     → is_full cell.scheduled ≡ false
-    → WithEntry cell command definition
+    → WithEntry cell source command definition
     → said ≢ refused_with NoMemory (content_of command)
     → MeetsCall command said cell new definition
-    → (said ≡ (told_as cell.scheduled (told_in cell command).0 (core_after cell command)).0) × HasTold command cell new
-called cell new command said definition ready with_entry found (inl done) =
+    → (said ≡ (told_as cell.scheduled (told_in cell command).0 (core_after cell command)).0) × HasToldBy source command cell new
+called cell new source command said definition ready with_entry found (inl done) =
     let told = told-on cell command ready in
-    let entry = entry-told cell.scheduled command (told_in cell command).0 (core_after cell command) in (
+    let entry = entry-told cell.scheduled source command (told_in cell command).0 (core_after cell command) in (
       done.0 ∙ (with_entry.0 ∙ ap (λ (t : DoorStep × ScheduledDoor). t.0) told),
       record {
         machine = ap machine_in done.1
@@ -133,14 +135,14 @@ called cell new command said definition ready with_entry found (inl done) =
             ∙ ap (λ (core : DoorCore). core.machine) (told-left cell.scheduled (told_in cell command).0 (core_after cell command) (stays-refused cell command)));
         journal = ap (λ (c : DoorCellState). c.journal) done.1
             ∙ (with_entry.2
-            ∙ (ap (λ (t : DoorStep × ScheduledDoor). cell.journal ++ entry_of t.1.count (source_of command) command (kept_answer t.0)) told
+            ∙ (ap (λ (t : DoorStep × ScheduledDoor). cell.journal ++ entry_of t.1.count source command (kept_answer t.0)) told
             ∙ ap (λ (entries : List DoorEntry). cell.journal ++ entries) entry.0));
         count = ap (λ (c : DoorCellState). c.scheduled.count) done.1
             ∙ (ap (λ (s : ScheduledDoor). s.count) (with_entry.1 ∙ ap (λ (t : DoorStep × ScheduledDoor). t.1) told) ∙ entry.1);
         base = ap (λ (c : DoorCellState). c.base) done.1 ∙ with_entry.3;
       },
     )
-called cell new command said definition ready with_entry found (inr none) = absurd (found none.1)
+called cell new source command said definition ready with_entry found (inr none) = absurd (found none.1)
 
 -- ---- turns
 -- why a turn was refused, if it was
@@ -171,29 +173,29 @@ pub turned : (cell new : DoorCellState) (token : Token) (moment : ℕ) (result :
     → HasTold (command.Turn moment) cell new
 turned cell new token moment result ready work own found turns =
     let done = rw (own-token cell.scheduled token own) at turns in
-    (called cell new (command.Turn moment) done.0 (served_at (callbacks_of ghosts eq-value.it) cell moment) ready
+    (called cell new source.Caller (command.Turn moment) done.0 (served_at (callbacks_of ghosts eq-value.it) cell moment) ready
     (rw work refl, rw work refl, rw work refl, refl)
     (found-memory token done.0 (is_some new.scheduled.token) (λ none. found (ap turn_refusal done.2 ∙ none)))
     done.1).1
 
 -- ---- doors in cells
 -- the door in a cell that was told a command: the machine is the definition's, and so is the history where it is kept
-pub door-told : (keeps : Bool) (command : Command DoorContent) (old new : DoorCellState) → IsDoorCell keeps old → HasTold command old new
-    → door_in keeps new ≡ told_kept command (door_in keeps old)
-door-told false command old new is told = ap (λ (machine : DoorMachine). record { machine = machine; history = None }) told.machine
-door-told true command old new is told =
-    let entries : new.journal ≡ old.journal ++ recorded (length old.journal + 1) command (told_in old command).0 =
-    told.journal ∙ ap (λ (count : ℕ). old.journal ++ recorded (count + 1) command (told_in old command).0) (is.whole refl) in
+pub door-told : (keeps : Bool) (source : Source) (command : Command DoorContent) (old new : DoorCellState) → IsDoorCell keeps old → HasToldBy source command old new
+    → door_in keeps new ≡ kept_told_by source command (door_in keeps old)
+door-told false source command old new is told = ap (λ (machine : DoorMachine). record { machine = machine; history = None }) told.machine
+door-told true source command old new is told =
+    let entries : new.journal ≡ old.journal ++ recorded (length old.journal + 1) source command (told_in old command).0 =
+    told.journal ∙ ap (λ (count : ℕ). old.journal ++ recorded (count + 1) source command (told_in old command).0) (is.whole refl) in
     let latest : new.base.latest ≡ old.base.latest = ap (λ base. base.latest) told.base in
     ap (λ (machine : DoorMachine). record { machine = machine; history = history_in true new }) told.machine
     ∙ (ap (λ (from : ℕ). record { machine = (told_in old command).1; history = Some (record { from = from; entries = new.journal }) }) latest
     ∙ ap (λ (entries : List DoorEntry). record { machine = (told_in old command).1; history = Some (record { from = old.base.latest; entries = entries }) }) entries)
 
 -- its journal has each command still
-pub whole-told : (keeps : Bool) (command : Command DoorContent) (old new : DoorCellState) → IsDoorCell keeps old → HasTold command old new
+pub whole-told : (keeps : Bool) (source : Source) (command : Command DoorContent) (old new : DoorCellState) → IsDoorCell keeps old → HasToldBy source command old new
     → length new.ports ≡ length old.ports → IsDoorCell keeps new
-whole-told keeps command old new is told ports = record {
+whole-told keeps source command old new is told ports = record {
   has_port = rw ports is.has_port;
-  whole = λ kept. told.count ∙ (ap (λ (n : ℕ). n + length (recorded_in old command)) (is.whole kept)
-      ∙ (sym (length-append old.journal (recorded_in old command)) ∙ sym (ap length told.journal)));
+  whole = λ kept. told.count ∙ (ap (λ (n : ℕ). n + length (recorded_in old source command)) (is.whole kept)
+      ∙ (sym (length-append old.journal (recorded_in old source command)) ∙ sym (ap length told.journal)));
 }

@@ -1,15 +1,19 @@
 -- A script that keeps no histories does the same.
 use Rattle.std.proofs.Common.{◌≡◌, ℕ, zero, suc, ◌+◌, ◌||◌, Bool, true, false, List, [], ◌∷◌, ◌++◌, length, map, nat_lt, max, ◌^◌, codes, Option, Some, None, Result, Ok, Err, refl, ap, sym, ◌∙◌, inl, inr, if◌then◌else◌}
-use Rattle.std.specs.List.{flat_map, list_any}
+use Rattle.std.specs.List.{find, flat_map, list_any}
 use Rattle.std.specs.Option.{option_map, option_map_or}
 use Rattle.std.proofs.lemmas.Bool.{cases_Bool}
 use Rattle.std.proofs.lemmas.List.{length-map, map-append}
 use Rattle.std.proofs.lemmas.List.Sums.{sum_by-cons}
+use Rattle.st_events.specs.declared.message.Message.{Message}
 use Rattle.st_events.specs.declared.refusal.Refusal.{Refusal}
 use Rattle.st_events.specs.declared.refusal.Refusal.TheVariants.{Full}
 use Rattle.st_events.specs.declared.tag.Tag.{Tag}
 use Rattle.st_core.specs.declared.command.Command.{Command}
 use Rattle.st_core.specs.declared.command.Command.TheVariants as command
+use Rattle.st_core.specs.declared.entry.Entry.TheVariants.{Info}
+use Rattle.st_cell.specs.declared.source.Source.{Source}
+use Rattle.st_cell.specs.declared.source.Source.TheVariants as source
 use Rattle.st_core.specs.declared.start.Start.TheVariants.{Running, Ignored, Stopped}
 use Rattle.st_core.specs.Start.{start_of}
 use Rattle.st_door.specs.declared.door_content.DoorContent.{DoorContent}
@@ -17,11 +21,13 @@ use Rattle.st_door.specs.declared.effect.Effect.{Effect}
 use Rattle.st_door.specs.declared.line.Line.{Line}
 use Rattle.st_door.specs.declared.line.Line.TheVariants as line
 use Rattle.st_door.specs.Door.{init_of}
-use Rattle.st_door.specs.Doors.{NamedDoor, all_expired_of, asks, change_first, door_callbacks, door_limit, door_of, expired_of, free_slot_of, has_name, is_ready_door, least_from, length_in, presses, run_until_idle, slots_of, ticked_doors, told_door, told_of, without_door}
+use Rattle.st_door.specs.Doors.{NamedDoor, all_expired_of, asks, change_first, door_callbacks, door_limit, door_of, door_told_by, expired_of, free_slot_of, has_name, is_over, is_ready_door, least_from, length_in, presses, relays, slots_of, source_of, ticked_doors, told_door, told_of, without_door}
+use Rattle.st_door.specs.Settling.{delivered, gone_on, gone_on_by, has_id, message_at, run_until_idle, served_door}
+use Rattle.st_door.specs.declared.service.Service.TheVariants.{TakeOut}
 use Rattle.st_door.specs.Grammar.{line_of}
 use Rattle.st_door.specs.Lines.{line_feed, space}
 use Rattle.st_door.specs.Printing.{expired_text, length_text, status_of}
-use Rattle.st_door.specs.Script.{DoorStart, ScriptState, acted_of, door_start_of, effect_of, faulty_from, finished_of, is_fault, length_collected, length_finished, new_door, passed_to, printing, removed_by, removed_door, rested_of, shown_door, status_finished, step_of, the_door, told_by, told_script, turn_limit, with_start, with_told}
+use Rattle.st_door.specs.Script.{DoorStart, ScriptState, acted_of, door_start_of, effect_of, faulty_from, finished_of, is_fault, length_collected, length_finished, new_door, passed_to, printing, relayed_by, removed_by, removed_door, rested_of, shown_door, status_finished, step_of, the_door, told_by, told_script, turn_limit, with_start, with_told}
 
 -- the door without its history
 abbrev pub forget_door : NamedDoor → NamedDoor
@@ -48,12 +54,12 @@ found name (door ∷ doors) = elim (cases_Bool (has_name name door)) [
   | inr fails ↦ rw fails (found name doors)
 ]
 
-changed : (test : NamedDoor → Bool) (command : Command DoorContent) (doors : List NamedDoor) → ((door : NamedDoor) → test (forget_door door) ≡ test door)
-    → change_first test (told_door command) (map forget_door doors) ≡ map forget_door (change_first test (told_door command) doors)
-changed test command [] same = refl
-changed test command (door ∷ doors) same = elim (cases_Bool (test door)) [
+changed : (test : NamedDoor → Bool) (source : Source) (command : Command DoorContent) (doors : List NamedDoor) → ((door : NamedDoor) → test (forget_door door) ≡ test door)
+    → change_first test (door_told_by source command) (map forget_door doors) ≡ map forget_door (change_first test (door_told_by source command) doors)
+changed test source command [] same = refl
+changed test source command (door ∷ doors) same = elim (cases_Bool (test door)) [
   | inl passes ↦ rw (same door, passes) refl
-  | inr fails ↦ rw (same door, fails) (ap (λ t. forget_door door ∷ t) (changed test command doors same))
+  | inr fails ↦ rw (same door, fails) (ap (λ t. forget_door door ∷ t) (changed test source command doors same))
 ]
 
 any_ready : (doors : List NamedDoor) → list_any is_ready_door (map forget_door doors) ≡ list_any is_ready_door doors
@@ -63,13 +69,34 @@ any_ready (door ∷ doors) = elim (cases_Bool (is_ready_door door)) [
   | inr rests ↦ rw rests (any_ready doors)
 ]
 
-idle : (turns moment : ℕ) (doors : List NamedDoor) → run_until_idle turns moment (map forget_door doors) ≡ map forget_door (run_until_idle turns moment doors)
+-- the first ready door has the same message
+first_ready : (doors : List NamedDoor) → find is_ready_door (map forget_door doors) ≡ option_map forget_door (find is_ready_door doors)
+first_ready [] = refl
+first_ready (door ∷ doors) = elim (cases_Bool (is_ready_door door)) [
+  | inl ready ↦ rw ready refl
+  | inr rests ↦ rw rests (first_ready doors)
+]
+
+message_same : (door : Option NamedDoor) → message_at (option_map forget_door door) ≡ message_at door
+message_same None = refl
+message_same (Some door) = refl
+
+going_by : (message : Option (Message DoorContent)) (moment : ℕ) (doors : List NamedDoor) → gone_on_by message moment (map forget_door doors) ≡ map forget_door (gone_on_by message moment doors)
+going_by None moment doors = changed is_ready_door source.Caller (command.Turn moment) doors (λ door. refl)
+going_by (Some message) moment doors =
+    ap (delivered message) (changed is_ready_door source.Caller command.TakeOut doors (λ door. refl))
+    ∙ changed (has_id message.target) (source.Message message.sender message.number) (command.Post Info message.content) (change_first is_ready_door (served_door TakeOut) doors) (λ door. refl)
+
+going : (moment : ℕ) (doors : List NamedDoor) → gone_on moment (map forget_door doors) ≡ map forget_door (gone_on moment doors)
+going moment doors =
+    ap (λ (message : Option (Message DoorContent)). gone_on_by message moment (map forget_door doors)) (ap message_at (first_ready doors) ∙ message_same (find is_ready_door doors))
+    ∙ going_by (message_at (find is_ready_door doors)) moment doors
+
+idle : (steps moment : ℕ) (doors : List NamedDoor) → run_until_idle steps moment (map forget_door doors) ≡ map forget_door (run_until_idle steps moment doors)
 unfolding run_until_idle
 idle zero moment doors = refl
-idle (suc turns) moment doors = elim (cases_Bool (list_any is_ready_door doors)) [
-  | inl ready ↦ rw (any_ready doors, ready, run_until_idle)
-      (ap (run_until_idle turns moment) (changed is_ready_door (command.Turn moment) doors (λ door. refl))
-      ∙ idle turns moment (change_first is_ready_door (told_door (command.Turn moment)) doors))
+idle (suc steps) moment doors = elim (cases_Bool (list_any is_ready_door doors)) [
+  | inl ready ↦ rw (any_ready doors, ready, run_until_idle) (ap (run_until_idle steps moment) (going moment doors) ∙ idle steps moment (gone_on moment doors))
   | inr rests ↦ rw (any_ready doors, rests, run_until_idle) refl
 ]
 
@@ -101,7 +128,7 @@ named (door ∷ doors) = ap (λ t. (space ∷ door.name) ++ t) (named doors)
 -- ---- actions
 told_changed : (script : ScriptState) (name : List ℕ) (command : Command DoorContent) → with_told (forget script) name command ≡ forget (with_told script name command)
 told_changed script name command =
-    ap (λ (doors : List NamedDoor). record script { traced = false; doors = doors }) (changed (has_name name) command script.doors (λ door. refl))
+    ap (λ (doors : List NamedDoor). record script { traced = false; doors = doors }) (changed (has_name name) (source_of command) command script.doors (λ door. refl))
 
 told_or_not : (script : ScriptState) (name : List ℕ) (command : Command DoorContent) (refusal : Option Refusal)
     → told_by (forget script) name command refusal ≡ forget_acted (told_by script name command refusal)
@@ -116,6 +143,12 @@ told_at script name command (Some door) = told_or_not script name command _
 told : (script : ScriptState) (name : List ℕ) (command : Command DoorContent)
     → told_script (forget script) name command (door_of name (map forget_door script.doors)) ≡ forget_acted (told_script script name command (door_of name script.doors))
 told script name command = rw (found name script.doors) (told_at script name command (door_of name script.doors))
+
+relayed : (script : ScriptState) (name : List ℕ) (digit : ℕ) (door target : Option NamedDoor)
+    → relayed_by (forget script) name digit (option_map forget_door door) (option_map forget_door target) ≡ forget_acted (relayed_by script name digit door target)
+relayed script name digit None target = refl
+relayed script name digit (Some door) None = refl
+relayed script name digit (Some door) (Some target) = told_at script name (relays target.machine.id digit) (Some door)
 
 free : (doors : List NamedDoor) → free_slot_of (map forget_door doors) ≡ free_slot_of doors
 free doors =
@@ -150,13 +183,13 @@ shown : (script : ScriptState) (door : Option NamedDoor) → shown_door (forget 
 shown script None = refl
 shown script (Some door) = refl
 
-removed_if : (script : ScriptState) (name : List ℕ) (ended : Option (ℕ × ℕ)) → removed_by (forget script) name ended ≡ forget_acted (removed_by script name ended)
-removed_if script name None = refl
-removed_if script name (Some end) = ap (λ (doors : List NamedDoor). Ok (record script { traced = false; doors = doors })) (without name script.doors)
+removed_if : (script : ScriptState) (name : List ℕ) (over : Bool) → removed_by (forget script) name over ≡ forget_acted (removed_by script name over)
+removed_if script name false = refl
+removed_if script name true = ap (λ (doors : List NamedDoor). Ok (record script { traced = false; doors = doors })) (without name script.doors)
 
 removed : (script : ScriptState) (name : List ℕ) (door : Option NamedDoor) → removed_door (forget script) name (option_map forget_door door) ≡ forget_acted (removed_door script name door)
 removed script name None = refl
-removed script name (Some door) = removed_if script name door.machine.ended
+removed script name (Some door) = removed_if script name (is_over door.machine)
 
 passed : (script : ScriptState) (moment : ℕ) → passed_to (forget script) moment ≡ forget_acted (passed_to script moment)
 passed script moment = elim (cases_Bool (nat_lt moment (2 ^ 63))) [
@@ -174,6 +207,8 @@ acted script (line.At moment) = passed script moment
 acted script (line.Stop name reason) = told script name (command.Stop reason)
 acted script (line.Remove name) = rw (found name script.doors) (removed script name (door_of name script.doors))
 acted script (line.Length name) = told script name asks
+acted script (line.Relay name target digit) =
+    rw (found name script.doors, found target script.doors) (relayed script name digit (door_of name script.doors) (door_of target script.doors))
 acted script line.Names = refl
 
 -- ---- what is printed
@@ -204,6 +239,7 @@ finished before (line.At moment) script = ap (λ (n : ℕ). (expired_text script
 finished before (line.Stop name reason) script = status name script
 finished before (line.Remove name) script = refl
 finished before (line.Length name) script = rw (found name before.doors) (length_said name (door_of name before.doors) script)
+finished before (line.Relay name target digit) script = status target script
 finished before line.Names script = ap (λ (names : List ℕ). ((codes "names" ++ names) ++ line_feed ∷ [], forget script)) (named script.doors)
 
 -- ---- lines
@@ -233,6 +269,7 @@ stepped script (line.At moment) = by_line script (line.At moment)
 stepped script (line.Stop name reason) = by_line script (line.Stop name reason)
 stepped script (line.Remove name) = by_line script (line.Remove name)
 stepped script (line.Length name) = by_line script (line.Length name)
+stepped script (line.Relay name target digit) = by_line script (line.Relay name target digit)
 stepped script line.Names = by_line script line.Names
 
 -- and so lines are refused or malformed alike

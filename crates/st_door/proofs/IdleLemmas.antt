@@ -1,16 +1,23 @@
--- Turns until the doors rest.
-use Rattle.std.proofs.Common.{◌≡◌, ℕ, zero, suc, ◌<◌, ◌≤◌, ◌≢◌, Bool, true, false, List, [], ◌∷◌, length, get_or, set, map, None, refl, ap, ◌∙◌, arith, inl, inr}
-use Rattle.std.specs.List.{list_any}
-use Rattle.std.proofs.lemmas.Bool.{cases_lt}
+-- Doors go on until they rest.
+use Rattle.std.proofs.Common.{◌≡◌, ℕ, zero, suc, ◌+◌, ◌<◌, ◌≤◌, ◌≢◌, Bool, true, false, List, [], ◌∷◌, length, get_or, set, map, Option, Some, None, refl, ap, sym, ◌∙◌, arith, inl, inr}
+use Rattle.std.specs.List.{find, list_any}
+use Rattle.std.proofs.lemmas.Bool.{cases_Bool, cases_lt}
 use Rattle.std.proofs.lemmas.List.{get_or-set_other, length-set}
 use Rattle.st_core.specs.declared.command.Command.{Command}
-use Rattle.st_core.specs.declared.command.Command.TheVariants as command
+use Rattle.st_core.specs.Choice.{has_event_of, has_message_of, is_ready_of}
 use Rattle.st_core.specs.Start.{first_state}
 use Rattle.st_events.specs.declared.machine_id.MachineId.{MachineId}
+use Rattle.st_events.specs.declared.message.Message.{Message}
+use Rattle.st_outbox.specs.Outbox.{first_message, has_messages}
+use Rattle.st_scheduled.proofs.TokensCompared.{ids_same}
+use Rattle.st_cell.specs.declared.source.Source.{Source}
 use Rattle.st_door.specs.declared.door_content.DoorContent.{DoorContent}
 use Rattle.st_door.specs.declared.door_state.DoorState.TheVariants.{Locked}
-use Rattle.st_door.specs.Doors.{NamedDoor, KeptDoor, IsFirst, door_named, is_ready_door, kept_of, told_kept, told_door, run_until_idle, RestsOutside, SameLabels}
-use Rattle.st_door.proofs.DoorLemmas.{IsFirst-changed}
+use Rattle.st_door.specs.declared.service.Service.{Service}
+use Rattle.st_door.specs.declared.service.Service.TheVariants.{Turn, TakeOut, Deliver}
+use Rattle.st_door.specs.Doors.{DoorMachine, NamedDoor, KeptDoor, IsFirst, change_first, door_named, door_told_by, is_ready_door, kept_of, kept_told_by, RestsOutside, SameLabels}
+use Rattle.st_door.specs.Settling.{command_for, delivered, gone_on, gone_on_by, has_id, message_at, run_until_idle, served_door, source_for}
+use Rattle.st_door.proofs.DoorLemmas.{IsFirst-changed, IsFirst-found}
 use Rattle.st_door.proofs.ToldLemmas.{id-told}
 
 -- a door to speak of where there is none
@@ -54,10 +61,19 @@ labels-set doors place d door less same = record {
 }
 
 -- and so does one that was told a command
-pub labels-told : (doors : List NamedDoor) (place : ℕ) (d : NamedDoor) (command : Command DoorContent) → place < length doors
-    → SameLabels doors (set doors place (told_door command (get_or doors place d)))
-labels-told doors place d command less =
-    labels-set doors place d (told_kept command (kept_of (get_or doors place d))) less (id-told (get_or doors place d).machine command)
+pub labels-told : (doors : List NamedDoor) (place : ℕ) (d : NamedDoor) (source : Source) (command : Command DoorContent) → place < length doors
+    → SameLabels doors (set doors place (door_told_by source command (get_or doors place d)))
+labels-told doors place d source command less =
+    labels-set doors place d (kept_told_by source command (kept_of (get_or doors place d))) less (id-told (get_or doors place d).machine command)
+
+pub labels-same : (doors : List NamedDoor) → SameLabels doors doors
+labels-same doors = record { names = refl; slots = refl }
+
+-- doors that are served one after another keep them as well
+pub labels-served : (old doors new : List NamedDoor) (place : ℕ) (service : Service) → SameLabels old doors → place < length doors
+    → new ≡ set doors place (served_door service (get_or doors place no_door)) → SameLabels old new
+labels-served old doors new place service same less served =
+    rw served (labels-more old doors _ same (labels-told doors place no_door (source_for service) (command_for service) less))
 
 -- ---- which doors rest
 pub rests-set : (doors : List NamedDoor) (from until place : ℕ) (x : NamedDoor) → from ≤ place → place < until
@@ -67,23 +83,114 @@ rests-set doors from until place x low high rests = λ k d less outside.
     let within : k < length doors = omega (arith, less, length-set {A = NamedDoor}) in
     rw get_or-set_other (rests k d within outside)
 
--- ---- one turn, and none
-pub run-turned : (turns moment : ℕ) (doors : List NamedDoor) (first until : ℕ) → first < until → first < length doors
-    → RestsOutside first until doors → is_ready_door (get_or doors first no_door) ≡ true
-    → run_until_idle (suc turns) moment doors ≡ run_until_idle turns moment (set doors first (told_door (command.Turn moment) (get_or doors first no_door)))
-unfolding run_until_idle
-run-turned turns moment doors first until less within rests ready =
-    let here : IsFirst is_ready_door doors first =
-    IsFirst-after is_ready_door doors first no_door within (λ k before. rests k no_door (omega arith) (inl before)) ready in
-    rw (list_any-first is_ready_door doors first here, run_until_idle) (ap (run_until_idle turns moment) (IsFirst-changed is_ready_door (told_door (command.Turn moment)) doors first no_door here))
+pub rests-wider : (doors : List NamedDoor) (from until low high : ℕ) → low ≤ from → until ≤ high → RestsOutside from until doors → RestsOutside low high doors
+rests-wider doors from until low high before after rests = λ k d less outside.
+    rests k d less (elim outside [ inl first ↦ inl (omega (arith, before)) | inr last ↦ inr (omega (arith, after)) ])
 
-pub run-rested : (turns moment : ℕ) (doors : List NamedDoor) (first until : ℕ) → until ≤ first → RestsOutside first until doors → run_until_idle turns moment doors ≡ doors
+-- two doors are served, one after the other
+pub rests-delivered : (doors mid new : List NamedDoor) (first until place low high : ℕ) (x y : NamedDoor) → mid ≡ set doors first x → new ≡ set mid place y
+    → low ≤ first → low ≤ place → until ≤ high → place < high → first < until → RestsOutside first until doors → RestsOutside low high new
+rests-delivered doors mid new first until place low high x y taken posted before below after above less rests =
+    let here : RestsOutside first until mid = rw taken (rests-set doors first until first x (omega arith) less rests) in
+    rw posted (rests-set mid low high place y below above (rests-wider mid first until low high before after here))
+
+-- one that rests is passed over
+pub rests-further : (doors : List NamedDoor) (from until : ℕ) → ((d : NamedDoor) → is_ready_door (get_or doors from d) ≡ false)
+    → RestsOutside from until doors → RestsOutside (from + 1) until doors
+rests-further doors from until here rests = λ k d there outside. elim outside [
+  | inl before ↦ elim (cases_lt k from) [
+    | inl first ↦ rests k d there (inl first)
+    | inr last ↦ let same : k ≡ from = omega (arith, before) in rw same (here d)
+  ]
+  | inr after ↦ rests k d there (inr after)
+]
+
+-- ---- one step, and none
+-- the first ready door is found
+pub first-ready : (doors : List NamedDoor) (first until : ℕ) → first < until → first < length doors → RestsOutside first until doors
+    → is_ready_door (get_or doors first no_door) ≡ true → IsFirst is_ready_door doors first
+first-ready doors first until less within rests ready =
+    IsFirst-after is_ready_door doors first no_door within (λ k before. rests k no_door (omega arith) (inl before)) ready
+
+pub some-message : (messages : List (Message DoorContent)) → has_messages messages ≡ true → first_message messages ≡ None → ⊥
+some-message [] some none = cc
+some-message (message ∷ messages) some none = cc
+
+-- the door of an id has it
+pub has-id : (id : MachineId) (doors : List NamedDoor) (place : ℕ) (d : NamedDoor) → IsFirst (has_id id) doors place → id ≡ (get_or doors place d).machine.id
+has-id id [] place d first = absurd first
+has-id id (door ∷ doors) zero d first = ids_same id door.machine.id first
+has-id id (door ∷ doors) (suc place) d first = has-id id doors place d first.1
+
+-- where it has a message, that is what goes on
+pub goes-on : (moment : ℕ) (doors : List NamedDoor) (first : ℕ) (message : Option (Message DoorContent)) → IsFirst is_ready_door doors first
+    → message ≡ first_message (get_or doors first no_door).machine.outbox.messages → gone_on moment doors ≡ gone_on_by message moment doors
+goes-on moment doors first message here is =
+    ap (λ (found : Option NamedDoor). gone_on_by (message_at found) moment doors) (IsFirst-found is_ready_door doors first no_door here)
+    ∙ ap (λ (m : Option (Message DoorContent)). gone_on_by m moment doors) (sym is)
+
+no-message : (messages : List (Message DoorContent)) → has_messages messages ≡ false → None ≡ first_message messages
+no-message [] none = refl
+no-message (message ∷ messages) none = cc
+
+-- the first ready door had a turn
+pub gone-turned : (moment : ℕ) (doors new : List NamedDoor) (first : ℕ) → IsFirst is_ready_door doors first
+    → has_message_of (get_or doors first no_door).machine ≡ false
+    → new ≡ set doors first (served_door (Turn moment) (get_or doors first no_door)) → new ≡ gone_on moment doors
+gone-turned moment doors new first here none turned =
+    turned ∙ (sym (IsFirst-changed is_ready_door (served_door (Turn moment)) doors first no_door here)
+    ∙ sym (goes-on moment doors first None here (no-message (get_or doors first no_door).machine.outbox.messages none)))
+
+-- a ready door without a message has an event
+pub event-ready : (machine : DoorMachine) → is_ready_of machine ≡ true → has_message_of machine ≡ false → has_event_of machine ≡ true
+event-ready machine ready none = elim (cases_Bool (has_event_of machine)) [
+  | inl event ↦ event
+  | inr without ↦ let never = rw (without, none) at ready in cc
+]
+
+-- a message was taken out of it
+pub taken-out : (doors mid : List NamedDoor) (first : ℕ) → IsFirst is_ready_door doors first
+    → mid ≡ set doors first (served_door TakeOut (get_or doors first no_door)) → mid ≡ change_first is_ready_door (served_door TakeOut) doors
+taken-out doors mid first here taken = taken ∙ sym (IsFirst-changed is_ready_door (served_door TakeOut) doors first no_door here)
+
+-- and was delivered
+pub gone-delivered : (moment : ℕ) (doors mid new : List NamedDoor) (first place : ℕ) (message : Message DoorContent) → IsFirst is_ready_door doors first
+    → Some message ≡ first_message (get_or doors first no_door).machine.outbox.messages
+    → mid ≡ set doors first (served_door TakeOut (get_or doors first no_door))
+    → IsFirst (has_id message.target) mid place → new ≡ set mid place (served_door (Deliver message) (get_or mid place no_door))
+    → new ≡ gone_on moment doors
+gone-delivered moment doors mid new first place message here is taken there posted =
+    posted ∙ (sym (IsFirst-changed (has_id message.target) (served_door (Deliver message)) mid place no_door there)
+    ∙ (ap (delivered message) (taken-out doors mid first here taken) ∙ sym (goes-on moment doors first (Some message) here is)))
+
+-- or lost
+unchanged-none : {X : Type 0} (test : X → Bool) (change : X → X) (xs : List X) → find test xs ≡ None → change_first test change xs ≡ xs
+unchanged-none test change [] none = refl
+unchanged-none test change (x ∷ xs) none = elim (cases_Bool (test x)) [
+  | inl passes ↦ let some = rw passes at none in cc
+  | inr fails ↦ rw fails (ap (λ t. x ∷ t) (unchanged-none test change xs (rw fails at none)))
+]
+
+pub gone-lost : (moment : ℕ) (doors mid : List NamedDoor) (first : ℕ) (message : Message DoorContent) → IsFirst is_ready_door doors first
+    → Some message ≡ first_message (get_or doors first no_door).machine.outbox.messages
+    → mid ≡ set doors first (served_door TakeOut (get_or doors first no_door)) → find (has_id message.target) mid ≡ None
+    → mid ≡ gone_on moment doors
+gone-lost moment doors mid first message here is taken missing =
+    sym (unchanged-none (has_id message.target) (served_door (Deliver message)) mid missing)
+    ∙ (ap (delivered message) (taken-out doors mid first here taken) ∙ sym (goes-on moment doors first (Some message) here is))
+
+pub run-gone_on : (steps moment : ℕ) (doors : List NamedDoor) (first : ℕ) → IsFirst is_ready_door doors first
+    → run_until_idle (suc steps) moment doors ≡ run_until_idle steps moment (gone_on moment doors)
 unfolding run_until_idle
-run-rested zero moment doors first until less rests = refl
-run-rested (suc turns) moment doors first until less rests =
-    let none : list_any is_ready_door doors ≡ false = list_any-none is_ready_door doors no_door (λ k within. rests k no_door within (elim (cases_lt k first) [
+run-gone_on steps moment doors first here = rw (list_any-first is_ready_door doors first here, run_until_idle) refl
+
+pub run-rested : (steps moment : ℕ) (doors : List NamedDoor) (until : ℕ) → RestsOutside until until doors → run_until_idle steps moment doors ≡ doors
+unfolding run_until_idle
+run-rested zero moment doors until rests = refl
+run-rested (suc steps) moment doors until rests =
+    let none : list_any is_ready_door doors ≡ false = list_any-none is_ready_door doors no_door (λ k within. rests k no_door within (elim (cases_lt k until) [
       | inl before ↦ inl before
-      | inr after ↦ inr (omega arith)
+      | inr after ↦ inr after
     ])) in
     rw (none, run_until_idle) refl
 

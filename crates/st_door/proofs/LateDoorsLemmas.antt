@@ -1,22 +1,29 @@
 -- Doors that are ticked late: what is seen of them, and that it stays so.
 use Rattle.std.proofs.Common.{◌≡◌, ℕ, zero, suc, ◌+◌, ◌^◌, ◌<◌, ◌≤◌, nat_lt, Bool, true, false, ◌&&◌, List, [], ◌∷◌, ◌++◌, length, get_or, set, map, Option, Some, None, is_none, is_some, IfSome, IfNone, Ok, Err, refl, ap, sym, ◌∙◌, arith, inl, inr}
-use Rattle.std.specs.List.{flat_map}
+use Rattle.std.specs.List.{find, flat_map}
 use Rattle.std.proofs.lemmas.Bool.{cases_Bool}
 use Rattle.std.proofs.lemmas.List.{length-set}
 use Rattle.std.proofs.lemmas.List.Sums.{sum_by-cons}
-use Rattle.st_core.specs.Choice.{has_event_of, next_due_of}
+use Rattle.st_core.specs.Choice.{has_message_of, is_ready_of, next_due_of}
 use Rattle.st_core.specs.Run.{step_of}
 use Rattle.st_core.specs.Tick.{expiring_of}
 use Rattle.st_core.specs.Transition.{with_moment}
 use Rattle.st_core.specs.declared.answer.Answer.TheVariants as answer
 use Rattle.st_core.specs.declared.command.Command.{Command}
 use Rattle.st_core.specs.declared.command.Command.TheVariants as command
+use Rattle.st_events.specs.declared.machine_id.MachineId.{MachineId}
 use Rattle.st_events.specs.declared.refusal.Refusal.TheVariants.{Stopped}
+use Rattle.st_outbox.specs.declared.outbox.Outbox.{Outbox}
+use Rattle.st_outbox.specs.Outbox.{has_messages}
+use Rattle.st_scheduled.specs.ScheduledMachine.{same_id}
+use Rattle.st_cell.specs.declared.source.Source.{Source}
+use Rattle.st_cell.specs.declared.source.Source.TheVariants as source
 use Rattle.st_door.specs.declared.door_content.DoorContent.{DoorContent}
-use Rattle.st_door.specs.Doors.{DoorAnswer, DoorMachine, History, IsKept, KeptDoor, NamedDoor, SameLabels, all_expired_of, count_in, door_callbacks, door_named, door_of, expired_of, has_name, history_told, is_ready_door, kept_of, names_of, slots_of, ticked_doors, told_door, told_kept, without_door}
+use Rattle.st_door.specs.Doors.{DoorAnswer, DoorMachine, History, IsFirst, IsKept, KeptDoor, NamedDoor, SameLabels, all_expired_of, count_in, door_callbacks, door_named, door_of, door_told_by, expired_of, has_name, history_told, is_over, is_ready_door, kept_of, kept_told_by, names_of, slots_of, ticked_doors, told_door, told_kept, without_door}
 use Rattle.st_door.specs.Entries.{DoorCellState, door_in, machine_in}
 use Rattle.st_door.specs.Late.{AreInTime, IsInTime, IsQuietAt, IsQuietUntil, caught_by, caught_kept, caught_up, is_late, later, later_by}
 use Rattle.st_door.specs.Lines.{space}
+use Rattle.st_door.specs.Settling.{has_id}
 use Rattle.st_door.specs.Printing.{names_text, status_of}
 use Rattle.st_door.specs.Traces.{trace_of_door}
 use Rattle.st_door.proofs.IdleLemmas.{no_door}
@@ -62,16 +69,17 @@ late-ticked moment due door is it = elim it.caught [
 ]
 
 -- a command leaves a door that has seen a moment so
-told-caught-by : (history : Option History) (moment : ℕ) (machine : DoorMachine) (command : Command DoorContent) (said : DoorAnswer) → caught_by history moment machine ≡ machine
-    → caught_by (history_told command said history) moment (step_of door_callbacks machine command).1 ≡ (step_of door_callbacks machine command).1
-told-caught-by None moment machine command said same = later-told door_callbacks machine command moment same
-told-caught-by (Some history) moment machine command said same = refl
+told-caught-by : (history : Option History) (moment : ℕ) (machine : DoorMachine) (source : Source) (command : Command DoorContent) (said : DoorAnswer) → caught_by history moment machine ≡ machine
+    → caught_by (history_told source command said history) moment (step_of door_callbacks machine command).1 ≡ (step_of door_callbacks machine command).1
+told-caught-by None moment machine source command said same = later-told door_callbacks machine command moment same
+told-caught-by (Some history) moment machine source command said same = refl
 
-pub told-caught : (moment : ℕ) (door : KeptDoor) (command : Command DoorContent) → caught_kept moment door ≡ door → caught_kept moment (told_kept command door) ≡ told_kept command door
-told-caught moment door command same =
-    let told : KeptDoor = told_kept command door in
+pub told-caught : (moment : ℕ) (door : KeptDoor) (source : Source) (command : Command DoorContent) → caught_kept moment door ≡ door
+    → caught_kept moment (kept_told_by source command door) ≡ kept_told_by source command door
+told-caught moment door source command same =
+    let told : KeptDoor = kept_told_by source command door in
     ap (λ (machine : DoorMachine). record told { machine = machine })
-    (told-caught-by door.history moment door.machine command (step_of door_callbacks door.machine command).0 (ap (λ (d : KeptDoor). d.machine) same))
+    (told-caught-by door.history moment door.machine source command (step_of door_callbacks door.machine command).0 (ap (λ (d : KeptDoor). d.machine) same))
 
 -- a tick makes up for an earlier one
 tick-caught-by : (history : Option History) (first second : ℕ) (machine : DoorMachine) → first ≤ second → second < 2 ^ 63
@@ -81,7 +89,7 @@ tick-caught-by (Some history) first second machine order below = refl
 
 pub tick-caught : (first second : ℕ) (door : KeptDoor) → first ≤ second → second < 2 ^ 63 → told_kept (command.Tick second) (caught_kept first door) ≡ told_kept (command.Tick second) door
 tick-caught first second door order below =
-    ap (λ (told : DoorAnswer × DoorMachine). record { machine = told.1; history = history_told (command.Tick second) told.0 door.history })
+    ap (λ (told : DoorAnswer × DoorMachine). record { machine = told.1; history = history_told source.Caller (command.Tick second) told.0 door.history })
     (tick-caught-by door.history first second door.machine order below)
 
 pub count-caught : (first second : ℕ) (door : KeptDoor) → first ≤ second → second < 2 ^ 63
@@ -125,7 +133,7 @@ in_time-later late moment due door order less it = record {
 quiet-said : (machine : DoorMachine) (moment : ℕ) (said : DoorAnswer) → step_of door_callbacks machine (command.Tick moment) ≡ (said, later moment machine) → count_in said ≡ 0
     → IsQuietAt moment (record { machine = machine; history = None })
 quiet-said machine moment said is zero_said = record {
-  told = ap (λ (told : DoorAnswer × DoorMachine). record { machine = told.1; history = history_told (command.Tick moment) told.0 None }) is;
+  told = ap (λ (told : DoorAnswer × DoorMachine). record { machine = told.1; history = history_told source.Caller (command.Tick moment) told.0 None }) is;
   none = ap (λ (told : DoorAnswer × DoorMachine). count_in told.0) is ∙ zero_said;
 }
 
@@ -148,17 +156,17 @@ quiet-before machine due next bounded first seen runs is = λ moment less.
     (tick-nothing door_callbacks machine moment runs (omega (arith, less, bounded)) (nothing-expires (with_moment machine moment).latest next machine.schedule.pending machine.schedule.running is now)) refl
 
 -- ---- what is read off a door
-ready-by : (end : Option (ℕ × ℕ)) (moment : ℕ) (machine : DoorMachine) → has_event_of (later_by end moment machine) ≡ has_event_of machine
+ready-by : (end : Option (ℕ × ℕ)) (moment : ℕ) (machine : DoorMachine) → is_ready_of (later_by end moment machine) ≡ is_ready_of machine
 ready-by None moment machine = refl
 ready-by (Some end) moment machine = refl
+
+outbox-by : (end : Option (ℕ × ℕ)) (moment : ℕ) (machine : DoorMachine) → (later_by end moment machine).outbox ≡ machine.outbox
+outbox-by None moment machine = refl
+outbox-by (Some end) moment machine = refl
 
 id-by : (end : Option (ℕ × ℕ)) (moment : ℕ) (machine : DoorMachine) → (later_by end moment machine).id ≡ machine.id
 id-by None moment machine = refl
 id-by (Some end) moment machine = refl
-
-ended-by : (end : Option (ℕ × ℕ)) (moment : ℕ) (machine : DoorMachine) → (later_by end moment machine).ended ≡ machine.ended
-ended-by None moment machine = refl
-ended-by (Some end) moment machine = refl
 
 status-by : (end : Option (ℕ × ℕ)) (moment : ℕ) (door : NamedDoor) → status_of (record door { machine = later_by end moment door.machine }) ≡ status_of door
 status-by None moment door = refl
@@ -170,13 +178,22 @@ by_history f None moment machine same = same
 by_history f (Some history) moment machine same = refl
 
 pub ready-caught : (moment : ℕ) (door : NamedDoor) → is_ready_door (caught_up moment door) ≡ is_ready_door door
-ready-caught moment door = by_history (λ (machine : DoorMachine). has_event_of machine) door.history moment door.machine (ready-by door.machine.ended moment door.machine)
+ready-caught moment door = by_history (λ (machine : DoorMachine). is_ready_of machine) door.history moment door.machine (ready-by door.machine.ended moment door.machine)
 
 pub id-caught : (moment : ℕ) (door : NamedDoor) → (caught_up moment door).machine.id ≡ door.machine.id
 id-caught moment door = by_history (λ (machine : DoorMachine). machine.id) door.history moment door.machine (id-by door.machine.ended moment door.machine)
 
-pub ended-caught : (moment : ℕ) (door : NamedDoor) → (caught_up moment door).machine.ended ≡ door.machine.ended
-ended-caught moment door = by_history (λ (machine : DoorMachine). machine.ended) door.history moment door.machine (ended-by door.machine.ended moment door.machine)
+pub message-caught : (moment : ℕ) (door : NamedDoor) → has_message_of (caught_up moment door).machine ≡ has_message_of door.machine
+message-caught moment door =
+    by_history (λ (machine : DoorMachine). has_message_of machine) door.history moment door.machine
+    (ap (λ (outbox : Outbox DoorContent). has_messages outbox.messages) (outbox-by door.machine.ended moment door.machine))
+
+over-by : (end : Option (ℕ × ℕ)) (moment : ℕ) (machine : DoorMachine) → is_over (later_by end moment machine) ≡ is_over machine
+over-by None moment machine = refl
+over-by (Some end) moment machine = refl
+
+pub over-caught : (moment : ℕ) (door : NamedDoor) → is_over (caught_up moment door).machine ≡ is_over door.machine
+over-caught moment door = by_history (λ (machine : DoorMachine). is_over machine) door.history moment door.machine (over-by door.machine.ended moment door.machine)
 
 pub status-caught : (moment : ℕ) (door : NamedDoor) → status_of (caught_up moment door) ≡ status_of door
 status-caught moment door =
@@ -243,16 +260,16 @@ caught-set late (suc place) (door ∷ doors) = ap (λ t. caught_up late door ∷
 abbrev pub caught_at : ℕ → ℕ → List NamedDoor → List NamedDoor
 caught_at late place doors = set doors place (caught_up late (get_or doors place no_door))
 
-abbrev pub told_at : Command DoorContent → ℕ → List NamedDoor → List NamedDoor
-told_at command place doors = set doors place (told_door command (get_or doors place no_door))
+abbrev pub told_at : Source → Command DoorContent → ℕ → List NamedDoor → List NamedDoor
+told_at source command place doors = set doors place (door_told_by source command (get_or doors place no_door))
 
-pub caught-told : (late place : ℕ) (command : Command DoorContent) (doors : List NamedDoor) (d : NamedDoor) → place < length doors
-    → map (caught_up late) (told_at command place (caught_at late place doors)) ≡ set (map (caught_up late) doors) place (told_door command (get_or (map (caught_up late) doors) place d))
-caught-told late place command [] d less = absurd (omega arith)
-caught-told late zero command (door ∷ doors) d less =
+pub caught-told : (late place : ℕ) (source : Source) (command : Command DoorContent) (doors : List NamedDoor) (d : NamedDoor) → place < length doors
+    → map (caught_up late) (told_at source command place (caught_at late place doors)) ≡ set (map (caught_up late) doors) place (door_told_by source command (get_or (map (caught_up late) doors) place d))
+caught-told late place source command [] d less = absurd (omega arith)
+caught-told late zero source command (door ∷ doors) d less =
     ap (λ (kept : KeptDoor). door_named door.name kept ∷ map (caught_up late) doors)
-    (told-caught late (caught_kept late (kept_of door)) command (caught-twice late late (kept_of door) (omega arith)))
-caught-told late (suc place) command (door ∷ doors) d less = ap (λ t. caught_up late door ∷ t) (caught-told late place command doors d (omega arith))
+    (told-caught late (caught_kept late (kept_of door)) source command (caught-twice late late (kept_of door) (omega arith)))
+caught-told late (suc place) source command (door ∷ doors) d less = ap (λ t. caught_up late door ∷ t) (caught-told late place source command doors d (omega arith))
 
 -- the door at the place is the one that is seen there
 pub at-caught_at : (late place : ℕ) (doors : List NamedDoor) (d e : NamedDoor) → place < length doors → get_or (caught_at late place doors) place e ≡ get_or (map (caught_up late) doors) place d
@@ -275,17 +292,17 @@ are-caught late due place [] bounded are = tt
 are-caught late due zero (door ∷ doors) bounded are = (in_time-caught late due (kept_of door) bounded are.0, are.1)
 are-caught late due (suc place) (door ∷ doors) bounded are = (are.0, are-caught late due place doors bounded are.1)
 
-pub are-told : (late low due place : ℕ) (command : Command DoorContent) (doors : List NamedDoor) → place < length doors → low ≤ due → AreInTime late due doors
-    → IsQuietUntil low (kept_of (get_or (told_at command place (caught_at late place doors)) place no_door))
-    → AreInTime late low (told_at command place (caught_at late place doors))
-are-told late low due place command [] less order are until = absurd (omega arith)
-are-told late low due zero command (door ∷ doors) less order are until = (
-  in_time-quiet late low (told_kept command (caught_kept late (kept_of door)))
-      (told-caught late (caught_kept late (kept_of door)) command (caught-twice late late (kept_of door) (omega arith))) until,
+pub are-told : (late low due place : ℕ) (source : Source) (command : Command DoorContent) (doors : List NamedDoor) → place < length doors → low ≤ due → AreInTime late due doors
+    → IsQuietUntil low (kept_of (get_or (told_at source command place (caught_at late place doors)) place no_door))
+    → AreInTime late low (told_at source command place (caught_at late place doors))
+are-told late low due place source command [] less order are until = absurd (omega arith)
+are-told late low due zero source command (door ∷ doors) less order are until = (
+  in_time-quiet late low (kept_told_by source command (caught_kept late (kept_of door)))
+      (told-caught late (caught_kept late (kept_of door)) source command (caught-twice late late (kept_of door) (omega arith))) until,
   are-lower late low due doors order are.1,
 )
-are-told late low due (suc place) command (door ∷ doors) less order are until =
-    (in_time-lower late low due (kept_of door) order are.0, are-told late low due place command doors (omega arith) order are.1 until)
+are-told late low due (suc place) source command (door ∷ doors) less order are until =
+    (in_time-lower late low due (kept_of door) order are.0, are-told late low due place source command doors (omega arith) order are.1 until)
 
 pub are-pushed : (late low due : ℕ) (doors : List NamedDoor) (door : NamedDoor) → low ≤ due → AreInTime late due doors → IsInTime late low (kept_of door) → AreInTime late low (doors ++ door ∷ [])
 are-pushed late low due [] door order are it = (it, tt)
@@ -332,14 +349,14 @@ none-seen late moment due (door ∷ doors) order less bounded are =
 
 -- ---- doors of which no time-out expires
 ready-none : (machine : DoorMachine) (moment : ℕ) → count_in (step_of door_callbacks machine (command.Tick moment)).0 ≡ 0
-    → has_event_of (step_of door_callbacks machine (command.Tick moment)).1 ≡ has_event_of machine
+    → is_ready_of (step_of door_callbacks machine (command.Tick moment)).1 ≡ is_ready_of machine
 ready-none machine moment none = elim (cases_ended machine.ended) [
   | inl runs ↦ elim (cases_Bool (nat_lt moment (2 ^ 63))) [
     | inl early ↦
         let count = rw (runs, early) at none in
         let nothing : expiring_of (with_moment machine moment) ≡ [] = length_zero (expiring_of (with_moment machine moment)) count in
         let same = tick-nothing door_callbacks machine moment runs (grind (arith, early)) nothing in
-        ap (λ (told : DoorAnswer × DoorMachine). has_event_of told.1) same ∙ ready-by machine.ended moment machine
+        ap (λ (told : DoorAnswer × DoorMachine). is_ready_of told.1) same ∙ ready-by machine.ended moment machine
     | inr late ↦ rw (runs, late) refl
   ]
   | inr ended ↦ rw ended.1 refl
@@ -400,6 +417,24 @@ within-caught late place doors seen is less =
     let there : place < length (map (caught_up late) doors) = rw is less in
     rw (length-caught late doors) at there
 
+-- the place of the first door that passes a test is the same, and so is it that none does
+pub first-caught : (late : ℕ) (test : NamedDoor → Bool) (doors : List NamedDoor) (place : ℕ) → ((door : NamedDoor) → test (caught_up late door) ≡ test door)
+    → IsFirst test doors place → IsFirst test (map (caught_up late) doors) place
+first-caught late test [] place same first = first
+first-caught late test (door ∷ doors) zero same first = same door ∙ first
+first-caught late test (door ∷ doors) (suc place) same first = (same door ∙ first.0, first-caught late test doors place same first.1)
+
+pub missing-caught : (late : ℕ) (test : NamedDoor → Bool) (doors : List NamedDoor) → ((door : NamedDoor) → test (caught_up late door) ≡ test door)
+    → find test doors ≡ None → find test (map (caught_up late) doors) ≡ None
+missing-caught late test [] same none = refl
+missing-caught late test (door ∷ doors) same none = elim (cases_Bool (test door)) [
+  | inl passes ↦ let some = rw passes at none in cc
+  | inr fails ↦ rw (same door, fails) (missing-caught late test doors same (rw fails at none))
+]
+
+pub has_id-caught : (late : ℕ) (id : MachineId) (door : NamedDoor) → has_id id (caught_up late door) ≡ has_id id door
+has_id-caught late id door = ap (same_id id) (id-caught late door)
+
 pub read-caught : {X : Type 0} (f : NamedDoor → X) (late place : ℕ) (doors seen : List NamedDoor) (d : NamedDoor) (a : X) → ((door : NamedDoor) → f (caught_up late door) ≡ f door)
     → map (caught_up late) doors ≡ seen → place < length seen → a ≡ f (get_or doors place no_door) → a ≡ f (get_or seen place d)
 read-caught f late place doors seen d a same is less found =
@@ -430,24 +465,24 @@ module _ (late due place : ℕ) (one two : List NamedDoor) (caught : two ≡ cau
     caught-here d e = ap (λ (all : List NamedDoor). get_or all place e) caught
         ∙ (at-caught_at late place one d e (within-caught late place one seen view less) ∙ ap (λ (all : List NamedDoor). get_or all place d) view)
 
-    pub told-seen : (command : Command DoorContent) (three : List NamedDoor) (d : NamedDoor) → three ≡ told_at command place two
-        → map (caught_up late) three ≡ set seen place (told_door command (get_or seen place d))
-    told-seen command three d told =
+    pub told-seen : (source : Source) (command : Command DoorContent) (three : List NamedDoor) (d : NamedDoor) → three ≡ told_at source command place two
+        → map (caught_up late) three ≡ set seen place (door_told_by source command (get_or seen place d))
+    told-seen source command three d told =
         ap (map (caught_up late)) told
-        ∙ (ap (λ (all : List NamedDoor). map (caught_up late) (told_at command place all)) caught
-        ∙ (caught-told late place command one d (within-caught late place one seen view less)
-        ∙ ap (λ (all : List NamedDoor). set all place (told_door command (get_or all place d))) view))
+        ∙ (ap (λ (all : List NamedDoor). map (caught_up late) (told_at source command place all)) caught
+        ∙ (caught-told late place source command one d (within-caught late place one seen view less)
+        ∙ ap (λ (all : List NamedDoor). set all place (door_told_by source command (get_or all place d))) view))
 
-    pub told-within : (command : Command DoorContent) (three : List NamedDoor) → three ≡ told_at command place two → place < length three
-    told-within command three told = rw (told, length-set) caught-within
+    pub told-within : (source : Source) (command : Command DoorContent) (three : List NamedDoor) → three ≡ told_at source command place two → place < length three
+    told-within source command three told = rw (told, length-set) caught-within
 
-    pub told-in_time : (command : Command DoorContent) (three : List NamedDoor) (low until : ℕ) → three ≡ told_at command place two → low ≤ due → low ≤ until
+    pub told-in_time : (source : Source) (command : Command DoorContent) (three : List NamedDoor) (low until : ℕ) → three ≡ told_at source command place two → low ≤ due → low ≤ until
         → AreInTime late due one → IsQuietUntil until (kept_of (get_or three place no_door)) → AreInTime late low three
-    told-in_time command three low until told first second are quiet =
-        let is : three ≡ told_at command place (caught_at late place one) = told ∙ ap (λ (all : List NamedDoor). told_at command place all) caught in
-        let here : IsQuietUntil until (kept_of (get_or (told_at command place (caught_at late place one)) place no_door)) = rw (← is) quiet in
-        rw is (are-told late low due place command one (within-caught late place one seen view less) first are
-        (quiet-lower low until (kept_of (get_or (told_at command place (caught_at late place one)) place no_door)) second here))
+    told-in_time source command three low until told first second are quiet =
+        let is : three ≡ told_at source command place (caught_at late place one) = told ∙ ap (λ (all : List NamedDoor). told_at source command place all) caught in
+        let here : IsQuietUntil until (kept_of (get_or (told_at source command place (caught_at late place one)) place no_door)) = rw (← is) quiet in
+        rw is (are-told late low due place source command one (within-caught late place one seen view less) first are
+        (quiet-lower low until (kept_of (get_or (told_at source command place (caught_at late place one)) place no_door)) second here))
 
 -- ---- a door whose history is not kept
 pub quiet-cell : (keeps : Bool) (due : ℕ) (cell : DoorCellState) → keeps ≡ false → IsQuietUntil due (record { machine = machine_in cell; history = None }) → IsQuietUntil due (door_in keeps cell)

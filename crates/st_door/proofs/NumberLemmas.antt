@@ -1,14 +1,19 @@
 -- Doors by their numbers, and numbers by names.
-use Rattle.std.proofs.Common.{◌≡◌, ℕ, zero, suc, ◌+◌, ◌≤◌, ◌≢◌, true, false, nat_eq, if◌then◌else◌, List, [], ◌∷◌, ◌++◌, get_or, set, find, slice_get, Option, Some, None, String, refl, ap, sym, ◌∙◌, arith, inl, inr, bytes_eq, string_bytes, eqb-true}
+use Rattle.std.proofs.Common.{◌≡◌, ℕ, zero, suc, ◌+◌, ◌<◌, ◌≤◌, ◌≢◌, ◌==◌, Bool, length, true, false, nat_eq, if◌then◌else◌, List, [], ◌∷◌, ◌++◌, get_or, set, find, slice_get, Option, Some, None, String, refl, ap, sym, ◌∙◌, arith, inl, inr, bytes_eq, string_bytes, eqb-true}
 use Rattle.std.proofs.lemmas.Bool.{cases_Bool, eq-eqb, false_from_ne_true}
 use Rattle.std.proofs.lemmas.List.{map-append}
 use Rattle.std.proofs.lemmas.Slice.Eq.{bytes_eq-Decides}
 use Rattle.st_core.specs.Run.{step_of}
 use Rattle.st_core.specs.declared.command.Command.{Command}
+use Rattle.st_cell.specs.declared.source.Source.{Source}
+use Rattle.st_events.specs.declared.machine_id.MachineId.{MachineId}
+use Rattle.st_events.proofs.ComparedLemmas.{same_number}
+use Rattle.st_scheduled.proofs.TokensCompared.{and_false}
 use Rattle.st_door.specs.declared.door_content.DoorContent.{DoorContent}
-use Rattle.st_door.specs.Doors.{NamedDoor, KeptDoor, DoorAnswer, IsFirst, door_callbacks, door_named, door_of, has_name, told_door, told_kept, told_of, without_door}
+use Rattle.st_door.specs.Doors.{NamedDoor, KeptDoor, DoorAnswer, IsFirst, door_callbacks, door_named, door_of, door_told_by, has_name, kept_told_by, told_of, without_door}
 use Rattle.st_door.specs.Entries.{door_of_entry}
-use Rattle.st_door.specs.Numbers.{Numbered, doors_of_numbered, number_of, AreNumbered, DoRise, has_number, without_number, unnumbered, kept_doors, with_door}
+use Rattle.st_door.specs.Settling.{has_id}
+use Rattle.st_door.specs.Numbers.{Numbered, doors_of_numbered, number_of, AreNumbered, AreSerials, DoRise, has_number, without_number, unnumbered, kept_doors, with_door}
 
 -- ---- numbers and names compared
 pub other_number : (a b : ℕ) → a ≢ b → nat_eq a b ≡ false
@@ -257,10 +262,10 @@ module _ {A : Type 0} where
   answered-at (e ∷ es) (suc place) door d command answer at same = answered-at es place door d command answer at same
 
   -- and is told it so
-  pub told-at : (es : List (Numbered A)) (place : ℕ) (door new : KeptDoor) (d : NamedDoor) (command : Command DoorContent)
-      → slice_get (kept_doors es) place ≡ Some door → new ≡ told_kept command door
-      → doors_of_numbered (with_door es place new) ≡ set (doors_of_numbered es) place (told_door command (get_or (doors_of_numbered es) place d))
-  told-at es place door new d command at told = doors-changed es place door new (told_door command) d at (λ name. ap (door_named name) told)
+  pub told-at : (es : List (Numbered A)) (place : ℕ) (door new : KeptDoor) (d : NamedDoor) (source : Source) (command : Command DoorContent)
+      → slice_get (kept_doors es) place ≡ Some door → new ≡ kept_told_by source command door
+      → doors_of_numbered (with_door es place new) ≡ set (doors_of_numbered es) place (door_told_by source command (get_or (doors_of_numbered es) place d))
+  told-at es place door new d source command at told = doors-changed es place door new (door_told_by source command) d at (λ name. ap (door_named name) told)
 
   pub doors-same : (es : List (Numbered A)) (place : ℕ) (door new : KeptDoor)
       → slice_get (kept_doors es) place ≡ Some door → new ≡ door
@@ -283,3 +288,83 @@ module _ {A : Type 0} where
   numbered-changed from (e ∷ es) next zero new are = are
   numbered-changed from (e ∷ es) next (suc place) new are =
       (are.0, number-changed es place new (string_bytes e.1.0) ∙ are.1, numbered-changed (suc e.0) es next place new are.2)
+
+  -- ---- serials
+  -- a door at a place that keeps its id keeps its number
+  pub serials-changed : (es : List (Numbered A)) (place : ℕ) (door new : KeptDoor) → slice_get (kept_doors es) place ≡ Some door → new.machine.id ≡ door.machine.id
+      → AreSerials es → AreSerials (with_door es place new)
+  serials-changed [] place door new at same are = tt
+  serials-changed (e ∷ es) zero door new at same are =
+      let here : e.1.1 ≡ door = cc in
+      (are.0 ∙ (ap (λ (d : KeptDoor). d.machine.id.serial) here ∙ ap (λ (id : MachineId). id.serial) (sym same)), are.1)
+  serials-changed (e ∷ es) (suc place) door new at same are = (are.0, serials-changed es place door new at same are.1)
+
+  pub serials-last : (es : List (Numbered A)) (number : ℕ) (name : String A) (door : KeptDoor) → number ≡ door.machine.id.serial → AreSerials es
+      → AreSerials (es ++ (number, (name, door)) ∷ [])
+  serials-last [] number name door same are = (same, tt)
+  serials-last (e ∷ es) number name door same are = (are.0, serials-last es number name door same are.1)
+
+  pub serials-less : (es : List (Numbered A)) (number : ℕ) → AreSerials es → AreSerials (without_number number es)
+  serials-less [] number are = tt
+  serials-less (e ∷ es) number are = elim (cases_Bool (nat_eq number e.0)) [
+    | inl here ↦ rw here are.1
+    | inr apart ↦ rw apart (are.0, serials-less es number are.1)
+  ]
+
+  -- numbers up to one are numbers up to a greater one
+  pub numbered-wider : (from : ℕ) (es : List (Numbered A)) (next number : ℕ) → next ≤ number → AreNumbered from es next → AreNumbered from es number
+  numbered-wider from [] next number less are = omega (arith, less, are)
+  numbered-wider from (e ∷ es) next number less are = (are.0, are.1, numbered-wider (suc e.0) es next number less are.2)
+
+  pub numbered-within : (test : Numbered A → Bool) (es : List (Numbered A)) (place : ℕ) → IsFirst test es place → place < length (doors_of_numbered es)
+  numbered-within test [] place first = absurd first
+  numbered-within test (e ∷ es) zero first = omega arith
+  numbered-within test (e ∷ es) (suc place) first =
+      let rest : place < length (doors_of_numbered es) = numbered-within test es place first.1 in
+      omega (arith, rest)
+
+  -- a door has an id only where the id's serial is its number
+  id-elsewhere : (id : MachineId) (e : Numbered A) → e.0 ≡ e.1.1.machine.id.serial → nat_eq id.serial e.0 ≡ false → has_id id (door_of_entry e.1) ≡ false
+  id-elsewhere id e is apart =
+      let other : nat_eq id.serial e.1.1.machine.id.serial ≡ false = rw (← is) apart in
+      rw other (and_false (id.slot == e.1.1.machine.id.slot))
+
+  -- and then it does where its place in the table is the id's
+  id-here : (id : MachineId) (e : Numbered A) → e.0 ≡ e.1.1.machine.id.serial → nat_eq id.serial e.0 ≡ true → e.1.1.machine.id.slot ≡ id.slot → has_id id (door_of_entry e.1) ≡ true
+  id-here id e is here same =
+      let serial : nat_eq id.serial e.1.1.machine.id.serial ≡ true = rw (← is) here in
+      rw (serial, same, same_number id.slot) refl
+
+  -- the door of a serial is that of the id, where its place in the table is the id's
+  pub id-place : (id : MachineId) (es : List (Numbered A)) (place : ℕ) (d : NamedDoor) → AreSerials es → IsFirst (has_number id.serial) es place
+      → (get_or (doors_of_numbered es) place d).machine.id.slot ≡ id.slot → IsFirst (has_id id) (doors_of_numbered es) place
+  id-place id [] place d are first same = absurd first
+  id-place id (e ∷ es) zero d are first same = id-here id e are.0 first same
+  id-place id (e ∷ es) (suc place) d are first same = (id-elsewhere id e are.0 first.0, id-place id es place d are.1 first.1 same)
+
+  -- where no door has the serial, none has the id
+  pub id-missing : (id : MachineId) (es : List (Numbered A)) → AreSerials es → find (has_number id.serial) es ≡ None → find (has_id id) (doors_of_numbered es) ≡ None
+  id-missing id [] are none = refl
+  id-missing id (e ∷ es) are none = elim (cases_Bool (nat_eq id.serial e.0)) [
+    | inl here ↦ let some = rw here at none in cc
+    | inr apart ↦ rw (id-elsewhere id e are.0 apart) (id-missing id es are.1 (rw apart at none))
+  ]
+
+  -- nor where all numbers are beyond it
+  beyond : (from : ℕ) (id : MachineId) (es : List (Numbered A)) → AreSerials es → DoRise from es → id.serial < from → find (has_id id) (doors_of_numbered es) ≡ None
+  beyond from id [] are rise less = refl
+  beyond from id (e ∷ es) are rise less =
+      let further : id.serial < suc e.0 = omega (arith, less, rise.0) in
+      rw (id-elsewhere id e are.0 (other_number id.serial e.0 (omega (arith, less, rise.0)))) (beyond (suc e.0) id es are.1 rise.1 further)
+
+  -- and none has it either where the door of the serial has another place in the table
+  pub id-apart : (from : ℕ) (id : MachineId) (es : List (Numbered A)) (place : ℕ) (d : NamedDoor) → AreSerials es → DoRise from es → IsFirst (has_number id.serial) es place
+      → (get_or (doors_of_numbered es) place d).machine.id.slot ≢ id.slot → find (has_id id) (doors_of_numbered es) ≡ None
+  id-apart from id [] place d are rise first apart = refl
+  id-apart from id (e ∷ es) zero d are rise first apart =
+      let here : id.serial ≡ e.0 = eqb-true id.serial e.0 first in
+      let other : nat_eq id.slot e.1.1.machine.id.slot ≡ false = other_number id.slot e.1.1.machine.id.slot (λ same. apart (sym same)) in
+      let further : id.serial < suc e.0 = omega (arith, here) in
+      rw other (beyond (suc e.0) id es are.1 rise.1 further)
+  id-apart from id (e ∷ es) (suc place) d are rise first apart =
+      rw (id-elsewhere id e are.0 first.0) (id-apart (suc e.0) id es place d are.1 rise.1 first.1 apart)

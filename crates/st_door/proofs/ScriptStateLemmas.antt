@@ -1,6 +1,5 @@
 -- What a script keeps of its doors, and what a line makes of them.
 use Rattle.std.proofs.Common.{◌≡◌, ℕ, zero, suc, ◌+◌, ◌<◌, ◌≤◌, ◌^◌, ◌-◌, min, ◌≢◌, ◌⊎◌, nat_eq, Bool, true, false, nat_lt, List, [], ◌∷◌, ◌++◌, length, get_or, set, Option, Some, None, Result, Ok, Err, refl, ap, sym, ◌∙◌, arith, inl, inr, bytes_eq, length-append, lt-ltb, if◌then◌else◌}
-use Rattle.std.specs.Prelude.{is_some}
 use Rattle.std.specs.List.{find}
 use Rattle.std.proofs.lemmas.Bool.{cases_Bool, cases_lt}
 use Rattle.std.proofs.lemmas.List.{length-map, set-get_or, length-set, map-append, get_or-set_other, get_or_append_left}
@@ -8,13 +7,13 @@ use Rattle.std.proofs.Math.Seq.{get_or-append_seam}
 use Rattle.std.proofs.lemmas.Slice.Eq.{bytes_eq-Decides}
 use Rattle.st_events.specs.declared.machine_id.MachineId.{MachineId}
 use Rattle.st_events.specs.declared.refusal.Refusal.{Refusal}
-use Rattle.st_events.specs.declared.refusal.Refusal.TheVariants.{AlreadyStarted, NotStopped}
+use Rattle.st_events.specs.declared.refusal.Refusal.TheVariants.{AlreadyStarted, NoSuchName, NotStopped}
 use Rattle.st_events.specs.declared.tag.Tag.{Tag}
 use Rattle.st_core.specs.declared.answer.Answer.TheVariants as answer
 use Rattle.st_core.specs.declared.command.Command.{Command}
 use Rattle.st_core.specs.declared.command.Command.TheVariants as command
 use Rattle.st_core.specs.Start.{first_state, start_of}
-use Rattle.st_core.specs.Choice.{has_event_of}
+use Rattle.st_core.specs.Choice.{is_ready_of}
 use Rattle.st_core.specs.declared.report.Report.{Report}
 use Rattle.st_core.specs.declared.start.Start.TheVariants.{Running}
 use Rattle.st_door.specs.Door.{init_of}
@@ -25,10 +24,10 @@ use Rattle.st_door.specs.declared.door_state.DoorState.TheVariants.{Locked}
 use Rattle.st_door.specs.declared.line.Line.TheVariants as line
 use Rattle.st_door.specs.declared.effect.Effect.{Effect}
 use Rattle.st_door.specs.declared.effect.Effect.TheVariants.{Printed, Refuses}
-use Rattle.st_door.specs.Doors.{NamedDoor, KeptDoor, DoorMachine, IsFirst, IsKept, SameLabels, asks, door_callbacks, door_limit, door_at_first, door_named, door_of, free_slot_of, has_name, is_ready_door, least_from, length_in, next_tag_of, refusal_in, slots_of, kept_of, told_door, told_of, without_door}
+use Rattle.st_door.specs.Doors.{NamedDoor, KeptDoor, DoorMachine, IsFirst, IsKept, SameLabels, asks, door_callbacks, door_limit, door_at_first, door_named, door_of, free_slot_of, has_name, is_over, is_ready_door, least_from, length_in, next_tag_of, refusal_in, relays, slots_of, source_of, kept_of, told_door, told_of, without_door}
 use Rattle.st_door.specs.Printing.{length_text, removed_text, status_of}
 use Rattle.st_door.specs.Slots.{occurrences, AreMarked, HaveSameMarks, IsLeastFree}
-use Rattle.st_door.specs.Script.{ScriptState, commanded_of, door_start_of, effect_of, length_collected, length_finished, named_status_of, next_id_of, printing, removed_by, removed_door, rested_of, status_finished, step_of, the_door, told_script, with_start, without_named}
+use Rattle.st_door.specs.Script.{ScriptState, commanded_of, door_start_of, effect_of, length_collected, length_finished, named_status_of, next_id_of, printing, relayed_by, removed_by, removed_door, rested_of, status_finished, step_of, the_door, told_script, with_start, without_named}
 use Rattle.st_door.proofs.DoorLemmas.{IsFirst-within, IsFirst-changed, IsFirst-found, IsFirst-map, IsFirst-of_map}
 use Rattle.st_door.proofs.IdleLemmas.{no_door, labels-set, labels-told, labels-more}
 use Rattle.st_door.proofs.SlotLemmas.{least-free, marked-taken, marked-same, marked-freed, freed-within}
@@ -193,13 +192,18 @@ told_script-accepted script name command place first accepted =
       IsFirst-changed (has_name name) (told_door command) script.doors place no_door first,
     ) refl
 
--- the name has its place still, once a door was told a command and the doors rest
+-- a name has its place still, once a door was told a command and the doors rest
+pub first-still : (script told idle : ScriptState) (name : List ℕ) (command : Command DoorContent) (place other : ℕ) → place < length script.doors
+    → IsFirst (has_name name) script.doors other → told ≡ told_at script command place → SameLabels told.doors idle.doors → IsFirst (has_name name) idle.doors other
+first-still script told idle name command place other within first is_told rests =
+    let labels : SameLabels script.doors told.doors = rw is_told (labels-told script.doors place no_door (source_of command) command within) in
+    IsFirst-labels name script.doors idle.doors other (labels-more script.doors told.doors idle.doors labels rests) first
+
+-- and so has the name of that door
 pub first-told : (script told idle : ScriptState) (name : List ℕ) (command : Command DoorContent) (place : ℕ) → IsFirst (has_name name) script.doors place
     → told ≡ told_at script command place → SameLabels told.doors idle.doors → IsFirst (has_name name) idle.doors place
 first-told script told idle name command place first is_told rests =
-    let within : place < length script.doors = IsFirst-within (has_name name) script.doors place first in
-    let labels : SameLabels script.doors told.doors = rw is_told (labels-told script.doors place no_door command within) in
-    IsFirst-labels name script.doors idle.doors place (labels-more script.doors told.doors idle.doors labels rests) first
+    first-still script told idle name command place place (IsFirst-within (has_name name) script.doors place first) first is_told rests
 
 -- what a command comes to that is refused
 pub command-refused : (script : ScriptState) (name : List ℕ) (command : Command DoorContent) (place : ℕ) (refusal : Refusal) → IsFirst (has_name name) script.doors place
@@ -277,12 +281,12 @@ new-place script acted name code free started = elim (cases_Bool (nat_lt script.
 -- a door that starts: its id is the next one, and it is at rest
 pub started-state : (script : ScriptState) (code : List ℕ) (core : DoorCore) (report : Report DoorState)
     → Ok (Running core report) ≡ door_start_of script code
-    → (core.machine.id ≡ next_id_of script) × (has_event_of core.machine ≡ false)
+    → (core.machine.id ≡ next_id_of script) × (is_ready_of core.machine ≡ false)
 started-state script code core report started = elim (cases_Bool (nat_lt script.moment (2 ^ 63))) [
   | inl early ↦
       let went = rw early at started in
       let same : core.machine ≡ first_state (next_id_of script) Locked (record { code = code; buttons = [] }) script.moment 1 = cc in
-      (ap (λ (machine : DoorMachine). machine.id) same, ap (λ (machine : DoorMachine). has_event_of machine) same)
+      (ap (λ (machine : DoorMachine). machine.id) same, ap (λ (machine : DoorMachine). is_ready_of machine) same)
   | inr late ↦ let went = rw late at started in cc
 ]
 
@@ -312,29 +316,57 @@ pub started-script : (script : ScriptState) (name code : List ℕ) (core : DoorC
 started-script script name code core report after serial started counted pushed = rw (← started, counted, pushed) refl
 
 -- ---- removals
--- a door that has not ended stays
+-- a door that is not over stays
 pub remove-refused : (script : ScriptState) (name : List ℕ) (place : ℕ) → IsFirst (has_name name) script.doors place
-    → is_some (get_or script.doors place no_door).machine.ended ≡ false
+    → is_over (get_or script.doors place no_door).machine ≡ false
     → step_of script (line.Remove name) ≡ (Refuses NotStopped, script)
 remove-refused script name place first runs =
     ap (λ (found : Option NamedDoor). effect_of script (λ s. (removed_text name, s)) (removed_door script name found)) (IsFirst-found (has_name name) script.doors place no_door first)
-    ∙ ap (λ (acted : Result ScriptState Refusal). effect_of script (λ s. (removed_text name, s)) acted) (removed-not script name (get_or script.doors place no_door).machine.ended runs)
-  where
-    removed-not : (script : ScriptState) (name : List ℕ) (ended : Option (ℕ × ℕ)) → is_some ended ≡ false → removed_by script name ended ≡ Err NotStopped
-    removed-not script name None runs = refl
-    removed-not script name (Some end) runs = cc
+    ∙ ap (λ (over : Bool). effect_of script (λ s. (removed_text name, s)) (removed_by script name over)) runs
 
--- and one that has goes
+-- and one that is goes
 pub remove-done : (script : ScriptState) (name : List ℕ) (place : ℕ) → IsFirst (has_name name) script.doors place
-    → is_some (get_or script.doors place no_door).machine.ended ≡ true
+    → is_over (get_or script.doors place no_door).machine ≡ true
     → step_of script (line.Remove name) ≡ (Printed (removed_text name), rested_of (without_named script name))
 remove-done script name place first ends =
     ap (λ (found : Option NamedDoor). effect_of script (λ s. (removed_text name, s)) (removed_door script name found)) (IsFirst-found (has_name name) script.doors place no_door first)
-    ∙ ap (λ (acted : Result ScriptState Refusal). effect_of script (λ s. (removed_text name, s)) acted) (removed-it script name (get_or script.doors place no_door).machine.ended ends)
-  where
-    removed-it : (script : ScriptState) (name : List ℕ) (ended : Option (ℕ × ℕ)) → is_some ended ≡ true → removed_by script name ended ≡ Ok (without_named script name)
-    removed-it script name None ends = cc
-    removed-it script name (Some end) ends = refl
+    ∙ ap (λ (over : Bool). effect_of script (λ s. (removed_text name, s)) (removed_by script name over)) ends
+
+-- ---- relays
+relay-lost : (script : ScriptState) (name : List ℕ) (digit : ℕ) (door : Option NamedDoor) → relayed_by script name digit door None ≡ Err NoSuchName
+relay-lost script name digit None = refl
+relay-lost script name digit (Some door) = refl
+
+-- neither name may be missing
+pub relay-nameless : (script : ScriptState) (name target : List ℕ) (digit : ℕ) → door_of name script.doors ≡ None
+    → step_of script (line.Relay name target digit) ≡ (Refuses NoSuchName, script)
+relay-nameless script name target digit none = rw none refl
+
+pub relay-aimless : (script : ScriptState) (name target : List ℕ) (digit : ℕ) → door_of target script.doors ≡ None
+    → step_of script (line.Relay name target digit) ≡ (Refuses NoSuchName, script)
+relay-aimless script name target digit none =
+    ap (λ (found : Option NamedDoor). effect_of script (status_finished target) (relayed_by script name digit (door_of name script.doors) found)) none
+    ∙ ap (effect_of script (status_finished target)) (relay-lost script name digit (door_of name script.doors))
+
+-- a door is told to send a button to the one at another place, whose id this is
+module _ (script : ScriptState) (name target : List ℕ) (digit place aim : ℕ) (id : MachineId) (first : IsFirst (has_name name) script.doors place)
+  (second : IsFirst (has_name target) script.doors aim) (same : id ≡ (get_or script.doors aim no_door).machine.id) where
+  relay-acted : relayed_by script name digit (door_of name script.doors) (door_of target script.doors) ≡ told_script script name (relays id digit) (door_of name script.doors)
+  relay-acted =
+      rw (IsFirst-found (has_name name) script.doors place no_door first, IsFirst-found (has_name target) script.doors aim no_door second, same) refl
+
+  pub relay-refused : (refusal : Refusal) → Some refusal ≡ refusal_in (told_of (relays id digit) (get_or script.doors place no_door)).0
+      → step_of script (line.Relay name target digit) ≡ (Refuses refusal, script)
+  relay-refused refusal refused =
+      ap (effect_of script (status_finished target)) relay-acted
+      ∙ command-refused script name (relays id digit) place refusal first refused (status_finished target)
+
+  pub relay-done : None ≡ refusal_in (told_of (relays id digit) (get_or script.doors place no_door)).0
+      → step_of script (line.Relay name target digit)
+      ≡ (Printed (named_status_of (rested_of (told_at script (relays id digit) place)) target), rested_of (told_at script (relays id digit) place))
+  relay-done accepted =
+      ap (effect_of script (status_finished target)) relay-acted
+      ∙ ap (effect_of script (status_finished target)) (told_script-accepted script name (relays id digit) place first accepted)
 
 -- ---- the reply once the doors rest
 pub idle-effect : (script idle : ScriptState) (name : List ℕ) (place : ℕ) (said : Effect × ScriptState) (effect : Effect)

@@ -1,6 +1,6 @@
 -- A door is told a command: what it answers, and what stays as it was.
 use Rattle.std.proofs.Common.{◌≡◌, ℕ, ◌^◌, nat_lt, false, List, Option, Some, None, refl, ap, ◌∙◌, inl, inr, ◌⊎◌, append-nil}
-use Rattle.std.specs.Prelude.{Result, Ok, Err}
+use Rattle.std.specs.Prelude.{Result, Ok, Err, OnOk, OnErr}
 use Rattle.std.proofs.Math.Path.{fun_ext}
 use Rattle.std.proofs.lemmas.Bool.{cases_Bool}
 use Rattle.st_core.specs.Choice.{next_event_of}
@@ -18,6 +18,7 @@ use Rattle.st_events.specs.declared.event.Event.{Event}
 use Rattle.st_events.specs.declared.machine_id.MachineId.{MachineId}
 use Rattle.st_events.specs.declared.refusal.Refusal.{Refusal}
 use Rattle.st_events.specs.declared.tag.Tag.{Tag}
+use Rattle.st_cell.specs.declared.source.Source.{Source}
 use Rattle.st_door.specs.contracts.door.DoorModule.TheImpl.{ghosts}
 use Rattle.st_door.specs.contracts.door_state.DoorStatePartialEq.TheImpl.{eq-value}
 use Rattle.st_door.specs.declared.door.Door.{Door}
@@ -26,7 +27,7 @@ use Rattle.st_door.specs.declared.door_data.DoorData.{DoorData}
 use Rattle.st_door.specs.declared.door_state.DoorState.{DoorState}
 use Rattle.st_door.specs.declared.door_state.DoorState.TheVariants.{Locked, Open}
 use Rattle.st_door.specs.Door.{is_same_state}
-use Rattle.st_door.specs.Doors.{DoorAnswer, DoorEntry, DoorMachine, History, KeptDoor, asks, door_callbacks, history_told, is_recorded, refusal_in, refusal_by, post_refusal_by, told_kept}
+use Rattle.st_door.specs.Doors.{DoorAnswer, DoorEntry, DoorMachine, History, KeptDoor, asks, door_callbacks, history_told, is_recorded, kept_told_by, refusal_in, refusal_by, post_refusal_by, source_of, told_kept}
 use Rattle.st_core.specs.declared.turned.Turned.TheVariants.{Reported, Idle}
 
 -- ---- a door's callbacks are those of the definition
@@ -110,6 +111,12 @@ id-told machine (command.Collect tag) = refl
 id-told machine (command.Stop reason) = id-unless machine.ended _ machine (stop_running door_callbacks machine reason) refl
 id-told machine command.TakeOut = refl
 
+-- and so does a door that is told one, or is as it was
+pub id-after : {A E : Type 0} (result : Result A E) (new old : KeptDoor) (source : Source) (command : Command DoorContent)
+    → OnOk result (new ≡ kept_told_by source command old) → OnErr result (new ≡ old) → new.machine.id ≡ old.machine.id
+id-after (Ok done) new old source command told unchanged = ap (λ (door : KeptDoor). door.machine.id) told ∙ id-told old.machine command
+id-after (Err error) new old source command told unchanged = ap (λ (door : KeptDoor). door.machine.id) unchanged
+
 -- ---- what a refusal leaves
 -- a machine that has ended stays, and one that runs does where a refused call leaves it
 stays-unless : {A : Type 0} (end : Option (ℕ × ℕ)) (refused : Refusal → A) (refusal_in : A → Option Refusal) (machine : DoorMachine) (done : A × DoorMachine) (refusal : Refusal)
@@ -177,9 +184,9 @@ refused-not-recorded (answer.Stop (Err why)) refusal refused = refl
 refused-not-recorded (answer.TakeOut message) refusal refused = cc
 
 -- a history stays where nothing is recorded
-history-same : (command : Command DoorContent) (said : DoorAnswer) (history : Option History) → is_recorded said ≡ false → history_told command said history ≡ history
-history-same command said None none = refl
-history-same command said (Some history) none =
+history-same : (source : Source) (command : Command DoorContent) (said : DoorAnswer) (history : Option History) → is_recorded said ≡ false → history_told source command said history ≡ history
+history-same source command said None none = refl
+history-same source command said (Some history) none =
     rw none (ap (λ (entries : List DoorEntry). Some (record { from = history.from; entries = entries })) (append-nil history.entries))
 
 -- so a command that is refused leaves the door as it was
@@ -187,8 +194,8 @@ pub kept-refused : (command : Command DoorContent) (door : KeptDoor) (refusal : 
     → refusal_in (step_of door_callbacks door.machine command).0 ≡ Some refusal → told_kept command door ≡ door
 kept-refused command door refusal refused =
     let said = (step_of door_callbacks door.machine command).0 in
-    ap (λ (machine : DoorMachine). record { machine = machine; history = history_told command said door.history }) (told-refused door.machine command refusal refused)
-    ∙ ap (λ (history : Option History). record { machine = door.machine; history = history }) (history-same command said door.history (refused-not-recorded said refusal refused))
+    ap (λ (machine : DoorMachine). record { machine = machine; history = history_told (source_of command) command said door.history }) (told-refused door.machine command refusal refused)
+    ∙ ap (λ (history : Option History). record { machine = door.machine; history = history }) (history-same (source_of command) command said door.history (refused-not-recorded said refusal refused))
 
 -- ---- the tag of a call
 same-tag : (id : MachineId) (number : ℕ) (tag : Tag) → tag.machine ≡ id → tag.request ≡ number → record { machine = id; request = number } ≡ tag

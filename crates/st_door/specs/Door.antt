@@ -2,7 +2,7 @@
 -- row of its tables.
 use Rattle.std.specs.Prelude.{ℕ, Bool, true, false, List, [], ◌∷◌, ◌++◌, drop, length, nat_lt, bytes_eq, if◌then◌else◌}
 use Rattle.st_events.specs.declared.action.Action.{Action}
-use Rattle.st_events.specs.declared.action.Action.TheVariants.{Reply, Postpone, Set}
+use Rattle.st_events.specs.declared.action.Action.TheVariants.{Reply, Postpone, Send, Set}
 use Rattle.st_events.specs.declared.enter_action.EnterAction.{EnterAction}
 use Rattle.st_events.specs.declared.enter_action.EnterAction.TheVariants as enter_action
 use Rattle.st_events.specs.declared.enter_outcome.EnterOutcome.{EnterOutcome}
@@ -18,7 +18,7 @@ use Rattle.st_events.specs.declared.time.Time.TheVariants.{After}
 use Rattle.st_events.specs.declared.timer.Timer.{Timer}
 use Rattle.st_events.specs.declared.timer.Timer.TheVariants as timer
 use Rattle.st_door.specs.declared.door_content.DoorContent.{DoorContent}
-use Rattle.st_door.specs.declared.door_content.DoorContent.TheVariants.{Button, CodeLength, Length, Nothing}
+use Rattle.st_door.specs.declared.door_content.DoorContent.TheVariants.{Button, CodeLength, Length, Nothing, Relay}
 use Rattle.st_door.specs.declared.door_data.DoorData.{DoorData}
 use Rattle.st_door.specs.declared.door_state.DoorState.{DoorState}
 use Rattle.st_door.specs.declared.door_state.DoorState.TheVariants.{Locked, Open}
@@ -63,13 +63,23 @@ unlocked_by held buttons =
 abbrev pub pressed : DoorData → ℕ → DoorOutcome
 pressed held digit = unlocked_by held (with_button held.code held.buttons digit)
 
--- a cast: a button counts while the door is locked, and is postponed while it is open
+-- a cast: a button counts while the door is locked, and is postponed while it is open; one that is to be relayed is sent
+-- on
 abbrev pub cast_of : DoorContent → DoorState → DoorData → DoorOutcome
 cast_of (Button digit) Locked held = pressed held digit
 cast_of (Button digit) Open held = KeepStateAndData (Postpone true ∷ [])
 cast_of CodeLength state held = KeepStateAndData []
 cast_of (Length digits) state held = KeepStateAndData []
 cast_of Nothing state held = KeepStateAndData []
+cast_of (Relay target digit) state held = KeepStateAndData (Send target (Button digit) ∷ [])
+
+-- an info: a button is as one that is cast
+abbrev pub info_of : DoorContent → DoorState → DoorData → DoorOutcome
+info_of (Button digit) state held = cast_of (Button digit) state held
+info_of CodeLength state held = KeepStateAndData []
+info_of (Length digits) state held = KeepStateAndData []
+info_of Nothing state held = KeepStateAndData []
+info_of (Relay target digit) state held = KeepStateAndData []
 
 -- a time-out: that of the event makes a locked door forget its buttons, that of the state locks an open one
 abbrev pub timeout_of : Timer → DoorState → DoorData → DoorOutcome
@@ -83,12 +93,13 @@ call_of tag CodeLength held = KeepStateAndData (Reply tag (Length (length held.c
 call_of tag (Button digit) held = KeepStateAndData []
 call_of tag (Length digits) held = KeepStateAndData []
 call_of tag Nothing held = KeepStateAndData []
+call_of tag (Relay target digit) held = KeepStateAndData []
 
 -- what a door answers to an event
 abbrev pub handle_of : Kind → DoorContent → DoorState → DoorData → DoorOutcome
 handle_of (Call tag) content state held = call_of tag content held
 handle_of Cast content state held = cast_of content state held
-handle_of Info content state held = KeepStateAndData []
+handle_of Info content state held = info_of content state held
 handle_of (Timeout timer) content state held = timeout_of timer state held
 handle_of Internal content state held = KeepStateAndData []
 

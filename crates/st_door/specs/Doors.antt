@@ -1,9 +1,9 @@
 -- The doors of a script, in order of registration.
-use Rattle.std.specs.Prelude.{◌≡◌, ℕ, zero, suc, ◌+◌, ◌<◌, ◌≤◌, ◌⊎◌, Bool, true, false, List, [], ◌∷◌, Option, Some, None, is_some, Result, Ok, Err, ◌++◌, map, find, length, bytes_eq, slice_index_or, ◌==◌, if◌then◌else◌}
+use Rattle.std.specs.Prelude.{◌≡◌, ℕ, zero, suc, ◌+◌, ◌<◌, ◌≤◌, ◌⊎◌, Bool, true, false, not, ◌&&◌, List, [], ◌∷◌, Option, Some, None, is_some, Result, Ok, Err, ◌++◌, map, find, length, bytes_eq, slice_index_or, ◌==◌, if◌then◌else◌}
 use Rattle.std.specs.List.{list_any, sum_by}
 use Rattle.st_core.specs.declared.machine_state.MachineState.{MachineState}
 use Rattle.st_core.specs.Callbacks.{Callbacks}
-use Rattle.st_core.specs.Choice.{has_event_of}
+use Rattle.st_core.specs.Choice.{has_message_of, is_ready_of}
 use Rattle.st_core.specs.Post.{next_tag}
 use Rattle.st_core.specs.Run.{step_of}
 use Rattle.st_core.specs.declared.answer.Answer.{Answer}
@@ -16,9 +16,10 @@ use Rattle.st_scheduled.specs.Serving.{hands_out}
 use Rattle.st_cell.specs.declared.journal_entry.JournalEntry.{JournalEntry}
 use Rattle.st_cell.specs.declared.source.Source.{Source}
 use Rattle.st_cell.specs.declared.source.Source.TheVariants as source
-use Rattle.st_door.specs.declared.door_content.DoorContent.TheVariants.{Button, CodeLength, Length, Nothing}
+use Rattle.st_door.specs.declared.door_content.DoorContent.TheVariants.{Button, CodeLength, Length, Nothing, Relay}
 use Rattle.st_requests.specs.declared.collected.Collected.{Collected}
 use Rattle.st_requests.specs.declared.collected.Collected.TheVariants.{Waiting, Reply, Stopped, Gone}
+use Rattle.st_events.specs.declared.machine_id.MachineId.{MachineId}
 use Rattle.st_events.specs.declared.refusal.Refusal.{Refusal}
 use Rattle.st_events.specs.declared.refused.Refused.{Refused}
 use Rattle.st_events.specs.declared.tag.Tag.{Tag}
@@ -97,9 +98,13 @@ door_of name doors = find (has_name name) doors
 abbrev pub names_of : List NamedDoor → List (List ℕ)
 names_of doors = map (λ door. door.name) doors
 
--- whether a turn of the door would handle an event
+-- whether a door is ready: a turn of it would handle an event, or a message is to be taken out
 abbrev pub is_ready_door : NamedDoor → Bool
-is_ready_door door = has_event_of door.machine
+is_ready_door door = is_ready_of door.machine
+
+-- whether a door is over: it has ended, and no message is to be taken out
+abbrev pub is_over : DoorMachine → Bool
+is_over machine = is_some machine.ended && not (has_message_of machine)
 
 -- the door is told a command: what it answers, and the machine after it
 abbrev pub told_of : Command DoorContent → NamedDoor → DoorAnswer × DoorMachine
@@ -126,7 +131,7 @@ is_recorded (answer.Stop (Ok word)) = true
 is_recorded (answer.Stop (Err refusal)) = false
 is_recorded (answer.TakeOut message) = is_some message
 
--- where a command comes from: a post comes by the door's one port, all else from who calls the door
+-- where a line's command comes from: a post comes by the door's one port, all else from who calls the door
 abbrev pub source_of : Command DoorContent → Source
 source_of (command.Post entry content) = source.Port 1
 source_of (command.Tick moment) = source.Caller
@@ -137,25 +142,33 @@ source_of (command.Stop reason) = source.Caller
 source_of command.TakeOut = source.Caller
 
 -- the entry of a command that was answered so, with this number, if it is kept
-abbrev pub recorded : ℕ → Command DoorContent → DoorAnswer → List DoorEntry
-recorded number command answer =
-    if is_recorded answer then record { number = number; source = source_of command; command = command; answer = answer } ∷ [] else []
+abbrev pub recorded : ℕ → Source → Command DoorContent → DoorAnswer → List DoorEntry
+recorded number source command answer =
+    if is_recorded answer then record { number = number; source = source; command = command; answer = answer } ∷ [] else []
 
 -- a history after a command that was answered so
-abbrev pub history_told : Command DoorContent → DoorAnswer → Option History → Option History
-history_told command answer None = None
-history_told command answer (Some history) =
-    Some (record history { entries = history.entries ++ recorded (length history.entries + 1) command answer })
+abbrev pub history_told : Source → Command DoorContent → DoorAnswer → Option History → Option History
+history_told source command answer None = None
+history_told source command answer (Some history) =
+    Some (record history { entries = history.entries ++ recorded (length history.entries + 1) source command answer })
 
--- the door after it, without its name
-abbrev pub told_kept : Command DoorContent → KeptDoor → KeptDoor
-told_kept command door =
+-- the door after a command from somewhere, without its name
+abbrev pub kept_told_by : Source → Command DoorContent → KeptDoor → KeptDoor
+kept_told_by source command door =
     let told = step_of door_callbacks door.machine command in
-    record { machine = told.1; history = history_told command told.0 door.history }
+    record { machine = told.1; history = history_told source command told.0 door.history }
+
+-- and with it
+abbrev pub door_told_by : Source → Command DoorContent → NamedDoor → NamedDoor
+door_told_by source command door = door_named door.name (kept_told_by source command (kept_of door))
+
+-- the door after a line's command, without its name
+abbrev pub told_kept : Command DoorContent → KeptDoor → KeptDoor
+told_kept command door = kept_told_by (source_of command) command door
 
 -- and with it
 abbrev pub told_door : Command DoorContent → NamedDoor → NamedDoor
-told_door command door = door_named door.name (told_kept command (kept_of door))
+told_door command door = door_told_by (source_of command) command door
 
 -- a door that starts, whose history is kept or not: then no entry is in it
 abbrev pub door_at_first : Bool → DoorMachine → KeptDoor
@@ -205,6 +218,7 @@ length_of (Length digits) = Some digits
 length_of (Button digit) = None
 length_of CodeLength = None
 length_of Nothing = None
+length_of (Relay target digit) = None
 
 -- the length that was collected; it is none where there was no reply
 abbrev pub collected_length : Collected DoorContent → Option ℕ
@@ -227,6 +241,10 @@ length_in (answer.TakeOut message) = None
 abbrev pub presses : ℕ → Command DoorContent
 presses digit = command.Post Cast (Button digit)
 
+-- a door is to send a button to the machine of an id
+abbrev pub relays : MachineId → ℕ → Command DoorContent
+relays target digit = command.Post Cast (Relay target digit)
+
 -- a door is asked how long its code is
 abbrev pub asks : Command DoorContent
 asks = command.Post Call CodeLength
@@ -246,15 +264,6 @@ ticked_doors moment doors = map (told_door (command.Tick moment)) doors
 -- how many time-outs of the doors expire at it
 abbrev pub all_expired_of : ℕ → List NamedDoor → ℕ
 all_expired_of moment doors = sum_by (expired_of moment) doors
-
--- as long as a door is ready, the first ready one gets a turn, at most so many times
-unfoldable pub run_until_idle : ℕ → ℕ → List NamedDoor → List NamedDoor
-run_until_idle zero moment doors = doors
-run_until_idle (suc turns) moment doors =
-    elim (list_any is_ready_door doors) [
-      | true ↦ run_until_idle turns moment (change_first is_ready_door (told_door (command.Turn moment)) doors)
-      | false ↦ doors
-    ]
 
 -- doors that rest, but for those from one place up to another
 abbrev pub RestsOutside : ℕ → ℕ → List NamedDoor → Type 0

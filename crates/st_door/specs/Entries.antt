@@ -7,8 +7,9 @@ use Rattle.st_door.specs.declared.door_data.DoorData.{DoorData}
 use Rattle.st_door.specs.declared.door_state.DoorState.{DoorState}
 use Rattle.st_core.specs.Run.{step_of}
 use Rattle.st_core.specs.declared.command.Command.{Command}
-use Rattle.st_door.specs.Doors.{NamedDoor, DoorAnswer, DoorMachine, History, KeptDoor, door_callbacks, door_named, recorded, DoorEntry}
+use Rattle.st_door.specs.Doors.{NamedDoor, DoorAnswer, DoorMachine, History, KeptDoor, door_callbacks, door_named, recorded, source_of, DoorEntry}
 use Rattle.st_cell.specs.Cell.{CellState, IsOpen}
+use Rattle.st_cell.specs.declared.source.Source.{Source}
 use Rattle.st_scheduled.specs.ScheduledMachine.{ScheduledMachine}
 
 -- what contracts see of a door's `Core`
@@ -45,15 +46,20 @@ abbrev pub told_in : DoorCellState → Command DoorContent → DoorAnswer × Doo
 told_in cell command = step_of door_callbacks (machine_in cell) command
 
 -- the entry that the command leaves
-abbrev pub recorded_in : DoorCellState → Command DoorContent → List DoorEntry
-recorded_in cell command = recorded (cell.scheduled.count + 1) command (told_in cell command).0
+abbrev pub recorded_in : DoorCellState → Source → Command DoorContent → List DoorEntry
+recorded_in cell source command = recorded (cell.scheduled.count + 1) source command (told_in cell command).0
 
--- a cell was told a command: its machine is the definition's, and the journal has the command's entry, if it leaves one
-pub record HasTold (command : Command DoorContent) (old new : DoorCellState) : Type 0 where
+-- a cell was told a command from somewhere: its machine is the definition's, and the journal has the command's entry, if it
+-- leaves one
+pub record HasToldBy (source : Source) (command : Command DoorContent) (old new : DoorCellState) : Type 0 where
   pub machine : machine_in new ≡ (told_in old command).1
-  pub journal : new.journal ≡ old.journal ++ recorded_in old command
-  pub count : new.scheduled.count ≡ old.scheduled.count + length (recorded_in old command)
+  pub journal : new.journal ≡ old.journal ++ recorded_in old source command
+  pub count : new.scheduled.count ≡ old.scheduled.count + length (recorded_in old source command)
   pub base : new.base ≡ old.base
+
+-- a cell was told a line's command
+abbrev pub HasTold : Command DoorContent → DoorCellState → DoorCellState → Type 0
+HasTold command old new = HasToldBy (source_of command) command old new
 
 -- the door of an entry
 abbrev pub door_of_entry : {A : Type 0} → String A × KeptDoor → NamedDoor

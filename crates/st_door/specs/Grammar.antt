@@ -1,7 +1,7 @@
 -- What a line says.
 use Rattle.std.specs.Prelude.{ℕ, Bool, false, ◌&&◌, ◌==◌, ◌-◌, nat_lt, List, [], ◌∷◌, length, if◌then◌else◌, bytes_eq, codes}
 use Rattle.st_door.specs.declared.line.Line.{Line}
-use Rattle.st_door.specs.declared.line.Line.TheVariants.{Blank, Malformed, New, Button, Show, At, Stop, Remove, Length, Names}
+use Rattle.st_door.specs.declared.line.Line.TheVariants.{Blank, Malformed, New, Button, Show, At, Stop, Remove, Length, Relay, Names}
 use Rattle.st_door.specs.Lines.{words}
 use Rattle.st_door.specs.WordForms.{digit_zero, is_name, is_digits, digits_of, is_number, number_of}
 
@@ -71,6 +71,12 @@ abbrev pub length_of : List (List ℕ) → Line
 length_of (name ∷ []) = if is_name name then Length name else Malformed
 length_of _ = Malformed
 
+-- `relay`, after which two names and one digit stand
+abbrev pub relay_of : List (List ℕ) → Line
+relay_of (name ∷ target ∷ (c ∷ []) ∷ []) =
+    if is_name name && is_name target && is_digits 1 (c ∷ []) then Relay name target (c - digit_zero) else Malformed
+relay_of _ = Malformed
+
 -- `names`, after which nothing stands
 abbrev pub names_of : List (List ℕ) → Line
 names_of [] = Names
@@ -92,8 +98,9 @@ command_of verb args =
     else (if bytes_eq verb (codes "stop") then stop_of args
     else (if bytes_eq verb (codes "remove") then remove_of args
     else (if bytes_eq verb (codes "length") then length_of args
+    else (if bytes_eq verb (codes "relay") then relay_of args
     else (if bytes_eq verb (codes "names") then names_of args
-    else Malformed))))))))
+    else Malformed)))))))))
 
 -- what the words of a line say
 abbrev pub line_of_words : List (List ℕ) → Line

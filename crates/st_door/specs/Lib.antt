@@ -10,6 +10,7 @@ pub mod Lines
 pub mod Printing
 pub mod Script
 pub mod ScriptFault
+pub mod Settling
 pub mod Slots
 pub mod Streams
 pub mod Traces

@@ -55,6 +55,11 @@ AreNumbered from [] next = from ≤ next
 AreNumbered from (entry ∷ entries) next =
     (from ≤ entry.0) × (number_of (string_bytes entry.1.0) entries ≡ None) × AreNumbered (suc entry.0) entries next
 
+-- each door's number is the serial of its id
+abbrev pub AreSerials : {A : Type 0} → List (Numbered A) → Type 0
+AreSerials [] = ⊤
+AreSerials (entry ∷ entries) = (entry.0 ≡ entry.1.1.machine.id.serial) × AreSerials entries
+
 -- the table has the number of each name
 abbrev pub HasNumbers : {A : Type 0} → BTreeMap (String A) ℕ → List (Numbered A) → Type 0
 HasNumbers numbers entries = (name : List ℕ) → get_by_text numbers name ≡ number_of name entries

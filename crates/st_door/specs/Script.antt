@@ -24,9 +24,10 @@ use Rattle.st_door.specs.declared.line.Line.TheVariants as line
 use Rattle.st_door.specs.declared.effect.Effect.{Effect}
 use Rattle.st_door.specs.declared.effect.Effect.TheVariants.{Silent, Printed, Refuses, Malformed}
 use Rattle.st_door.specs.Door.{init_of}
-use Rattle.st_door.specs.Doors.{NamedDoor, change_first, has_name, door_named, door_at_first, door_callbacks, door_limit, door_of, without_door, free_slot_of, run_until_idle, told_of, told_door, presses, asks, refusal_in, length_in, next_tag_of, all_expired_of, ticked_doors}
+use Rattle.st_door.specs.Doors.{NamedDoor, change_first, has_name, door_named, door_at_first, door_callbacks, door_limit, door_of, without_door, free_slot_of, is_over, told_of, told_door, presses, relays, asks, refusal_in, length_in, next_tag_of, all_expired_of, ticked_doors}
 use Rattle.st_door.specs.Grammar.{line_of}
 use Rattle.st_door.specs.Lines.{lines}
+use Rattle.st_door.specs.Settling.{run_until_idle}
 use Rattle.st_door.specs.Traces.{traces_of}
 use Rattle.st_door.specs.Printing.{status_of, names_text, removed_text, expired_text, length_text, refused_text, malformed_text}
 
@@ -47,7 +48,7 @@ is_traced Trace = true
 abbrev pub first_script_state : Mode → ScriptState
 first_script_state mode = record { traced = is_traced mode; doors = []; moment = 0; started = 0 }
 
--- how many turns are made for one line
+-- how many turns and deliveries are made for one line
 abbrev pub turn_limit : ℕ
 turn_limit = 1000000
 
@@ -100,6 +101,12 @@ abbrev pub told_script : ScriptState → List ℕ → Command DoorContent → Op
 told_script script name command None = Err NoSuchName
 told_script script name command (Some door) = told_by script name command (refusal_in (told_of command door).0)
 
+-- `relay`: the name of the door and then that of the target are looked up, and then the door is told as by a command
+abbrev pub relayed_by : ScriptState → List ℕ → ℕ → Option NamedDoor → Option NamedDoor → Result ScriptState Refusal
+relayed_by script name digit None target = Err NoSuchName
+relayed_by script name digit (Some door) None = Err NoSuchName
+relayed_by script name digit (Some door) (Some target) = told_script script name (relays target.machine.id digit) (Some door)
+
 -- `show`: a name that is not registered is refused
 abbrev pub shown_door : ScriptState → Option NamedDoor → Result ScriptState Refusal
 shown_door script None = Err NoSuchName
@@ -109,15 +116,15 @@ shown_door script (Some door) = Ok script
 abbrev pub without_named : ScriptState → List ℕ → ScriptState
 without_named script name = record script { doors = without_door name script.doors }
 
--- `remove` of a door that has ended, or has not
-abbrev pub removed_by : ScriptState → List ℕ → Option (ℕ × ℕ) → Result ScriptState Refusal
-removed_by script name None = Err NotStopped
-removed_by script name (Some end) = Ok (without_named script name)
+-- `remove` of a door that is over, or is not
+abbrev pub removed_by : ScriptState → List ℕ → Bool → Result ScriptState Refusal
+removed_by script name true = Ok (without_named script name)
+removed_by script name false = Err NotStopped
 
--- `remove`: a name that is not registered is refused, then a door that has not ended
+-- `remove`: a name that is not registered is refused, then a door that has not ended or has a message left
 abbrev pub removed_door : ScriptState → List ℕ → Option NamedDoor → Result ScriptState Refusal
 removed_door script name None = Err NoSuchName
-removed_door script name (Some door) = removed_by script name door.machine.ended
+removed_door script name (Some door) = removed_by script name (is_over door.machine)
 
 -- the script at a moment, at which its doors were ticked
 abbrev pub ticked_script : ScriptState → ℕ → ScriptState
@@ -139,6 +146,7 @@ acted_of script (line.At moment) = passed_to script moment
 acted_of script (line.Stop name reason) = told_script script name (command.Stop reason) (door_of name script.doors)
 acted_of script (line.Remove name) = removed_door script name (door_of name script.doors)
 acted_of script (line.Length name) = told_script script name asks (door_of name script.doors)
+acted_of script (line.Relay name target digit) = relayed_by script name digit (door_of name script.doors) (door_of target script.doors)
 acted_of script line.Names = Ok script
 
 -- the script once its doors rest
@@ -179,6 +187,7 @@ finished_of before (line.At moment) = λ script. (expired_text script.moment (al
 finished_of before (line.Stop name reason) = status_finished name
 finished_of before (line.Remove name) = λ script. (removed_text name, script)
 finished_of before (line.Length name) = length_finished name (door_of name before.doors)
+finished_of before (line.Relay name target digit) = status_finished target
 finished_of before line.Names = λ script. (names_text script.doors, script)
 
 -- a line that has finished prints its text
@@ -205,6 +214,7 @@ step_of script (line.At moment) = effect_of script (finished_of script (line.At 
 step_of script (line.Stop name reason) = effect_of script (finished_of script (line.Stop name reason)) (acted_of script (line.Stop name reason))
 step_of script (line.Remove name) = effect_of script (finished_of script (line.Remove name)) (acted_of script (line.Remove name))
 step_of script (line.Length name) = effect_of script (finished_of script (line.Length name)) (acted_of script (line.Length name))
+step_of script (line.Relay name target digit) = effect_of script (finished_of script (line.Relay name target digit)) (acted_of script (line.Relay name target digit))
 step_of script line.Names = effect_of script (finished_of script line.Names) (acted_of script line.Names)
 
 -- what the line of a number prints

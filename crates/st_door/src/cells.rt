@@ -1,18 +1,21 @@
 //! What is done with the cell of a door, through its one port.
-ghost use Rattle.std.specs.Prelude.{◌≡◌, ◌≤◌, true, false, max, length, IfOk, OnOk, OnErr};
-ghost use Rattle.st_core.specs.Choice.{has_event_of, waiting_of};
+ghost use Rattle.std.specs.Prelude.{◌≡◌, ◌≤◌, true, false, Some, max, length, IfOk, OnOk, OnErr};
+ghost use Rattle.st_core.specs.Choice.{has_event_of, has_message_of, waiting_of};
 ghost use Rattle.st_core.specs.Run.{step_of};
 ghost use Rattle.st_core.specs.declared.command.Command.TheVariants as command;
+ghost use Rattle.st_core.specs.declared.entry.Entry.TheVariants.{Info};
+ghost use Rattle.st_outbox.specs.Outbox.{first_message};
 ghost use Rattle.st_scheduled.specs.Serving.{is_full};
 ghost use Rattle.st_cell.specs.Cell.{IsOpen};
+ghost use Rattle.st_cell.specs.declared.source.Source.TheVariants as source;
 ghost use Rattle.st_door.specs.Doors.{door_callbacks};
-ghost use Rattle.st_door.specs.Entries.{HasTold, machine_in};
+ghost use Rattle.st_door.specs.Entries.{HasTold, HasToldBy, machine_in};
 
 use crate::answers::DoorAnswer;
 use crate::{Door, DoorContent};
 use st_cell::{Cell, a_cell_has_a_token_for_work};
 use st_core::{Answer, Entry};
-use st_events::{Reason, Refusal, Tag};
+use st_events::{Message, Reason, Refusal, Tag};
 use std::alloc::AllocError;
 
 /// The port of a door: the first one.
@@ -176,6 +179,52 @@ pub(crate) fn turn(cell: &mut Cell<Door>, moment: u64) -> Result<(), AllocError>
     };
     match cell.turn(token, moment) {
         Ok(_next) => Ok(()),
+        Err(refused) => match refused.refusal {
+            Refusal::NoMemory => Err(AllocError),
+            _ => Ok(()),
+        },
+    }
+}
+
+/// Takes the first message of a door out, by its token.
+pub(crate) fn take_out(cell: &mut Cell<Door>) -> Result<Message<DoorContent>, AllocError>
+    requires ready { is_full cell.old.scheduled ≡ false }
+    requires message { has_message_of (machine_in cell.old) ≡ true }
+    ensures message { IfOk result (λ message. first_message (machine_in cell.old).outbox.messages ≡ Some message) }
+    ensures told { OnOk result (HasTold command.TakeOut cell.old cell.new) }
+
+    ensures unchanged { OnErr result (cell.new ≡ cell.old) }
+
+    // Whatever the answer is.
+    ensures ports { length cell.new.ports ≡ length cell.old.ports }
+{
+    a_cell_has_a_token_for_work(cell);
+    let Some(token) = cell.token() else {
+        unreachable!()
+    };
+    match cell.take_out(token) {
+        Ok(Some(message)) => Ok(message),
+        Ok(None) => unreachable!(),
+        Err(_) => Err(AllocError),
+    }
+}
+
+/// Delivers a message to a door. One that has ended loses it.
+pub(crate) fn deliver(
+    cell: &mut Cell<Door>,
+    message: Message<DoorContent>,
+) -> Result<(), AllocError>
+    requires ready { is_full cell.old.scheduled ≡ false }
+    requires target { message.target ≡ (machine_in cell.old).id }
+    ensures told { OnOk result (HasToldBy (source.Message message.sender message.number) (command.Post Info message.content) cell.old cell.new) }
+
+    ensures unchanged { OnErr result (cell.new ≡ cell.old) }
+
+    // Whatever the answer is.
+    ensures ports { length cell.new.ports ≡ length cell.old.ports }
+{
+    match cell.deliver(message) {
+        Ok(_posted) => Ok(()),
         Err(refused) => match refused.refusal {
             Refusal::NoMemory => Err(AllocError),
             _ => Ok(()),

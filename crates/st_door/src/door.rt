@@ -1,7 +1,7 @@
 //! The example module: a door with a code lock.
 ghost use Rattle.std.specs.Prelude.{◌≡◌, ◌∷◌, [], IfOk};
 ghost use Rattle.std.proofs.Common.{rules};
-ghost use Rattle.st_door.specs.Door.{init_of, handle_of, enters, enter_of, terminate_of, cast_of, timeout_of, call_of, pressed, with_button, without_buttons, buttons_run_out, locks_again};
+ghost use Rattle.st_door.specs.Door.{init_of, handle_of, enters, enter_of, terminate_of, cast_of, info_of, timeout_of, call_of, pressed, with_button, without_buttons, buttons_run_out, locks_again};
 
 use crate::{Digits, DoorContent, DoorData, DoorState};
 use st_core::{
@@ -26,6 +26,8 @@ type DoorEntered = EnterOutcome<DoorData, DoorContent>;
 /// 10,000 milliseconds it is locked again. While it is locked, its buttons are forgotten 30,000
 /// milliseconds after the last one; any other event that it handles before, a call too, cancels that,
 /// and then they stay until one more button sets the time anew.
+///
+/// A button that it is to relay it sends to another machine, and one that another sent is as one that is cast.
 ///
 /// It has enter calls: that of the open door sets the time-out that locks it again, and that of the locked
 /// door, the first one too, forgets its buttons.
@@ -108,7 +110,8 @@ fn pressed(alloc: Global, data: &DoorData, digit: u8) -> Result<DoorOutcome, All
     }
 }
 
-/// A cast: a button counts while the door is locked, and is postponed while it is open.
+/// A cast: a button counts while the door is locked, and is postponed while it is open. One that is to be relayed is sent to
+/// its machine.
 fn cast(
     alloc: Global,
     content: &DoorContent,
@@ -124,6 +127,26 @@ fn cast(
             actions.push(Action::Postpone(true))?;
             Ok(Outcome::KeepStateAndData(actions))
         }
+        (DoorContent::Relay(target, digit), _) => {
+            let mut actions = Actions::new(alloc);
+            actions.push(Action::Send(*target, DoorContent::Button(*digit)))?;
+            Ok(Outcome::KeepStateAndData(actions))
+        }
+        _ => Ok(Outcome::KeepStateAndData(Actions::new(alloc))),
+    }
+}
+
+/// An info, as a message of another door is: a button is as one that is cast.
+fn info(
+    alloc: Global,
+    content: &DoorContent,
+    state: DoorState,
+    data: &DoorData,
+) -> Result<DoorOutcome, AllocError>
+    ensures { IfOk result (λ outcome. outcome ≡ info_of content.now state «data».now) }
+{
+    match content {
+        DoorContent::Button(_) => cast(alloc, content, state, data),
         _ => Ok(Outcome::KeepStateAndData(Actions::new(alloc))),
     }
 }
@@ -209,7 +232,7 @@ impl Module for Door {
         match kind {
             Kind::Call(tag) => call(alloc, tag, content, data),
             Kind::Cast => cast(alloc, content, state, data),
-            Kind::Info => Ok(Outcome::KeepStateAndData(Actions::new(alloc))),
+            Kind::Info => info(alloc, content, state, data),
             Kind::Timeout(timer) => time_out(alloc, timer, state, data),
             Kind::Internal => Ok(Outcome::KeepStateAndData(Actions::new(alloc))),
         }

@@ -1,21 +1,22 @@
 //! A door of a script: its machine in a cell of its own.
 ghost use Rattle.std.specs.Prelude.{◌≡◌, ◌≤◌, ◌^◌, true, false, IfOk, IfErr, OnOk, OnErr, MatchResult};
 ghost use Rattle.std.specs.Io.KnownBytes.{Appends};
-ghost use Rattle.st_core.specs.Choice.{has_event_of};
 ghost use Rattle.st_core.specs.Run.{step_of};
-ghost use Rattle.st_core.specs.declared.command.Command.TheVariants as command;
 ghost use Rattle.st_door.specs.Doors.{door_at_first, door_callbacks, told_kept, serves};
 ghost use Rattle.st_door.specs.Late.{IsQuietUntil, is_late};
+ghost use Rattle.st_door.specs.Settling.{CanServe, message_from, served_kept};
 ghost use Rattle.st_door.specs.ScriptFault.{IsOfInput, write_failures_after};
 ghost use Rattle.st_door.specs.Streams.{AppendsFront};
 ghost use Rattle.st_door.specs.Traces.{trace_by};
 
 use crate::answers::DoorAnswer;
-use crate::cells::{collect, make_ready, post, reply, stop, tick, turn};
+use crate::cells::{collect, deliver, make_ready, post, reply, stop, take_out, tick, turn};
+use crate::service::Service;
 use crate::tracing::write_trace;
 use crate::{Door, DoorContent, ScriptFault, Sink};
 use st_cell::Cell;
 use st_core::{Command, Core, MOMENT_LIMIT};
+use st_events::Message;
 use std::alloc::{AllocError, Global};
 use std::marker::Model;
 
@@ -115,15 +116,24 @@ impl DoorCell {
         }
     }
 
-    /// Gives the door, which is ready, a turn. Where memory is wanted and there is none, the door stays.
-    pub(crate) fn turn(&mut self, moment: u64) -> Result<(), AllocError>
-        requires { has_event_of self.old.machine ≡ true }
-        ensures told { OnOk result (self.new ≡ told_kept (command.Turn moment) self.old) }
+    /// Serves the door, and answers the message that comes out. Where memory is wanted and there is none, the door stays.
+    pub(crate) fn serve(
+        &mut self,
+        service: Service,
+    ) -> Result<Option<Message<DoorContent>>, AllocError>
+        requires { CanServe service self.old.machine }
+        ensures message { IfOk result (λ message. message ≡ message_from service self.old.machine) }
+        ensures served { OnOk result (self.new ≡ served_kept service self.old) }
 
         ensures unchanged { OnErr result (self.new ≡ self.old) }
     {
         make_ready(&mut *self.cell, self.keeps)?;
-        turn(&mut *self.cell, moment)
+        match service {
+            Service::Turn(moment) => turn(&mut *self.cell, moment)?,
+            Service::TakeOut => return Ok(Some(take_out(&mut *self.cell)?)),
+            Service::Deliver(message) => deliver(&mut *self.cell, message)?,
+        }
+        Ok(None)
     }
 
     /// Writes the door's trace under a name. It is nothing where the history is not kept.

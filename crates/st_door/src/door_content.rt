@@ -1,4 +1,5 @@
 //! The content of a door's events and replies.
+use st_events::MachineId;
 
 /// What a door's event or reply says.
 #[derive(Clone, Copy, Debug, PartialEq, Eq)]
@@ -11,4 +12,6 @@ pub enum DoorContent {
     Length(usize),
     /// What a time-out of the door says.
     Nothing,
+    /// The button of a digit is to be sent to the machine of an id.
+    Relay(MachineId, u8),
 }

@@ -1,10 +1,11 @@
 //! The doors of a script, by name, in order of registration.
-ghost use Rattle.std.specs.Prelude.{◌≡◌, ◌<◌, ◌≤◌, ◌^◌, true, false, [], ◌∷◌, ◌++◌, None, is_some, IfOk, IfErr, OnOk, OnErr, MatchResult, IfSome, IfNone, length, slice_set, slice_index_or, string_bytes};
+ghost use Rattle.std.specs.Prelude.{◌≡◌, ◌<◌, ◌≤◌, ◌^◌, false, [], ◌∷◌, ◌++◌, None, find, IfOk, IfErr, OnOk, OnErr, MatchResult, IfSome, IfNone, length, slice_set, slice_index_or, string_bytes};
 ghost use Rattle.std.specs.Io.KnownBytes.{Appends};
-ghost use Rattle.st_core.specs.declared.command.Command.TheVariants as command;
-ghost use Rattle.st_door.specs.Doors.{NamedDoor, door_named, IsFirst, has_name, door_of, without_door, is_ready_door, kept_of, told_of, told_door, serves};
+ghost use Rattle.st_door.specs.Doors.{NamedDoor, door_named, IsFirst, has_name, door_of, without_door, is_ready_door, is_over, kept_of, told_of, told_door, serves};
 ghost use Rattle.st_door.specs.Late.{IsQuietUntil, is_late};
 ghost use Rattle.st_door.specs.Printing.{status_of, names_text};
+ghost use Rattle.st_core.specs.Choice.{has_message_of};
+ghost use Rattle.st_door.specs.Settling.{CanServe, has_id, message_from, served_door};
 ghost use Rattle.st_door.specs.ScriptFault.{IsOfInput, write_failures_after};
 ghost use Rattle.st_door.specs.Streams.{AppendsFront};
 ghost use Rattle.st_door.specs.Traces.{trace_of_door};
@@ -14,16 +15,17 @@ use crate::door_cell::DoorCell;
 use crate::door_table::DoorTable;
 use crate::numbers::Numbers;
 use crate::printing::{ended_status, status};
+use crate::service::Service;
 use crate::{DoorContent, ScriptFault, Sink};
 use st_core::Command;
-use st_events::MachineId;
+use st_events::{MachineId, Message};
 use std::alloc::{AllocError, Global};
 use std::marker::Model;
 
 /// The doors of a script. Contracts see the list of the doors with their names.
 ///
-/// Each door has a number, under which it stands in the table; a name's number is found by the order of names. So whoever
-/// picks the names cannot make a look-up slow. The numbers rise in the order of registration.
+/// Each door has a number, the serial of its id, under which it stands in the table; a name's number is found by the order of
+/// names. So whoever picks the names cannot make a look-up slow. The numbers rise in the order of registration.
 #[derive(Drop)]
 pub(crate) struct Doors {
     alloc: Global,
@@ -35,13 +37,13 @@ pub(crate) struct Doors {
 impl Model for Doors {
     ghost use Rattle.std.specs.Prelude.{List};
     ghost use Rattle.st_door.specs.Doors.{NamedDoor};
-    ghost use Rattle.st_door.specs.Numbers.{doors_of_numbered, AreNumbered, HasNumbers};
+    ghost use Rattle.st_door.specs.Numbers.{doors_of_numbered, AreNumbered, AreSerials, HasNumbers};
 
     ghost Value = { List NamedDoor };
 
     ghost view = { λ doors. doors_of_numbered doors.entries };
 
-    ghost invariant = { λ doors. HasNumbers doors.numbers.numbers doors.entries × AreNumbered 0 doors.entries doors.next };
+    ghost invariant = { λ doors. HasNumbers doors.numbers.numbers doors.entries × AreNumbered 0 doors.entries doors.next × AreSerials doors.entries };
 }
 
 impl Doors {
@@ -74,7 +76,22 @@ impl Doors {
         self.entries.place_of(number)
     }
 
-    /// Registers a door under a name that is not taken.
+    /// The place of the door of an id.
+    pub(crate) fn place_of_id(&self, id: MachineId) -> Option<usize>
+        ensures place { IfSome result (IsFirst (has_id id) self.now) }
+
+        ensures missing { IfNone result (find (has_id id) self.now ≡ None) }
+    {
+        let place = self.entries.place_of(id.serial)?;
+        if self.id_at(place).slot == id.slot {
+            Some(place)
+        } else {
+            None
+        }
+    }
+
+    /// Registers a door under a name that is not taken. No door comes whose serial is not beyond those of the others: a script
+    /// counts its starts.
     pub(crate) fn push(&mut self, name: String, door: DoorCell) -> Result<(), AllocError>
         requires { door_of (string_bytes name) self.old ≡ None }
         ensures pushed { OnOk result (self.new ≡ self.old ++ door_named (string_bytes name) door ∷ []) }
@@ -82,7 +99,10 @@ impl Doors {
         ensures unchanged { OnErr result (self.new ≡ self.old) }
     {
         let place = self.entries.len();
-        let number = self.next;
+        let number = door.core().id().serial;
+        if number < self.next {
+            return Err(AllocError);
+        }
         let Some(next) = number.checked_add(1) else {
             return Err(AllocError);
         };
@@ -126,15 +146,24 @@ impl Doors {
         requires { place < length self.now }
         ensures { (d : NamedDoor) → result ≡ is_ready_door (slice_index_or self.now place d) }
     {
-        self.entry_at(place).1.core().has_event()
+        self.entry_at(place).1.core().is_ready()
     }
 
-    /// Says whether the door at a place has ended.
-    pub(crate) fn has_ended_at(&self, place: usize) -> bool
+    /// Says whether the door at a place has a message to be taken out.
+    pub(crate) fn has_message_at(&self, place: usize) -> bool
         requires { place < length self.now }
-        ensures { (d : NamedDoor) → result ≡ is_some (slice_index_or self.now place d).machine.ended }
+        ensures { (d : NamedDoor) → result ≡ has_message_of (slice_index_or self.now place d).machine }
     {
-        self.entry_at(place).1.core().ended().is_some()
+        self.entry_at(place).1.core().has_message()
+    }
+
+    /// Says whether the door at a place has ended, and has no message left.
+    pub(crate) fn is_over_at(&self, place: usize) -> bool
+        requires { place < length self.now }
+        ensures { (d : NamedDoor) → result ≡ is_over (slice_index_or self.now place d).machine }
+    {
+        let core = self.entry_at(place).1.core();
+        core.ended().is_some() && !core.has_message()
     }
 
     /// Says whether the door at a place has still to see a moment.
@@ -171,15 +200,21 @@ impl Doors {
         self.entries.door_mut(place).tell(command)
     }
 
-    /// Gives the door at a place, which is ready, a turn. Where memory is wanted and there is none, the doors stay.
-    pub(crate) fn turn_at(&mut self, place: usize, moment: u64) -> Result<(), AllocError>
+    /// Serves the door at a place, and answers the message that comes out. Where memory is wanted and there is none, the doors
+    /// stay.
+    pub(crate) fn serve_at(
+        &mut self,
+        place: usize,
+        service: Service,
+    ) -> Result<Option<Message<DoorContent>>, AllocError>
         requires place { place < length self.old }
-        requires work { (d : NamedDoor) → is_ready_door (slice_index_or self.old place d) ≡ true }
-        ensures told { OnOk result ((d : NamedDoor) → self.new ≡ slice_set self.old place (told_door (command.Turn moment) (slice_index_or self.old place d))) }
+        requires can { (d : NamedDoor) → CanServe service (slice_index_or self.old place d).machine }
+        ensures message { IfOk result (λ message. (d : NamedDoor) → message ≡ message_from service (slice_index_or self.old place d).machine) }
+        ensures served { OnOk result ((d : NamedDoor) → self.new ≡ slice_set self.old place (served_door service (slice_index_or self.old place d))) }
 
         ensures unchanged { OnErr result (self.new ≡ self.old) }
     {
-        self.entries.door_mut(place).turn(moment)
+        self.entries.door_mut(place).serve(service)
     }
 
     /// The line of the names, in order of registration.

@@ -1,7 +1,6 @@
 //! What a line of a script brings about.
 
-use crate::text::Text;
-use st_events::Refusal;
+use st_events::{PlainText, Refusal};
 
 /// What a line of a script brings about.
 #[derive(Debug, Drop)]
@@ -9,7 +8,7 @@ pub enum Effect {
     /// Nothing is printed.
     Silent,
     /// This is printed, line feed included.
-    Printed(Text),
+    Printed(PlainText),
     /// The line is refused, and changes nothing.
     Refuses(Refusal),
     /// The line has no form.

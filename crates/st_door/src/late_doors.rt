@@ -1,10 +1,11 @@
 //! The doors of a script, which are ticked late.
-ghost use Rattle.std.specs.Prelude.{◌≡◌, ◌<◌, ◌≤◌, ◌^◌, ℕ, true, false, [], ◌∷◌, ◌++◌, None, is_some, IfOk, IfErr, OnOk, OnErr, MatchResult, IfSome, IfNone, length, slice_set, slice_index_or, string_bytes};
+ghost use Rattle.std.specs.Prelude.{◌≡◌, ◌<◌, ◌≤◌, ◌^◌, ℕ, false, [], ◌∷◌, ◌++◌, None, find, IfOk, IfErr, OnOk, OnErr, MatchResult, IfSome, IfNone, length, slice_set, slice_index_or, string_bytes};
 ghost use Rattle.std.specs.Io.KnownBytes.{Appends};
-ghost use Rattle.st_core.specs.declared.command.Command.TheVariants as command;
-ghost use Rattle.st_door.specs.Doors.{NamedDoor, door_named, IsFirst, has_name, door_of, kept_of, without_door, is_ready_door, told_of, told_door, all_expired_of, ticked_doors, SameLabels, door_limit, serves};
+ghost use Rattle.st_core.specs.Choice.{has_message_of};
+ghost use Rattle.st_door.specs.Doors.{NamedDoor, door_named, IsFirst, has_name, door_of, kept_of, without_door, is_over, is_ready_door, told_of, told_door, all_expired_of, ticked_doors, SameLabels, door_limit, serves};
 ghost use Rattle.st_door.specs.Late.{IsInTime, IsQuietUntil, caught_up};
 ghost use Rattle.st_door.specs.Printing.{status_of, names_text};
+ghost use Rattle.st_door.specs.Settling.{CanServe, has_id, message_from, served_door};
 ghost use Rattle.st_door.specs.ScriptFault.{IsOfInput, write_failures_after};
 ghost use Rattle.st_door.specs.Streams.{AppendsFront};
 ghost use Rattle.st_door.specs.Traces.{trace_of_door};
@@ -12,9 +13,10 @@ ghost use Rattle.st_door.specs.Traces.{trace_of_door};
 use crate::answers::{DoorAnswer, count_in};
 use crate::door_cell::DoorCell;
 use crate::doors::Doors;
+use crate::service::Service;
 use crate::{DoorContent, ScriptFault, Sink};
 use st_core::{Command, MOMENT_LIMIT};
-use st_events::MachineId;
+use st_events::{MachineId, Message};
 use std::alloc::{AllocError, Global};
 use std::marker::Model;
 
@@ -70,6 +72,15 @@ impl LateDoors {
         self.doors.place_of(name)
     }
 
+    /// The place of the door of an id.
+    pub(crate) fn place_of_id(&self, id: MachineId) -> Option<usize>
+        ensures place { IfSome result (IsFirst (has_id id) self.now) }
+
+        ensures missing { IfNone result (find (has_id id) self.now ≡ None) }
+    {
+        self.doors.place_of_id(id)
+    }
+
     /// Registers a door under a name that is not taken. No door comes that has still to see the late moment: each starts at
     /// the script's moment, which is no earlier.
     pub(crate) fn push(&mut self, name: String, door: DoorCell) -> Result<(), AllocError>
@@ -110,12 +121,20 @@ impl LateDoors {
         self.doors.is_ready_at(place)
     }
 
-    /// Says whether the door at a place has ended.
-    pub(crate) fn has_ended_at(&self, place: usize) -> bool
+    /// Says whether the door at a place has a message to be taken out.
+    pub(crate) fn has_message_at(&self, place: usize) -> bool
         requires { place < length self.now }
-        ensures { (d : NamedDoor) → result ≡ is_some (slice_index_or self.now place d).machine.ended }
+        ensures { (d : NamedDoor) → result ≡ has_message_of (slice_index_or self.now place d).machine }
     {
-        self.doors.has_ended_at(place)
+        self.doors.has_message_at(place)
+    }
+
+    /// Says whether the door at a place has ended, and has no message left.
+    pub(crate) fn is_over_at(&self, place: usize) -> bool
+        requires { place < length self.now }
+        ensures { (d : NamedDoor) → result ≡ is_over (slice_index_or self.now place d).machine }
+    {
+        self.doors.is_over_at(place)
     }
 
     /// Tells the door at a place a command that is no turn, and answers its answer. Where memory is wanted and there is
@@ -138,18 +157,24 @@ impl LateDoors {
         Ok(answer)
     }
 
-    /// Gives the door at a place, which is ready, a turn. Where memory is wanted and there is none, the doors stay.
-    pub(crate) fn turn_at(&mut self, place: usize, moment: u64) -> Result<(), AllocError>
+    /// Serves the door at a place, and answers the message that comes out. Where memory is wanted and there is none, the doors
+    /// stay.
+    pub(crate) fn serve_at(
+        &mut self,
+        place: usize,
+        service: Service,
+    ) -> Result<Option<Message<DoorContent>>, AllocError>
         requires place { place < length self.old }
-        requires work { (d : NamedDoor) → is_ready_door (slice_index_or self.old place d) ≡ true }
-        ensures told { OnOk result ((d : NamedDoor) → self.new ≡ slice_set self.old place (told_door (command.Turn moment) (slice_index_or self.old place d))) }
+        requires can { (d : NamedDoor) → CanServe service (slice_index_or self.old place d).machine }
+        ensures message { IfOk result (λ message. (d : NamedDoor) → message ≡ message_from service (slice_index_or self.old place d).machine) }
+        ensures served { OnOk result ((d : NamedDoor) → self.new ≡ slice_set self.old place (served_door service (slice_index_or self.old place d))) }
 
         ensures unchanged { OnErr result (self.new ≡ self.old) }
     {
         catch_up(&mut self.doors, place, self.late)?;
-        self.doors.turn_at(place, moment)?;
+        let message = self.doors.serve_at(place, service)?;
         self.due = self.due.min(self.doors.quiet_until_at(place));
-        Ok(())
+        Ok(message)
     }
 
     /// Ticks the doors, and answers how many time-outs expire. Where nothing is due no door is looked at.

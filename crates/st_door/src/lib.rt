@@ -31,10 +31,10 @@ mod run;
 mod run_output;
 mod script;
 mod script_fault;
+mod service;
 mod sink;
 mod slots;
 mod source;
-mod text;
 mod tracing;
 mod until_idle;
 mod word_forms;
@@ -63,6 +63,5 @@ pub use sink::Sink;
 pub use source::Source;
 pub use st_events::{
     Action, Actions, EnterAction, EnterActions, EnterOutcome, Init, Kind, MachineId, Module,
-    Outcome, PlainList, Reason, Refusal, Refused, Replies, SmallList, Tag, Time, Timer,
+    Outcome, PlainList, PlainText, Reason, Refusal, Refused, Replies, SmallList, Tag, Time, Timer,
 };
-pub use text::Text;

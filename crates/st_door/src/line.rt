@@ -1,14 +1,14 @@
 //! What one line of a script says.
-ghost use Rattle.std.specs.Prelude.{◌≡◌, IfOk, map, Some, None, if◌then◌else◌};
+ghost use Rattle.st_door.specs.declared.line.Line.TheVariants as line;
+ghost use Rattle.std.specs.Prelude.{◌≡◌, ◌&&◌, ◌∷◌, [], IfOk, map, Some, None, if◌then◌else◌};
 ghost use Rattle.st_door.specs.WordForms.{is_name};
 ghost use Rattle.st_door.specs.Grammar.{line_of, command_of, is_comment};
-ghost use Rattle.st_door.specs.Grammar.{new_of, button_of, show_of, at_of, stop_of, remove_of, length_of, names_of};
+ghost use Rattle.st_door.specs.Grammar.{new_of, button_of, show_of, at_of, stop_of, remove_of, length_of, relay_of, names_of};
 
 use crate::digits::Digits;
 use crate::lines::words;
-use crate::text::Text;
 use crate::word_forms::{digits_of, is_digits, is_name, number_of};
-use st_events::Reason;
+use st_events::{PlainText, Reason};
 use std::alloc::{AllocError, Global};
 use std::str;
 
@@ -32,19 +32,42 @@ pub enum Line {
     /// Nothing that has a form.
     Malformed,
     /// Start a door.
-    New { name: Text, code: Digits },
+    New {
+        name: PlainText,
+        code: Digits,
+    },
     /// Press a button.
-    Button { name: Text, digit: u8 },
+    Button {
+        name: PlainText,
+        digit: u8,
+    },
     /// Print a door's status.
-    Show { name: Text },
+    Show {
+        name: PlainText,
+    },
     /// Let time pass up to a moment, in milliseconds.
-    At { moment: u64 },
+    At {
+        moment: u64,
+    },
     /// Stop a door.
-    Stop { name: Text, reason: Reason },
+    Stop {
+        name: PlainText,
+        reason: Reason,
+    },
     /// Take out a door that has ended.
-    Remove { name: Text },
+    Remove {
+        name: PlainText,
+    },
     /// Ask a door how long its code is.
-    Length { name: Text },
+    Length {
+        name: PlainText,
+    },
+    /// Have a door send a button to another, or to itself.
+    Relay {
+        name: PlainText,
+        target: PlainText,
+        digit: u8,
+    },
     /// Print the names of the doors.
     Names,
 }
@@ -55,14 +78,14 @@ fn is_comment(verb: &[u8]) -> bool
     matches!(verb, [b'#', ..])
 }
 
-fn name_of(alloc: Global, word: &[u8]) -> Result<Option<Text>, AllocError>
+fn name_of(alloc: Global, word: &[u8]) -> Result<Option<PlainText>, AllocError>
     ensures { IfOk result (λ name. name ≡ (if is_name word.now then Some word.now else None)) }
 {
     if !is_name(word) {
         return Ok(None);
     }
     match str::from_utf8(word) {
-        Ok(text) => Ok(Some(Text::new(alloc, text)?)),
+        Ok(text) => Ok(Some(PlainText::copied(alloc, text)?)),
         Err(_) => Ok(None),
     }
 }
@@ -164,6 +187,40 @@ fn length_line(alloc: Global, args: &[&[u8]]) -> Result<Line, AllocError>
     Ok(Line::Length { name })
 }
 
+fn relay_named(alloc: Global, word: &[u8], aim: &[u8], digit: u8) -> Result<Line, AllocError>
+    ensures { IfOk result (λ said. said ≡ (if is_name word.now && is_name aim.now then line.Relay word.now aim.now digit else line.Malformed)) }
+{
+    let Some(name) = name_of(alloc, word)? else {
+        return Ok(Line::Malformed);
+    };
+    let Some(target) = name_of(alloc, aim)? else {
+        return Ok(Line::Malformed);
+    };
+    Ok(Line::Relay {
+        name,
+        target,
+        digit,
+    })
+}
+
+fn relay_digit(alloc: Global, word: &[u8], aim: &[u8], digit: &[u8]) -> Result<Line, AllocError>
+    ensures { IfOk result (λ said. said ≡ relay_of (word.now ∷ aim.now ∷ digit.now ∷ [])) }
+{
+    let [digit @ b'0'..=b'9'] = digit else {
+        return Ok(Line::Malformed);
+    };
+    relay_named(alloc, word, aim, *digit - b'0')
+}
+
+fn relay_line(alloc: Global, args: &[&[u8]]) -> Result<Line, AllocError>
+    ensures { IfOk result (λ line. line ≡ relay_of (map (λ arg. arg.now) args.now)) }
+{
+    let [word, aim, digit] = args else {
+        return Ok(Line::Malformed);
+    };
+    relay_digit(alloc, word, aim, digit)
+}
+
 fn names_line(args: &[&[u8]]) -> Line
     ensures { result ≡ names_of (map (λ arg. arg.now) args.now) }
 {
@@ -192,6 +249,8 @@ fn command(alloc: Global, verb: &[u8], args: &[&[u8]]) -> Result<Line, AllocErro
         remove_line(alloc, args)
     } else if verb == b"length".as_slice() {
         length_line(alloc, args)
+    } else if verb == b"relay".as_slice() {
+        relay_line(alloc, args)
     } else if verb == b"names".as_slice() {
         Ok(names_line(args))
     } else {

@@ -5,8 +5,7 @@ ghost use Rattle.st_door.specs.Script.{printed_of};
 
 use crate::DoorState;
 use crate::effect::Effect;
-use crate::text::Text;
-use st_events::Reason;
+use st_events::{PlainText, Reason};
 use std::alloc::{AllocError, Global};
 
 /// The name of a state.
@@ -70,16 +69,16 @@ pub fn code_length(alloc: Global, name: &str, digits: Option<usize>) -> Result<S
 }
 
 /// What the line of a number prints.
-pub fn printed(alloc: Global, number: u64, effect: Effect) -> Result<Text, AllocError>
+pub fn printed(alloc: Global, number: u64, effect: Effect) -> Result<PlainText, AllocError>
     ensures { IfOk result (λ text. text ≡ printed_of number effect) }
 {
     match effect {
-        Effect::Silent => Ok(Text::from(String::new(alloc))),
+        Effect::Silent => Ok(PlainText::from(String::new(alloc))),
         Effect::Printed(text) => Ok(text),
         Effect::Refuses(refusal) => {
             let refusal = refusal.number();
-            Ok(Text::from(format!(in alloc; "line {number} refused {refusal}\n")?))
+            Ok(PlainText::from(format!(in alloc; "line {number} refused {refusal}\n")?))
         }
-        Effect::Malformed => Ok(Text::from(format!(in alloc; "line {number} malformed\n")?)),
+        Effect::Malformed => Ok(PlainText::from(format!(in alloc; "line {number} malformed\n")?)),
     }
 }

@@ -17,11 +17,10 @@ use crate::late_doors::LateDoors;
 use crate::line::Line;
 use crate::printing::{code_length, expired, removed};
 use crate::slots::Slots;
-use crate::text::Text;
 use crate::until_idle::run_until_idle;
 use crate::{Digits, Door, DoorContent, Mode, ScriptFault, Sink};
 use st_core::{Answer, Command, Core, Entry, MOMENT_LIMIT, Start};
-use st_events::{MachineId, Refusal, Tag};
+use st_events::{MachineId, PlainText, Refusal, Tag};
 use std::alloc::{AllocError, Global};
 use std::marker::Model;
 
@@ -91,12 +90,17 @@ impl Script {
             }
             Line::Remove { name } => self.obey_remove(name.as_str()),
             Line::Length { name } => self.obey_length(name.as_str()),
+            Line::Relay {
+                name,
+                target,
+                digit,
+            } => self.obey_relay(name.as_str(), target.as_str(), digit),
             Line::Names => self.obey_names(),
         }
     }
 
     /// Starts a door under a name, and answers its status.
-    fn obey_new(&mut self, name: Text, code: Digits) -> Result<Effect, AllocError>
+    fn obey_new(&mut self, name: PlainText, code: Digits) -> Result<Effect, AllocError>
         ensures effect { IfOk result (λ effect. effect ≡ (step_of self.old (line.New name code)).0) }
         ensures script { OnOk result (self.new ≡ (step_of self.old (line.New name code)).1) }
     {
@@ -136,6 +140,27 @@ impl Script {
         self.status_effect(place)
     }
 
+    /// Has the door of a name send a button to that of another, and answers the status of the other.
+    fn obey_relay(&mut self, name: &str, target: &str, digit: u8) -> Result<Effect, AllocError>
+        ensures effect { IfOk result (λ effect. effect ≡ (step_of self.old (line.Relay name.now target.now digit)).0) }
+        ensures script { OnOk result (self.new ≡ (step_of self.old (line.Relay name.now target.now digit)).1) }
+    {
+        let Some(place) = self.doors.place_of(name) else {
+            return Ok(Effect::Refuses(Refusal::NoSuchName));
+        };
+        let Some(aim) = self.doors.place_of(target) else {
+            return Ok(Effect::Refuses(Refusal::NoSuchName));
+        };
+        let id = self.doors.id_at(aim);
+        let relays = Command::Post(Entry::Cast, DoorContent::Relay(id, digit));
+        let answer = self.tell(place, relays)?;
+        if let Some(refusal) = refusal_in(&answer) {
+            return Ok(Effect::Refuses(refusal));
+        }
+        self.run_until_idle()?;
+        self.status_effect(aim)
+    }
+
     /// Answers the status of the door of a name.
     fn obey_show(&mut self, name: &str) -> Result<Effect, AllocError>
         ensures effect { IfOk result (λ effect. effect ≡ (step_of self.old (line.Show name.now)).0) }
@@ -160,10 +185,10 @@ impl Script {
         let count = self.tick(self.moment.max(moment))?;
         self.run_until_idle()?;
         let text = expired(self.alloc, self.moment, count)?;
-        Ok(Effect::Printed(Text::from(text)))
+        Ok(Effect::Printed(PlainText::from(text)))
     }
 
-    /// Takes out the door of a name, which has ended.
+    /// Takes out the door of a name, which has ended and has no message left.
     fn obey_remove(&mut self, name: &str) -> Result<Effect, AllocError>
         ensures effect { IfOk result (λ effect. effect ≡ (step_of self.old (line.Remove name.now)).0) }
         ensures script { OnOk result (self.new ≡ (step_of self.old (line.Remove name.now)).1) }
@@ -171,13 +196,13 @@ impl Script {
         let Some(place) = self.doors.place_of(name) else {
             return Ok(Effect::Refuses(Refusal::NoSuchName));
         };
-        if !self.doors.has_ended_at(place) {
+        if !self.doors.is_over_at(place) {
             return Ok(Effect::Refuses(Refusal::NotStopped));
         }
         self.remove_door(name, place);
         self.run_until_idle()?;
         let text = removed(self.alloc, name)?;
-        Ok(Effect::Printed(Text::from(text)))
+        Ok(Effect::Printed(PlainText::from(text)))
     }
 
     /// Asks the door of a name how long its code is, and answers what it replies.
@@ -201,7 +226,7 @@ impl Script {
         let collected = self.tell(place, Command::Collect(Tag { machine, request }))?;
         let digits = length_in(&collected);
         let text = code_length(self.alloc, name, digits)?;
-        Ok(Effect::Printed(Text::from(text)))
+        Ok(Effect::Printed(PlainText::from(text)))
     }
 
     /// Answers the names.
@@ -210,11 +235,11 @@ impl Script {
         ensures script { OnOk result (self.new ≡ (step_of self.old line.Names).1) }
     {
         self.run_until_idle()?;
-        Ok(Effect::Printed(Text::from(self.doors.names(self.alloc)?)))
+        Ok(Effect::Printed(PlainText::from(self.doors.names(self.alloc)?)))
     }
 
     /// Starts a door under a name that is not taken, and answers why that is refused, if it is.
-    fn start_door(&mut self, name: Text, code: Digits) -> Result<Option<Refusal>, AllocError>
+    fn start_door(&mut self, name: PlainText, code: Digits) -> Result<Option<Refusal>, AllocError>
         requires free { door_of name self.old.doors ≡ None }
         requires reserved { length self.old.doors < door_limit }
         ensures started { IfOk result (λ refusal. IfNone refusal (with_start self.old name (door_start_of self.old code) ≡ Ok self.new)) }
@@ -290,13 +315,17 @@ impl Script {
         Ok(expired)
     }
 
-    /// Makes turns until the doors rest.
+    /// Has the doors go on until they rest.
     fn run_until_idle(&mut self) -> Result<(), AllocError>
         ensures rested { OnOk result (self.new ≡ rested_of self.old) }
         ensures same_labels { OnOk result (SameLabels self.old.doors self.new.doors) }
     {
-        let first = run_until_idle(&mut self.doors, self.from, self.until, self.moment)?;
-        self.from = first;
+        let (from, until) = (self.from, self.until);
+        self.from = 0;
+        self.until = self.doors.len();
+        let (from, until) = run_until_idle(&mut self.doors, from, until, self.moment)?;
+        self.from = from;
+        self.until = until;
         Ok(())
     }
 
@@ -321,7 +350,7 @@ impl Script {
         ensures { IfOk result (λ effect. (d : NamedDoor) → effect ≡ Printed (status_of (slice_index_or self.now.doors place d))) }
     {
         let text = self.doors.status_at(self.alloc, place)?;
-        Ok(Effect::Printed(Text::from(text)))
+        Ok(Effect::Printed(PlainText::from(text)))
     }
 }
 

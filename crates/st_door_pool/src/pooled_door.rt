@@ -3,7 +3,8 @@ ghost use Rattle.std.specs.Prelude.{◌≡◌, IfOk, OnErr};
 ghost use Rattle.st_events.specs.declared.refusal.Refusal.TheVariants.{NoMemory};
 
 use st_client::{
-    Collected, Machine, Port, Reason, Refusal, RequestId, Wake, cast, check, send_request,
+    Collected, Machine, MachineId, Port, Reason, Refusal, RequestId, Wake, cast, check,
+    send_request,
 };
 use st_door::{Door, DoorContent, DoorData, DoorState, ended_status, status};
 use st_lock::Look;
@@ -52,9 +53,32 @@ impl PooledDoor {
         wake: &W,
         digit: u8,
     ) -> Result<Option<Refusal>, AllocError> {
-        match cast(rt, &mut self.port, wake, DoorContent::Button(digit)) {
+        self.cast(rt, wake, DoorContent::Button(digit), 2)
+    }
+
+    /// Has the door send a button to a machine, and answers why that is refused, if it is. The post is an entry, and so are its
+    /// turn and the message that is taken out.
+    pub(crate) fn relay<R: Wait, W: Wake>(
+        &mut self,
+        rt: &R,
+        wake: &W,
+        target: MachineId,
+        digit: u8,
+    ) -> Result<Option<Refusal>, AllocError> {
+        self.cast(rt, wake, DoorContent::Relay(target, digit), 3)
+    }
+
+    /// Casts content of which so many entries come, and answers why that is refused, if it is.
+    fn cast<R: Wait, W: Wake>(
+        &mut self,
+        rt: &R,
+        wake: &W,
+        content: DoorContent,
+        entries: u64,
+    ) -> Result<Option<Refusal>, AllocError> {
+        match cast(rt, &mut self.port, wake, content) {
             Ok(sent) => {
-                self.count(2);
+                self.count(entries);
                 if sent.left.is_some() {
                     return Err(AllocError);
                 }

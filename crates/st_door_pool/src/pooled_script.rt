@@ -6,7 +6,7 @@ use crate::door_hall::DoorHall;
 use crate::pooled_door::{PooledDoor, told_length, unless_memory};
 use crate::pooled_doors::PooledDoors;
 use st_core::MOMENT_LIMIT;
-use st_door::{Digits, Door, DoorContent, Effect, Line, Text, code_length, expired, removed};
+use st_door::{Digits, Door, DoorContent, Effect, Line, PlainText, code_length, expired, removed};
 use st_hall::{MachineId, Reason, Refusal, Started, Token};
 use st_pool::{Gate, Machines, Pool, Runtime, Scheduler};
 use st_wake::schedule;
@@ -73,12 +73,17 @@ impl<R: Runtime> PooledScript<R> {
             Line::Stop { name, reason } => self.obey_stop(name.as_str(), reason),
             Line::Remove { name } => self.obey_remove(name.as_str()),
             Line::Length { name } => self.obey_length(name.as_str()),
+            Line::Relay {
+                name,
+                target,
+                digit,
+            } => self.obey_relay(name.as_str(), target.as_str(), digit),
             Line::Names => self.obey_names(),
         }
     }
 
     /// Starts a door under a name, and answers its status.
-    fn obey_new(&mut self, name: Text, code: Digits) -> Result<Effect, AllocError> {
+    fn obey_new(&mut self, name: PlainText, code: Digits) -> Result<Effect, AllocError> {
         let now = self.clock.now();
         match self
             .served
@@ -95,7 +100,7 @@ impl<R: Runtime> PooledScript<R> {
     /// Registers a door that has just started, and answers its status.
     fn register(
         &mut self,
-        name: Text,
+        name: PlainText,
         id: MachineId,
         wake: Option<Token>,
     ) -> Result<Effect, AllocError> {
@@ -131,7 +136,7 @@ impl<R: Runtime> PooledScript<R> {
             return Ok(Effect::Refuses(Refusal::NoSuchMachine));
         };
         let text = door.status(&self.rt, self.alloc, name)?;
-        Ok(Effect::Printed(Text::from(text)))
+        Ok(Effect::Printed(PlainText::from(text)))
     }
 
     /// Presses a button of the door of a name, and answers its status.
@@ -146,6 +151,25 @@ impl<R: Runtime> PooledScript<R> {
             return Ok(Effect::Refuses(refusal));
         }
         self.show(name, id)
+    }
+
+    /// Has the door of a name send a button to that of another, and answers the status of the other.
+    fn obey_relay(&mut self, name: &str, target: &str, digit: u8) -> Result<Effect, AllocError> {
+        let Some(id) = self.find(name) else {
+            return Ok(Effect::Refuses(Refusal::NoSuchName));
+        };
+        let Some(aim) = self.find(target) else {
+            return Ok(Effect::Refuses(Refusal::NoSuchName));
+        };
+        let Some(door) = self.doors.get_mut(id) else {
+            return Ok(Effect::Refuses(Refusal::NoSuchMachine));
+        };
+        if let Some(refusal) = door.relay(&self.rt, &self.scheduler, aim, digit)? {
+            return Ok(Effect::Refuses(refusal));
+        }
+        let effect = self.show(target, aim)?;
+        self.doors.shorten_one(&self.rt, id)?;
+        Ok(effect)
     }
 
     /// Ends the door of a name, and answers its status.
@@ -182,10 +206,10 @@ impl<R: Runtime> PooledScript<R> {
         self.rest()?;
         self.doors.shorten(&self.rt)?;
         let text = expired(self.alloc, now, count)?;
-        Ok(Effect::Printed(Text::from(text)))
+        Ok(Effect::Printed(PlainText::from(text)))
     }
 
-    /// Takes out the door of a name, which has ended.
+    /// Takes out the door of a name, which has ended and has no message left.
     fn obey_remove(&mut self, name: &str) -> Result<Effect, AllocError> {
         let Some(id) = self.find(name) else {
             return Ok(Effect::Refuses(Refusal::NoSuchName));
@@ -195,7 +219,7 @@ impl<R: Runtime> PooledScript<R> {
         }
         self.doors.remove(id);
         let text = removed(self.alloc, name)?;
-        Ok(Effect::Printed(Text::from(text)))
+        Ok(Effect::Printed(PlainText::from(text)))
     }
 
     /// Asks the door of a name how long its code is, and answers what it replies.
@@ -214,7 +238,7 @@ impl<R: Runtime> PooledScript<R> {
         let digits = told_length(&self.rt, &request)?;
         self.doors.shorten_one(&self.rt, id)?;
         let text = code_length(self.alloc, name, digits)?;
-        Ok(Effect::Printed(Text::from(text)))
+        Ok(Effect::Printed(PlainText::from(text)))
     }
 
     /// Answers the names, in order of registration.
@@ -225,6 +249,6 @@ impl<R: Runtime> PooledScript<R> {
             text.push_str(name.as_str())?;
         }
         text.push_str("\n")?;
-        Ok(Effect::Printed(Text::from(text)))
+        Ok(Effect::Printed(PlainText::from(text)))
     }
 }

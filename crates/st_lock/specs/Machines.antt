@@ -6,6 +6,7 @@ use Rattle.st_events.specs.declared.refused.Refused.{Refused}
 use Rattle.st_events.specs.declared.token.Token.{Token}
 use Rattle.st_core.specs.declared.command.Command.{Command}
 use Rattle.st_core.specs.declared.entry.Entry.{Entry}
+use Rattle.st_core.specs.declared.machine_state.MachineState.{MachineState}
 use Rattle.st_scheduled.specs.declared.step_answer.StepAnswer.{StepAnswer}
 use Rattle.st_scheduled.specs.declared.posted.Posted.{Posted}
 use Rattle.st_cell.specs.Calls.{Delivers, IsJournalOf, IsTold, Posts, TakesOut, Turns, look_of}
@@ -70,6 +71,10 @@ module _ {M S D C : Type 0} (callbacks : M → Callbacks S D C) where
   abbrev pub IsLookAt : MachineId → ℕ → Look S D → Type 0
   IsLookAt id count look =
       (cell : CellState M S D C) × (port : ℕ) × IsCellOf id cell × IsOpen port cell × (count_for port cell ≡ count) × (look ≡ look_of port cell)
+
+  -- this is read off the machine of some such cell
+  abbrev pub IsReadAt : {X : Type 0} → (MachineState S D C → X) → MachineId → X → Type 0
+  IsReadAt read id value = (cell : CellState M S D C) × IsCellOf id cell × (value ≡ read cell.scheduled.core.machine)
 
   -- this is the journal of some such cell, with this label
   abbrev pub IsJournalAt : MachineId → List ℕ → Journal S C → Type 0

@@ -1,5 +1,5 @@
 //! What lies under a machine's lock.
-ghost use Rattle.std.specs.Prelude.{◌≡◌, ◌+◌, ◌++◌, ◌∷◌, [], ◌<◌, ◌^◌, length, true, IfOk, IfErr, OnErr};
+ghost use Rattle.std.specs.Prelude.{◌≡◌, ◌+◌, ◌++◌, ◌∷◌, [], ◌<◌, ◌^◌, length, true, IfOk, IfErr, OnOk, OnErr};
 ghost use Rattle.st_events.specs.declared.refusal.Refusal.TheVariants.{NoMemory};
 ghost use Rattle.st_core.specs.declared.command.Command.TheVariants as command;
 ghost use Rattle.st_core.specs.Callbacks.{callbacks_of};
@@ -325,6 +325,13 @@ impl<M: Module> Desk<M> {
         self.cell.stop(reason)
     }
 
+    /// The machine, to be read.
+    pub(crate) fn core(&self) -> &Core<M>
+        ensures { result.now ≡ self.now.cell.scheduled.core }
+    {
+        self.cell.core()
+    }
+
     /// Says whether the machine has ended and none of its messages is left.
     pub(crate) fn removable(&self) -> bool
         ensures { result ≡ is_removable self.now.cell }
@@ -350,6 +357,21 @@ impl<M: Module> Desk<M> {
         ensures unchanged { OnErr result (self.new.cell ≡ self.old.cell) }
     {
         self.cell.cut()
+    }
+
+    /// Hands the journal out, with a label, and cuts it, as `Cell::take_journal` does.
+    pub(crate) fn take_journal(
+        &mut self,
+        label: &str,
+    ) -> Result<Journal<M::State, M::Content>, Refusal>
+        ensures journal { IfOk result (λ journal. IsJournalOf self.old.cell label.now journal) }
+        ensures cut { OnOk result (self.new.cell ≡ cut self.old.cell) }
+        ensures same { self.new.ends ≡ self.old.ends }
+
+        ensures refusals { IfErr result (λ refusal. refusal ≡ NoMemory) }
+        ensures unchanged { OnErr result (self.new.cell ≡ self.old.cell) }
+    {
+        self.cell.take_journal(label)
     }
 }
 

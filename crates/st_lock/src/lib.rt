@@ -7,6 +7,7 @@ mod desk;
 mod machine;
 mod opened;
 mod port;
+mod readers;
 mod room;
 mod service;
 

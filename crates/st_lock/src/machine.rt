@@ -197,7 +197,7 @@ impl<M: Module> Machine<M> {
     }
 
     /// Takes the machine's own desk, with a newcomer's claim.
-    fn arrive<R: Wait>(&self, rt: &R) -> (TakenOf<'_, M>, DeskOf<M>, HolderOf<M>)
+    pub(crate) fn arrive<R: Wait>(&self, rt: &R) -> (TakenOf<'_, M>, DeskOf<M>, HolderOf<M>)
         ensures lock { lock_of result.2 ≡ taken_from result.0 }
         ensures from { taken_from result.0 ≡ lock_id self.now.lock }
         ensures taken { value_taken result.0 ≡ Some result.1 }
@@ -491,6 +491,28 @@ impl<M: Module> Machine<M> {
     {
         let (taken, mut desk, mut holder) = self.arrive(rt);
         let answer = desk.cut();
+        drop(give_back(taken, &mut holder, desk));
+        answer
+    }
+
+    /// Hands the journal out, with a label, and cuts it, as `Cell::take_journal` does: between the two nothing is told to the
+    /// machine, so no entry is lost.
+    ///
+    /// Refused with `NoMemory` where memory is wanted and there is none; then the journal stays.
+    ///
+    /// Ours: docs/DECISIONS.md, Journals.
+    pub fn take_journal<R: Wait>(
+        &self,
+        rt: &R,
+        label: &str,
+    ) -> Result<Journal<M::State, M::Content>, Refusal>
+        ensures journal { IfOk result (λ journal. IsJournalAt (callbacks_of M.Module M.State.eq) (id_of self.now) label.now journal) }
+
+        ensures refusals { IfErr result (λ refusal. refusal ≡ NoMemory) }
+    {
+        let (taken, mut desk, mut holder) = self.arrive(rt);
+        a_desk_is_journaled(&desk);
+        let answer = desk.take_journal(label);
         drop(give_back(taken, &mut holder, desk));
         answer
     }

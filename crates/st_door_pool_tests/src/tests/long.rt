@@ -13,10 +13,45 @@ fn add(script: &mut Vec<u8>, lines: &[u8], times: usize) -> Result<(), AllocErro
     Ok(())
 }
 
+/// How many lines are drawn.
+const DRAWN: usize = 2_000;
+
+/// A line that a number draws: five doors are started, stopped and removed, pressed, asked and relayed to, and time passes.
+fn add_drawn(script: &mut Vec<u8>, number: u64) -> Result<(), AllocError> {
+    let names = [b"c", b"d", b"e", b"f", b"g"];
+    let name = names[(number / 16 % 5) as usize].as_slice();
+    let other = names[(number / 128 % 5) as usize].as_slice();
+    let digit = [b"1", b"2", b"3"][(number / 1024 % 3) as usize].as_slice();
+    let parts: &[&[u8]] = match number % 16 {
+        0 | 1 => &[b"new ", name, b" 1", digit, b"\n"],
+        2 => &[b"stop ", name, b" ", digit, b"\n"],
+        3 => &[b"remove ", name, b"\n"],
+        4 => &[b"length ", name, b"\n"],
+        5 => &[b"at ", digit, b"0000\nat ", digit, b"8000\nat 3", digit, b"0000\n"],
+        6..=8 => &[b"button ", name, b" ", digit, b"\n"],
+        _ => &[b"relay ", name, b" ", other, b" ", digit, b"\n"],
+    };
+    for part in parts {
+        script.extend_from_slice(part)?;
+    }
+    Ok(())
+}
+
+/// Lines drawn one after another, always the same.
+fn add_all_drawn(script: &mut Vec<u8>) -> Result<(), AllocError> {
+    let mut drawn = 1u64;
+    for _ in 0..DRAWN {
+        drawn = drawn.wrapping_mul(6_364_136_223_846_793_005).wrapping_add(1_442_695_040_888_963_407);
+        add_drawn(script, drawn >> 33)?;
+    }
+    Ok(())
+}
+
 /// Buttons wait at two open doors. When those are locked, each of the one's buttons is postponed again, and the other's
-/// count; and much time passes in small steps.
+/// count; and much time passes in small steps. Then come lines that
+/// are drawn.
 pub fn long_script(alloc: Global) -> Result<Vec<u8>, AllocError> {
-    let mut script = with_reserved(alloc, 16_384);
+    let mut script = with_reserved(alloc, 65_536);
     let rows = [
         (
             b"new a 1\nnew b 23\nbutton a 1\nbutton b 2\nbutton b 3\n".as_slice(),
@@ -30,5 +65,6 @@ pub fn long_script(alloc: Global) -> Result<Vec<u8>, AllocError> {
     for (lines, times) in rows {
         add(&mut script, lines, times)?;
     }
+    add_all_drawn(&mut script)?;
     Ok(script)
 }

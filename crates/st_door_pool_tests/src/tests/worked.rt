@@ -309,6 +309,58 @@ const REMOVING: Worked = Worked {
     status: 1,
 };
 
+/// A door sends a button to another.
+const RELAYING: Worked = Worked {
+    script: b"new a 12\n\
+        new b 34\n\
+        relay a b 3\n",
+    output: "a locked buttons 0 waiting 0\n\
+         b locked buttons 0 waiting 0\n\
+         b locked buttons 1 waiting 0\n",
+    status: 0,
+};
+
+/// Doors send buttons to each other and to themselves: an open door's waits, and one that has ended loses it.
+const RELAYS: Worked = Worked {
+    script: b"new a 12\n\
+        new b 3\n\
+        relay b a 1\n\
+        relay a a 2\n\
+        relay b a 1\n\
+        stop b 7\n\
+        relay a b 3\n\
+        relay b a 1\n\
+        relay a c 1\n\
+        relay c a 1\n\
+        relay a b\n\
+        relay a b 10\n\
+        relay a b +1\n\
+        relay A b 1\n\
+        relay a B 1\n\
+        relay a b 1 1\n\
+        at 10000\n\
+        show a\n",
+    output: "a locked buttons 0 waiting 0\n\
+         b locked buttons 0 waiting 0\n\
+         a locked buttons 1 waiting 0\n\
+         a open buttons 0 waiting 0\n\
+         a open buttons 0 waiting 1\n\
+         b stopped 7 word 0\n\
+         b stopped 7 word 0\n\
+         line 8 refused 2\n\
+         line 9 refused 8\n\
+         line 10 refused 8\n\
+         line 11 malformed\n\
+         line 12 malformed\n\
+         line 13 malformed\n\
+         line 14 malformed\n\
+         line 15 malformed\n\
+         line 16 malformed\n\
+         at 10000 expired 1\n\
+         a locked buttons 1 waiting 0\n",
+    status: 1,
+};
+
 /// All of them.
 pub const ALL: &[Worked] = &[
     EMPTY,
@@ -328,4 +380,6 @@ pub const ALL: &[Worked] = &[
     LENGTHS,
     REFUSALS,
     REMOVING,
+    RELAYING,
+    RELAYS,
 ];

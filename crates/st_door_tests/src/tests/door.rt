@@ -112,6 +112,7 @@ enum Asked {
     Sets(Timer, Time, DoorContent),
     Postpones,
     Replies(Tag, DoorContent),
+    Sends(MachineId, DoorContent),
     Else,
 }
 
@@ -134,6 +135,7 @@ fn action_of(actions: &Actions<DoorContent>) -> Asked {
         (1, Some(Action::Set(timer, time, content))) => Asked::Sets(*timer, *time, *content),
         (1, Some(Action::Postpone(true))) => Asked::Postpones,
         (1, Some(Action::Reply(tag, content))) => Asked::Replies(*tag, *content),
+        (1, Some(Action::Send(target, content))) => Asked::Sends(*target, *content),
         _ => Asked::Else,
     }
 }
@@ -393,6 +395,49 @@ fn a_call_is_told_how_long_the_code_is(rt: HostRuntime) {
     rt.end();
 }
 
+#[test]
+fn a_button_that_another_door_sent_is_as_one_that_is_cast(rt: HostRuntime) {
+    let rt = Host::new(rt);
+    let time = Time::After(30_000);
+    let asked = Asked::Sets(Timer::Event, time, DoorContent::Nothing);
+    let (locked, open) = (DoorState::Locked, DoorState::Open);
+    let rows = [
+        button("the first", 1, &[], locked, &[1], asked),
+        button("the code", 2, &[1], open, &[], Asked::Nothing),
+        Row {
+            state: open,
+            answer: Answer::Stays(Asked::Postpones),
+            ..button("it is postponed", 2, &[], open, &[], asked)
+        },
+    ];
+    for row in rows {
+        let kind = Kind::Info;
+        answers(&rt, rt.alloc(), Row { kind, ..row });
+    }
+    rt.end();
+}
+
+/// A machine that buttons are sent to.
+const TARGET: MachineId = MachineId { slot: 6, serial: 7 };
+
+#[test]
+fn a_button_that_is_to_be_relayed_is_sent_on(rt: HostRuntime) {
+    let rt = Host::new(rt);
+    for state in [DoorState::Locked, DoorState::Open] {
+        let row = Row {
+            word: "each state sends",
+            kind: Kind::Cast,
+            content: DoorContent::Relay(TARGET, 8),
+            state,
+            buttons: &[1],
+            answer: Answer::Stays(Asked::Sends(TARGET, DoorContent::Button(8))),
+            after: &[],
+        };
+        answers(&rt, rt.alloc(), row);
+    }
+    rt.end();
+}
+
 /// What changes nothing in any state.
 const ELSE: &[(&str, Kind, DoorContent)] = &[
     (
@@ -409,7 +454,24 @@ const ELSE: &[(&str, Kind, DoorContent)] = &[
     ("a question as a cast", Kind::Cast, DoorContent::CodeLength),
     ("a length as a cast", Kind::Cast, DoorContent::Length(1)),
     ("nothing as a cast", Kind::Cast, DoorContent::Nothing),
-    ("a button as an info", Kind::Info, DoorContent::Button(1)),
+    (
+        "a relay as a call",
+        Kind::Call(TAG),
+        DoorContent::Relay(TARGET, 1),
+    ),
+    (
+        "a relay as an info",
+        Kind::Info,
+        DoorContent::Relay(TARGET, 1),
+    ),
+    ("a question as an info", Kind::Info, DoorContent::CodeLength),
+    ("a length as an info", Kind::Info, DoorContent::Length(1)),
+    ("nothing as an info", Kind::Info, DoorContent::Nothing),
+    (
+        "an inserted relay",
+        Kind::Internal,
+        DoorContent::Relay(TARGET, 1),
+    ),
     ("an inserted button", Kind::Internal, DoorContent::Button(1)),
 ];
 
@@ -478,6 +540,7 @@ fn copies_are_equal(rt: HostRuntime) {
     let rt = Host::new(rt);
     has_equal_copy(&rt, rt.alloc(), DoorContent::Button(7));
     has_equal_copy(&rt, rt.alloc(), DoorContent::Length(16));
+    has_equal_copy(&rt, rt.alloc(), DoorContent::Relay(TARGET, 3));
     let held = data_with(&rt, rt.alloc(), &[1]);
     let copy = copied_data(&rt, rt.alloc(), &held);
     has(&rt, &copy.expect(&rt, "memory"), &[1]);

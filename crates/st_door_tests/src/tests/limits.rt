@@ -129,6 +129,57 @@ fn many_doors(alloc: Global) -> Result<(Vec<u8>, Vec<u8>), AllocError> {
     Ok((script, output))
 }
 
+/// How many doors stand in a ring.
+const RING: usize = 1_000;
+
+/// A script in which each of many doors sends a button to the next, and the last to the first, twice; and its output. The first
+/// button opens a door, the second one waits there until it is locked, and opens it again.
+fn many_relays(alloc: Global) -> Result<(Vec<u8>, Vec<u8>), AllocError> {
+    let mut script = with_reserved(alloc, 100_000);
+    let mut output = with_reserved(alloc, 100_000);
+    for number in 0..RING {
+        let name = name_of(number);
+        add(&mut script, &[b"new ", &name, b" 1\n"])?;
+        add(&mut output, &[&name, b" locked buttons 0 waiting 0\n"])?;
+    }
+    for waiting in [b"0", b"1"] {
+        for number in 0..RING {
+            let (name, next) = (name_of(number), name_of((number + 1) % RING));
+            add(&mut script, &[b"relay ", &name, b" ", &next, b" 1\n"])?;
+            add(&mut output, &[&next, b" open buttons 0 waiting ", waiting, b"\n"])?;
+        }
+    }
+    add(&mut script, &[b"at 10000\n"])?;
+    add(&mut output, &[b"at 10000 expired 1000\n"])?;
+    for number in 0..RING {
+        let name = name_of(number);
+        add(&mut script, &[b"show ", &name, b"\n"])?;
+        add(&mut output, &[&name, b" open buttons 0 waiting 0\n"])?;
+    }
+    Ok((script, output))
+}
+
+#[test]
+fn a_button_goes_round_1000_doors(rt: HostRuntime) {
+    let rt = Host::new(rt);
+    if rt.end() {
+        return;
+    }
+    let (script, output) = many_relays(rt.alloc()).expect(&rt, "memory");
+    let way = Way {
+        reserved: 100_000,
+        ..PLAIN
+    };
+    ends(
+        &rt,
+        rt.alloc(),
+        script.as_slice(),
+        way,
+        Ok(0),
+        output.as_slice(),
+    );
+}
+
 #[test]
 fn there_are_65536_doors_at_most(rt: HostRuntime) {
     let rt = Host::new(rt);

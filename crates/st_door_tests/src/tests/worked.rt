@@ -440,6 +440,93 @@ const REMOVING: Worked = Worked {
     status: 1,
 };
 
+/// A door sends a button to another.
+const RELAYING: Worked = Worked {
+    script: b"new a 12\n\
+        new b 34\n\
+        relay a b 3\n",
+    output: "a locked buttons 0 waiting 0\n\
+         b locked buttons 0 waiting 0\n\
+         b locked buttons 1 waiting 0\n",
+    trace: "machine 0 1 a\n\
+         \x20        1      1 post                      -          1 cast\n\
+         \x20        2      - turn                      0          1 cast locked locked finished 0 0 0 sent 1\n\
+         \x20        3      - take                      -          1 to 1 2\n\
+         summary posts 1 turns 1 finished 1 put_off 0\n\
+         machine 1 2 b\n\
+         \x20        1      - post                      -          1 info from 0 1 1\n\
+         \x20        2      - turn                      0          1 info locked locked finished 0 0 1\n\
+         summary posts 1 turns 1 finished 1 put_off 0\n",
+    status: 0,
+};
+
+/// Doors send buttons to each other and to themselves: an open door's waits, and one that has ended loses it.
+const RELAYS: Worked = Worked {
+    script: b"new a 12\n\
+        new b 3\n\
+        relay b a 1\n\
+        relay a a 2\n\
+        relay b a 1\n\
+        stop b 7\n\
+        relay a b 3\n\
+        relay b a 1\n\
+        relay a c 1\n\
+        relay c a 1\n\
+        relay a b\n\
+        relay a b 10\n\
+        relay a b +1\n\
+        relay A b 1\n\
+        relay a B 1\n\
+        relay a b 1 1\n\
+        at 10000\n\
+        show a\n",
+    output: "a locked buttons 0 waiting 0\n\
+         b locked buttons 0 waiting 0\n\
+         a locked buttons 1 waiting 0\n\
+         a open buttons 0 waiting 0\n\
+         a open buttons 0 waiting 1\n\
+         b stopped 7 word 0\n\
+         b stopped 7 word 0\n\
+         line 8 refused 2\n\
+         line 9 refused 8\n\
+         line 10 refused 8\n\
+         line 11 malformed\n\
+         line 12 malformed\n\
+         line 13 malformed\n\
+         line 14 malformed\n\
+         line 15 malformed\n\
+         line 16 malformed\n\
+         at 10000 expired 1\n\
+         a locked buttons 1 waiting 0\n",
+    trace: "machine 0 1 a\n\
+         \x20        1      - post                      -          1 info from 1 2 1\n\
+         \x20        2      - turn                      0          1 info locked locked finished 0 0 1\n\
+         \x20        3      1 post                      -          3 cast\n\
+         \x20        4      - turn                      0          3 cast locked locked finished 0 0 0 sent 1\n\
+         \x20        5      - take                      -          1 to 0 1\n\
+         \x20        6      - post                      -          4 info from 0 1 1\n\
+         \x20        7      - turn                      0          4 info locked open finished 0 0 1\n\
+         \x20        8      - post                      -          6 info from 1 2 2\n\
+         \x20        9      - turn                      0          6 info open open put_off 0 0 0\n\
+         \x20       10      1 post                      -          7 cast\n\
+         \x20       11      - turn                      0          7 cast open open finished 0 0 0 sent 1\n\
+         \x20       12      - take                      -          2 to 1 2\n\
+         \x20       13      - tick                  10000          1 -\n\
+         \x20       14      - turn                  10000          5 state_timeout open locked finished 0 0 0\n\
+         \x20       15      - turn                  10000          6 info locked locked finished 0 0 1\n\
+         summary posts 5 turns 7 finished 6 put_off 1\n\
+         machine 1 2 b\n\
+         \x20        1      1 post                      -          1 cast\n\
+         \x20        2      - turn                      0          1 cast locked locked finished 0 0 0 sent 1\n\
+         \x20        3      - take                      -          1 to 0 1\n\
+         \x20        4      1 post                      -          2 cast\n\
+         \x20        5      - turn                      0          2 cast locked locked finished 0 0 0 sent 1\n\
+         \x20        6      - take                      -          2 to 0 1\n\
+         \x20        7      - stop                      -          7 word:0\n\
+         summary posts 2 turns 2 finished 2 put_off 0\n",
+    status: 1,
+};
+
 /// All of them.
 pub const ALL: &[Worked] = &[
     EMPTY,
@@ -459,6 +546,8 @@ pub const ALL: &[Worked] = &[
     LENGTHS,
     REFUSALS,
     REMOVING,
+    RELAYING,
+    RELAYS,
 ];
 
 /// A test of one of them.

@@ -1,46 +1,38 @@
-use Rattle.std.proofs.Common.{◌≡◌, ℕ, suc, ◌+◌, ◌-◌, ◌<◌, true, length, set, get_or, arith, ap, sym, ◌∙◌}
-use Rattle.std.proofs.lemmas.List.{length-set}
-use Rattle.st_core.specs.declared.command.Command.TheVariants as command
-use Rattle.st_door.specs.Doors.{is_ready_door, told_door, run_until_idle}
+use Rattle.std.proofs.Common.{rules, ◌≡◌, ℕ, suc, ◌+◌, ◌-◌, ◌<◌, ◌∙◌, ap, sym, length, arith}
+use Rattle.st_door.specs.Doors.{IsFirst, RestsOutside, is_ready_door}
 use Rattle.st_door.specs.Script.{turn_limit}
-use Rattle.st_door.proofs.IdleLemmas.{no_door, labels-more, labels-told, rests-set, run-turned, run-rested, run-none}
+use Rattle.st_door.specs.Settling.{run_until_idle}
+use Rattle.st_door.proofs.IdleLemmas.{no_door, first-ready, labels-more, run-gone_on, run-rested, run-none}
 use Rattle.st_door.proofs.until_idle.run_until_idle.Goals as goal
 
--- it is one of the doors
-pub turn_at-requires-clause-place : goal.turn_at-requires-clause-place
-turn_at-requires-clause-place c = omega (arith, c.loop-first.invariant.within)
+-- all doors rest
+pub returns-then-first-until-clause-rested : goal.returns-then-first-until-clause-rested
+returns-then-first-until-clause-rested c =
+    let last : c.first_ready-first.result ≡ c.loop.until = search rules in
+    let rests : RestsOutside c.loop.until c.loop.until c.loop.doors = rw last at c.first_ready-first.ensures.resting in
+    sym (run-rested (turn_limit - c.loop.counter) c.args.moment c.loop.doors c.loop.until rests) ∙ c.loop.invariant.rested
 
--- the first door that may be ready was, and had a turn
-pub loop-first-preserved-then-is_ready_at : goal.loop-first-preserved-then-is_ready_at
-loop-first-preserved-then-is_ready_at c =
-    let first : ℕ = c.loop-first.first in
-    let doors = c.loop-first.doors in
-    let invariant = c.loop-first.invariant in
-    let turned : c.turn_at.new.self ≡ set doors first (told_door (command.Turn c.args.moment) (get_or doors first no_door)) = c.in_ok-turn_at.ensures.told no_door in
-    let ready : is_ready_door (get_or doors first no_door) ≡ true = sym (c.is_ready_at.ensures no_door) ∙ c.if-is_ready_at.true in
-    let low : first < c.args.until = omega arith in
-    let within : first < length doors = omega (arith, invariant.within) in
-    let left : suc (turn_limit - (c.loop-first.turns + 1)) ≡ turn_limit - c.loop-first.turns = omega arith in
+-- the first ready one went on
+pub loop-preserved : goal.loop-preserved
+loop-preserved c =
+    let less : c.first_ready-first.result < c.loop.until = omega (arith, c.first_ready-first.ensures.last, c.if-first-until.false) in
+    let within : c.first_ready-first.result < length c.loop.doors = omega (arith, less, c.loop.invariant.within) in
+    let here : IsFirst is_ready_door c.loop.doors c.first_ready-first.result =
+    first-ready c.loop.doors c.first_ready-first.result c.loop.until less within c.first_ready-first.ensures.resting (c.first_ready-first.ensures.ready less no_door) in
+    let left : suc (turn_limit - (c.loop.counter + 1)) ≡ turn_limit - c.loop.counter = omega arith in
     record {
-      bounded = invariant.bounded;
-      counted = omega arith;
-      reached = invariant.reached;
-      within = rw (turned, length-set) invariant.within;
-      resting = rw turned (rests-set doors first c.args.until first _ (omega arith) low invariant.resting);
-      labels = rw turned (labels-more _ _ _ invariant.labels (labels-told doors first no_door (command.Turn c.args.moment) within));
-      rested = rw turned (sym (run-turned _ c.args.moment doors first c.args.until low within invariant.resting ready)
-          ∙ (ap (λ (n : ℕ). run_until_idle n c.args.moment doors) left ∙ invariant.rested));
+      ordered = c.in_ok-from.ensures.ordered;
+      within = c.in_ok-from.ensures.within;
+      resting = c.in_ok-from.ensures.resting;
+      labels = labels-more c.args.doors.now c.loop.doors c.go_on.new.doors c.loop.invariant.labels c.go_on.ensures.same_labels;
+      rested = ap (run_until_idle (turn_limit - (c.loop.counter + 1)) c.args.moment) c.in_ok-from.ensures.gone_on
+          ∙ (sym (run-gone_on (turn_limit - (c.loop.counter + 1)) c.args.moment c.loop.doors c.first_ready-first.result here)
+          ∙ (ap (λ (n : ℕ). run_until_idle n c.args.moment c.loop.doors) left ∙ c.loop.invariant.rested));
     }
 
--- no turn is left
-pub returns-else-turns-lt-TURN_LIMIT-clause-rested : goal.returns-else-turns-lt-TURN_LIMIT-clause-rested
-returns-else-turns-lt-TURN_LIMIT-clause-rested c =
-    let none : turn_limit - c.loop-first.turns ≡ 0 = omega arith in
-    sym (run-none c.args.moment c.loop-first.doors)
-    ∙ (ap (λ (n : ℕ). run_until_idle n c.args.moment c.loop-first.doors) (sym none) ∙ c.loop-first.invariant.rested)
-
--- no door may be ready
-pub returns-after-loop-first-clause-rested : goal.returns-after-loop-first-clause-rested
-returns-after-loop-first-clause-rested c =
-    sym (run-rested (turn_limit - c.loop-first.turns) c.args.moment c.loop-first.doors c.loop-first.first c.args.until (omega arith) c.loop-first.invariant.resting)
-    ∙ c.loop-first.invariant.rested
+-- no step is left
+pub returns-clause-rested : goal.returns-clause-rested
+returns-clause-rested c =
+    let none : turn_limit - c.loop.counter ≡ 0 = omega arith in
+    sym (run-none c.args.moment c.loop.doors)
+    ∙ (ap (λ (n : ℕ). run_until_idle n c.args.moment c.loop.doors) (sym none) ∙ c.loop.invariant.rested)

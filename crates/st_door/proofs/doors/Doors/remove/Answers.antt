@@ -1,7 +1,7 @@
 use Rattle.std.proofs.Common.{◌≡◌, ℕ, Option, Some, None, if◌then◌else◌, bytes_eq, ap, sym, ◌∙◌}
 use Rattle.st_door.specs.Doors.{without_door}
 use Rattle.st_door.specs.Numbers.{doors_of_numbered, number_of, without_number}
-use Rattle.st_door.proofs.NumberLemmas.{numbers-rise, doors-less, number-less, numbered-less, without-missing}
+use Rattle.st_door.proofs.NumberLemmas.{numbers-rise, doors-less, number-less, numbered-less, serials-less, without-missing}
 use Rattle.st_door.proofs.doors.Doors.remove.Goals as goal
 
 -- the others have their numbers still
@@ -14,6 +14,7 @@ invariant_of-self c =
           ∙ (ap (λ (number : Option ℕ). if bytes_eq c.args.name.now other then None else number) (c.self.invariant.0 other)
           ∙ (sym (number-less 0 entries c.self.inside.next c.args.name.now c.in-Some.number other c.self.invariant.1 found) ∙ ap (number_of other) (sym gone))),
       rw gone (numbered-less 0 entries c.self.inside.next c.args.name.now c.in-Some.number c.self.invariant.1 found),
+      rw gone (serials-less entries c.in-Some.number c.self.invariant.2),
     )
 
 -- the door is gone

@@ -1,5 +1,5 @@
 use Rattle.std.proofs.Common.{rules, ◌≡◌, ◌≤◌, ◌∙◌, ap, map, min, arith}
-use Rattle.st_door.specs.Doors.{NamedDoor, told_of}
+use Rattle.st_door.specs.Doors.{NamedDoor, source_of, told_of}
 use Rattle.st_door.specs.Late.{caught_up}
 use Rattle.st_door.proofs.DoorLemmas.{err_always}
 use Rattle.st_door.proofs.IdleLemmas.{no_door}
@@ -38,7 +38,7 @@ returns-in_err-answer-clause-unchanged c = err_always _ c.from_residual-in_err-a
 
 pub returns-clause-told : goal.returns-clause-told
 returns-clause-told c = λ d. told-seen c.self.inside.late c.self.inside.due c.args.place c.self.inside.doors c.catch_up.new.doors (c.in_ok-catch_up.ensures.caught no_door) c.args.self.now c.self.view_is c.requires.place
-    c.args.command c.tell_at.new.self d (c.in_ok-answer.ensures.told no_door)
+    (source_of c.args.command) c.args.command c.tell_at.new.self d (c.in_ok-answer.ensures.told no_door)
 
 pub returns-clause-answer : goal.returns-clause-answer
 returns-clause-answer c = λ d. c.in_ok-answer.ensures.answer no_door
@@ -47,7 +47,7 @@ returns-clause-answer c = λ d. c.in_ok-answer.ensures.answer no_door
 
 pub quiet_until_at-requires : goal.quiet_until_at-requires
 quiet_until_at-requires c = told-within c.self.inside.late c.self.inside.due c.args.place c.self.inside.doors c.catch_up.new.doors (c.in_ok-catch_up.ensures.caught no_door) c.args.self.now c.self.view_is c.requires.place
-    c.args.command c.tell_at.new.self (c.in_ok-answer.ensures.told no_door)
+    (source_of c.args.command) c.args.command c.tell_at.new.self (c.in_ok-answer.ensures.told no_door)
 
 -- the door has seen the late tick, and is looked at anew
 pub invariant_of-self-2 : goal.invariant_of-self-2
@@ -56,6 +56,6 @@ invariant_of-self-2 c =
     let first : c.min-self-inside.result ≤ c.self.inside.due = rw least (grind arith) in
     let second : c.min-self-inside.result ≤ c.quiet_until_at.result = rw least (grind arith) in (
       told-in_time c.self.inside.late c.self.inside.due c.args.place c.self.inside.doors c.catch_up.new.doors (c.in_ok-catch_up.ensures.caught no_door) c.args.self.now c.self.view_is c.requires.place
-          c.args.command c.tell_at.new.self c.min-self-inside.result c.quiet_until_at.result (c.in_ok-answer.ensures.told no_door) first second c.self.invariant.0 (c.quiet_until_at.ensures.quiet no_door),
+          (source_of c.args.command) c.args.command c.tell_at.new.self c.min-self-inside.result c.quiet_until_at.result (c.in_ok-answer.ensures.told no_door) first second c.self.invariant.0 (c.quiet_until_at.ensures.quiet no_door),
       omega (arith, first, c.self.invariant.1),
     )

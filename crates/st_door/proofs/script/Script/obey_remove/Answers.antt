@@ -8,42 +8,42 @@ use Rattle.st_door.proofs.IdleLemmas.{no_door}
 use Rattle.st_door.proofs.ScriptStateLemmas.{remove-refused, remove-done}
 use Rattle.st_door.proofs.script.Script.obey_remove.Goals as goal
 
-pub has_ended_at-requires : goal.has_ended_at-requires
-has_ended_at-requires c = IsFirst-within (has_name c.args.name.now) c.self.inside.doors c.in-Some.place c.in-Some.ensures.place
+pub is_over_at-requires : goal.is_over_at-requires
+is_over_at-requires c = IsFirst-within (has_name c.args.name.now) c.self.inside.doors c.in-Some.place c.in-Some.ensures.place
 
--- a door that runs stays
-pub returns-then-not-has_ended_at-clause-effect : goal.returns-then-not-has_ended_at-clause-effect
-returns-then-not-has_ended_at-clause-effect c =
+-- a door that is not over stays
+pub returns-then-not-is_over_at-clause-effect : goal.returns-then-not-is_over_at-clause-effect
+returns-then-not-is_over_at-clause-effect c =
     let doors : c.self.inside.doors ≡ c.args.self.now.doors = ap (λ (script : ScriptState). script.doors) c.self.view_is in
     let first : IsFirst (has_name c.args.name.now) c.args.self.now.doors c.in-Some.place = rw (← doors) c.in-Some.ensures.place in
-    let runs : c.has_ended_at.result ≡ false = search rules in
+    let runs : c.is_over_at.result ≡ false = search rules in
     sym (ap (λ (s : Effect × ScriptState). s.0) (remove-refused c.args.self.now c.args.name.now c.in-Some.place first
-    (rw (← doors) (sym (c.has_ended_at.ensures no_door)) ∙ runs)))
+    (rw (← doors) (sym (c.is_over_at.ensures no_door)) ∙ runs)))
 
-pub returns-then-not-has_ended_at-clause-script : goal.returns-then-not-has_ended_at-clause-script
-returns-then-not-has_ended_at-clause-script c =
+pub returns-then-not-is_over_at-clause-script : goal.returns-then-not-is_over_at-clause-script
+returns-then-not-is_over_at-clause-script c =
     let doors : c.self.inside.doors ≡ c.args.self.now.doors = ap (λ (script : ScriptState). script.doors) c.self.view_is in
     let first : IsFirst (has_name c.args.name.now) c.args.self.now.doors c.in-Some.place = rw (← doors) c.in-Some.ensures.place in
-    let runs : c.has_ended_at.result ≡ false = search rules in
+    let runs : c.is_over_at.result ≡ false = search rules in
     sym (ap (λ (s : Effect × ScriptState). s.1) (remove-refused c.args.self.now c.args.name.now c.in-Some.place first
-    (rw (← doors) (sym (c.has_ended_at.ensures no_door)) ∙ runs)))
+    (rw (← doors) (sym (c.is_over_at.ensures no_door)) ∙ runs)))
 
--- and one that has ended goes
+-- and one that is goes
 pub returns-clause-effect : goal.returns-clause-effect
 returns-clause-effect c =
     let doors : c.self.inside.doors ≡ c.args.self.now.doors = ap (λ (script : ScriptState). script.doors) c.self.view_is in
     let first : IsFirst (has_name c.args.name.now) c.args.self.now.doors c.in-Some.place = rw (← doors) c.in-Some.ensures.place in
-    let ends : c.has_ended_at.result ≡ true = search rules in
+    let ends : c.is_over_at.result ≡ true = search rules in
     ap Printed (c.from.ensures ∙ c.in_ok-text.ensures)
     ∙ sym (ap (λ (s : Effect × ScriptState). s.0) (remove-done c.args.self.now c.args.name.now c.in-Some.place first
-    (rw (← doors) (sym (c.has_ended_at.ensures no_door)) ∙ ends)))
+    (rw (← doors) (sym (c.is_over_at.ensures no_door)) ∙ ends)))
 
 pub returns-clause-script : goal.returns-clause-script
 returns-clause-script c =
     let doors : c.self.inside.doors ≡ c.args.self.now.doors = ap (λ (script : ScriptState). script.doors) c.self.view_is in
     let first : IsFirst (has_name c.args.name.now) c.args.self.now.doors c.in-Some.place = rw (← doors) c.in-Some.ensures.place in
-    let ends : c.has_ended_at.result ≡ true = search rules in
+    let ends : c.is_over_at.result ≡ true = search rules in
     c.in_ok-run_until_idle.ensures.rested
     ∙ (ap rested_of c.remove_door.ensures
     ∙ sym (ap (λ (s : Effect × ScriptState). s.1) (remove-done c.args.self.now c.args.name.now c.in-Some.place first
-    (rw (← doors) (sym (c.has_ended_at.ensures no_door)) ∙ ends))))
+    (rw (← doors) (sym (c.is_over_at.ensures no_door)) ∙ ends))))

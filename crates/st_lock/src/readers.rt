@@ -1,0 +1,78 @@
+//! What is read of a machine that threads share, with no entry, no copy and no walk of its journal.
+ghost use Rattle.st_core.specs.Callbacks.{callbacks_of};
+ghost use Rattle.st_core.specs.Choice.{is_ready_of, next_due_of, waiting_of};
+ghost use Rattle.st_lock.specs.Machines.{IsReadAt, id_of};
+
+use crate::Machine;
+use crate::desk::a_desk_is_journaled;
+use crate::machine::give_back;
+use st_cell::{Module, Reason};
+use std::sync::Wait;
+
+impl<M: Module> Machine<M> {
+    /// Its state.
+    ///
+    /// Manual: `state()`; `sys:get_state/1`.
+    pub fn state<R: Wait>(&self, rt: &R) -> M::State
+        ensures { IsReadAt (callbacks_of M.Module M.State.eq) (λ machine. machine.state) (id_of self.now) result }
+    {
+        let (taken, desk, mut holder) = self.arrive(rt);
+        a_desk_is_journaled(&desk);
+        let answer = desk.core().state();
+        drop(give_back(taken, &mut holder, desk));
+        answer
+    }
+
+    /// How many accepted events are not finished, as `Core::waiting` says it.
+    ///
+    /// Ours: docs/TRANSITIONS.md.
+    pub fn waiting<R: Wait>(&self, rt: &R) -> usize
+        ensures { IsReadAt (callbacks_of M.Module M.State.eq) (λ machine. waiting_of machine) (id_of self.now) result }
+    {
+        let (taken, desk, mut holder) = self.arrive(rt);
+        a_desk_is_journaled(&desk);
+        let answer = desk.core().waiting();
+        drop(give_back(taken, &mut holder, desk));
+        answer
+    }
+
+    /// The moment, in milliseconds, at which the next of its time-outs is due, as `Core::next_due` says it. Whoever ticks it at that
+    /// moment ticks it neither too early nor too often.
+    ///
+    /// Ours: docs/DECISIONS.md, Time-outs come by ticks.
+    pub fn next_due<R: Wait>(&self, rt: &R) -> Option<u64>
+        ensures { IsReadAt (callbacks_of M.Module M.State.eq) (λ machine. next_due_of machine) (id_of self.now) result }
+    {
+        let (taken, desk, mut holder) = self.arrive(rt);
+        a_desk_is_journaled(&desk);
+        let answer = desk.core().next_due();
+        drop(give_back(taken, &mut holder, desk));
+        answer
+    }
+
+    /// Why it has ended, and its last word, if it has.
+    ///
+    /// Manual: `Module:terminate/3`; ours: docs/DECISIONS.md, A stop from outside.
+    pub fn ended<R: Wait>(&self, rt: &R) -> Option<(Reason, u32)>
+        ensures { IsReadAt (callbacks_of M.Module M.State.eq) (λ machine. machine.ended) (id_of self.now) result }
+    {
+        let (taken, desk, mut holder) = self.arrive(rt);
+        a_desk_is_journaled(&desk);
+        let answer = desk.core().ended();
+        drop(give_back(taken, &mut holder, desk));
+        answer
+    }
+
+    /// Whether it has an event for a turn, or a message to be taken out. Then it has a token, which somebody has.
+    ///
+    /// Ours: docs/DECISIONS.md, Tokens.
+    pub fn is_ready<R: Wait>(&self, rt: &R) -> bool
+        ensures { IsReadAt (callbacks_of M.Module M.State.eq) (λ machine. is_ready_of machine) (id_of self.now) result }
+    {
+        let (taken, desk, mut holder) = self.arrive(rt);
+        a_desk_is_journaled(&desk);
+        let answer = desk.core().is_ready();
+        drop(give_back(taken, &mut holder, desk));
+        answer
+    }
+}
