@@ -350,7 +350,7 @@ relay-aimless script name target digit none =
 
 -- a door is told to send a button to the one at another place, whose id this is
 module _ (script : ScriptState) (name target : List ℕ) (digit place aim : ℕ) (id : MachineId) (first : IsFirst (has_name name) script.doors place)
-  (second : IsFirst (has_name target) script.doors aim) (same : id ≡ (get_or script.doors aim no_door).machine.id) where
+    (second : IsFirst (has_name target) script.doors aim) (same : id ≡ (get_or script.doors aim no_door).machine.id) where
   relay-acted : relayed_by script name digit (door_of name script.doors) (door_of target script.doors) ≡ told_script script name (relays id digit) (door_of name script.doors)
   relay-acted =
       rw (IsFirst-found (has_name name) script.doors place no_door first, IsFirst-found (has_name target) script.doors aim no_door second, same) refl

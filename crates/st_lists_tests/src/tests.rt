@@ -1,6 +1,7 @@
 //! What the lists of one machine answer, with memory and while an allocation is refused.
 
 mod agenda;
+mod due;
 mod host;
 mod long_list;
 mod outbox;
