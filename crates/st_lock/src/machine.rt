@@ -240,6 +240,9 @@ impl<M: Module> Machine<M> {
 
     /// Opens the next port of a machine: they are numbered from 1 on. It has posted nothing.
     ///
+    /// A port is to be kept and used again. No port is closed: where one is let go its number is not given again, and the
+    /// machine keeps its count and its endpoint for good, some words each.
+    ///
     /// Refused with `NoMemory` where memory is wanted and there is none; then none is opened.
     ///
     /// Ours: docs/DECISIONS.md, Ports.
