@@ -1,5 +1,5 @@
 -- The slots of a slab, and the values under their ids.
-use Rattle.std.proofs.Common.{◌≡◌, ◌≢◌, ℕ, zero, suc, ◌+◌, ◌<◌, ◌≤◌, true, false, ◌==◌, nat_lt, if◌then◌else◌, Option, Some, None, is_some, cond, count_by, List, [], ◌∷◌, length, get_or, set, All, refl, sym, ap, ◌∙◌, arith, inl, inr, eqb-true}
+use Rattle.std.proofs.Common.{◌≡◌, ◌≢◌, ℕ, zero, suc, ◌+◌, ◌<◌, ◌≤◌, true, false, ◌==◌, nat_lt, if◌then◌else◌, Option, Some, None, is_some, cond, count_by, List, [], ◌∷◌, length, get_or, map, set, All, refl, sym, ap, ◌∙◌, arith, inl, inr, eqb-true}
 use Rattle.std.proofs.lemmas.Bool.{cases_Bool}
 use Rattle.std.specs.Borrow.{Bor}
 use Rattle.std.specs.Option.{option_copied}
@@ -9,7 +9,8 @@ use Rattle.st_events.specs.declared.machine_id.MachineId.{MachineId}
 use Rattle.st_directory.specs.declared.values.Stored.{Stored}
 use Rattle.st_directory.specs.DirectoryState.{same_id, value_in, with_value, without_value}
 use Rattle.st_directory.specs.InOrder.{StandsElsewhere}
-use Rattle.st_directory.specs.Slots.{id_at, values_from}
+use Rattle.st_directory.specs.Slots.{id_at, ids_of, values_from}
+use Rattle.slab.specs.Slab.{entries_from}
 
 -- ---- numbers compared
 is_less : (m n : ℕ) → m < n → nat_lt m n ≡ true
@@ -192,3 +193,14 @@ module _ {T : Type 0} where
   values_from-vacant slot (suc at) key (Some stored ∷ later) is vacant =
       All-cons (StandsElsewhere key) (id_at slot stored.serial, stored.value) (values_from (slot + 1) later) (λ same. omega (arith, is, same))
       (values_from-vacant (slot + 1) at key later (omega (arith, is)) vacant)
+
+-- ---- ids
+-- the id of an entry of a slab
+abbrev pub id_of_entry : {T : Type 0} → ℕ × Stored T → MachineId
+id_of_entry entry = id_at entry.0 entry.1.serial
+
+-- the ids of a slab's entries are those of its values
+pub ids_of_entries : {T : Type 0} (slot : ℕ) (slots : List (Option (Stored T))) → map id_of_entry (entries_from slot slots) ≡ ids_of (values_from slot slots)
+ids_of_entries slot [] = refl
+ids_of_entries slot (None ∷ later) = ids_of_entries (slot + 1) later
+ids_of_entries slot (Some stored ∷ later) = ap (λ (ids : List MachineId). id_at slot stored.serial ∷ ids) (ids_of_entries (slot + 1) later)

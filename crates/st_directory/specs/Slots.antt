@@ -1,5 +1,5 @@
 -- The slots of a slab, as values under their ids.
-use Rattle.std.specs.Prelude.{ℕ, ◌+◌, Option, Some, None, List, [], ◌∷◌}
+use Rattle.std.specs.Prelude.{ℕ, ◌+◌, Option, Some, None, List, [], ◌∷◌, map}
 use Rattle.st_events.specs.declared.machine_id.MachineId.{MachineId}
 use Rattle.st_directory.specs.declared.values.Stored.{Stored}
 
@@ -12,6 +12,10 @@ pub record ValuesState (T : Type 0) : Type 0 where
 -- an id
 abbrev pub id_at : ℕ → ℕ → MachineId
 id_at slot serial = record { slot = slot; serial = serial }
+
+-- the ids of values
+abbrev pub ids_of : {T : Type 0} → List (MachineId × T) → List MachineId
+ids_of values = map (λ value. value.0) values
 
 -- the values of slots, of which the first has this number
 abbrev pub values_from : {T : Type 0} → ℕ → List (Option (Stored T)) → List (MachineId × T)

@@ -5,13 +5,14 @@ ghost use Rattle.st_events.specs.declared.refusal.Refusal.TheVariants.{NoSuchNam
 ghost use Rattle.st_directory.specs.Admission.{Admits, HasRoomFor, KeepsRoom, RefusesOnly, admission_refusal, name_refusal, place_refusal, next_place};
 ghost use Rattle.st_directory.specs.DirectoryState.{found, id_of_name, inserted, state_of, unregistered, removed};
 ghost use Rattle.st_directory.specs.Entries.{names_of_entries};
+ghost use Rattle.st_directory.specs.Slots.{ids_of};
 
 use crate::names::Names;
 use crate::values::Values;
 use crate::{LONGEST_NAME, MOST, Place};
 use indexmap::map::Iter;
 use st_events::{MachineId, NUMBER_LIMIT, Refusal};
-use std::alloc::Global;
+use std::alloc::{AllocError, Global};
 use std::marker::Model;
 
 /// Values, each under an id of its own, and names for some of them: a name names one value, and a value has one name at
@@ -85,6 +86,17 @@ impl<T> Directory<T> {
         ensures runs { ShowsInOrder (deref_pair {K = String Global} {X = MachineId}) }
     {
         self.names.iter()
+    }
+
+    /// A copy of the ids, by rising slot. It walks over all values.
+    ///
+    /// Refused with `AllocError` where memory is wanted and there is none.
+    ///
+    /// Ours: docs/DECISIONS.md, Directories.
+    pub fn ids(&self, alloc: Global) -> Result<Vec<MachineId>, AllocError>
+        ensures { IfOk result (λ ids. ids.items ≡ ids_of self.now.state.values) }
+    {
+        self.values.ids(alloc)
     }
 
     /// The value of an id. An id that names none now is refused with `NoSuchMachine`.

@@ -1,8 +1,8 @@
 //! The values of a directory, by id.
-ghost use Rattle.std.specs.Prelude.{◌≡◌, ◌<◌, ◌≤◌, ◌^◌, [], length, All, None, IfSome, IfNone, OnOk, option_copied};
+ghost use Rattle.std.specs.Prelude.{◌≡◌, ◌<◌, ◌≤◌, ◌^◌, [], length, All, None, IfOk, IfSome, IfNone, OnOk, option_copied};
 ghost use Rattle.st_directory.specs.DirectoryState.{value_in, with_value, without_value};
 ghost use Rattle.st_directory.specs.InOrder.{StandsElsewhere};
-ghost use Rattle.st_directory.specs.Slots.{id_at};
+ghost use Rattle.st_directory.specs.Slots.{id_at, ids_of};
 
 use slab::Slab;
 use st_events::MachineId;
@@ -88,6 +88,18 @@ impl<T> Values<T> {
         } else {
             None
         }
+    }
+
+    /// A copy of the ids, by rising slot.
+    pub(crate) fn ids(&self, alloc: Global) -> Result<Vec<MachineId>, AllocError>
+        ensures { IfOk result (λ ids. ids.items ≡ ids_of self.now.values) }
+    {
+        let mut ids = Vec::new(alloc);
+        for (slot, stored) in self.slab.iter() {
+            let serial = stored.serial;
+            ids.push(MachineId { slot, serial })?;
+        }
+        Ok(ids)
     }
 
     /// Takes the value of an id out. Its slot is the next one then.

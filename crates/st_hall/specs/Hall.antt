@@ -5,6 +5,7 @@ use Rattle.st_events.specs.declared.refused.Refused.{Refused}
 use Rattle.st_core.specs.declared.start.Start.{Start}
 use Rattle.st_directory.specs.DirectoryState.{Named, id_of_name}
 use Rattle.st_directory.specs.InOrder.{IsDirectory}
+use Rattle.st_directory.specs.Slots.{ids_of}
 use Rattle.st_registry.specs.declared.started.Started.{Started}
 use Rattle.st_registry.specs.Registry.{RegistryState, HasIds, StartsUnder, start_due}
 
@@ -17,6 +18,10 @@ StartsSomewhere {M} {S} {D} {C} {A} module_ own name now answer =
 -- some registry that is in order has this name for this id
 abbrev pub IsNamedSomewhere : Type 0 → Type 0 → Type 0 → Type 0 → Type 0 → List ℕ → MachineId → Type 0
 IsNamedSomewhere M S D C A name id = (registry : RegistryState M S D C A) × IsDirectory registry × HasIds registry × (id_of_name name registry ≡ Some id)
+
+-- some registry that is in order has machines of these ids, by rising slot
+abbrev pub AreIdsSomewhere : Type 0 → Type 0 → Type 0 → Type 0 → Type 0 → List MachineId → Type 0
+AreIdsSomewhere M S D C A ids = (registry : RegistryState M S D C A) × IsDirectory registry × HasIds registry × (ids ≡ ids_of registry.values)
 
 -- some registry that is in order has these names, the first registered first
 abbrev pub AreNamesSomewhere : Type 0 → Type 0 → Type 0 → Type 0 → Type 0 → List Named → Type 0

@@ -6,7 +6,7 @@ ghost use Rattle.st_core.specs.Callbacks.{callbacks_of};
 ghost use Rattle.st_core.specs.Start.{start_of};
 ghost use Rattle.st_lock.specs.Machines.{id_of};
 ghost use Rattle.st_directory.specs.Entries.{names_of_entries};
-ghost use Rattle.st_hall.specs.Hall.{StartsSomewhere, IsNamedSomewhere, AreNamesSomewhere};
+ghost use Rattle.st_hall.specs.Hall.{StartsSomewhere, IsNamedSomewhere, AreNamesSomewhere, AreIdsSomewhere};
 ghost use Rattle.st_hall.specs.Kept.{is_kept};
 
 use crate::copies::copied;
@@ -121,6 +121,19 @@ impl<M: Module, R: Wait + Drop> Hall<M, R> {
         let registry = self.registry.read(&self.rt);
         a_registry_is_in_order(&registry);
         copied(alloc, registry.names())
+    }
+
+    /// A copy of the machines' ids, those without a name too, by rising slot.
+    ///
+    /// Refused with `AllocError` where memory is wanted and there is none; then nothing changes.
+    ///
+    /// Ours: docs/DECISIONS.md, Halls.
+    pub fn ids(&self, alloc: Global) -> Result<Vec<MachineId>, AllocError>
+        ensures ids { IfOk result (λ ids. AreIdsSomewhere M M.State M.Data M.Content M.Arg ids.items) }
+    {
+        let registry = self.registry.read(&self.rt);
+        a_registry_is_in_order(&registry);
+        registry.ids(alloc)
     }
 
     /// How many machines there are.

@@ -8,6 +8,7 @@ ghost use Rattle.st_core.specs.Start.{start_of};
 ghost use Rattle.st_directory.specs.DirectoryState.{found, id_of_name, state_of, unregistered, removed};
 ghost use Rattle.st_directory.specs.Entries.{names_of_entries};
 ghost use Rattle.st_directory.specs.InOrder.{IsDirectory};
+ghost use Rattle.st_directory.specs.Slots.{ids_of};
 ghost use Rattle.st_lock.specs.Machines.{id_of};
 ghost use Rattle.st_registry.specs.Registry.{HasIds, StartsUnder, start_due, IsMachineAt, RefusesMachine, RefusesRemoval};
 
@@ -17,7 +18,7 @@ use indexmap::map::Iter;
 use st_core::MOMENT_LIMIT;
 use st_directory::{Directory, a_directory_is_in_order};
 use st_lock::{Machine, MachineId, Module, Refusal, Refused};
-use std::alloc::Global;
+use std::alloc::{AllocError, Global};
 use std::marker::Model;
 use std::sync::{Arc, Wait};
 
@@ -145,6 +146,17 @@ impl<M: Module> Registry<M> {
         ensures runs { ShowsInOrder (deref_pair {K = String Global} {X = MachineId}) }
     {
         self.directory.names()
+    }
+
+    /// A copy of the machines' ids, by rising slot. It walks over all machines.
+    ///
+    /// Refused with `AllocError` where memory is wanted and there is none.
+    ///
+    /// Ours: docs/DECISIONS.md, Directories.
+    pub fn ids(&self, alloc: Global) -> Result<Vec<MachineId>, AllocError>
+        ensures { IfOk result (λ ids. ids.items ≡ ids_of self.now.values) }
+    {
+        self.directory.ids(alloc)
     }
 
     /// How many machines there are.
