@@ -1,10 +1,8 @@
-//! A lamp: a module and a program around it, to be copied. It switches a lamp on and lets time pass, and prints
-//! what each turn reports.
+//! A program around the module of a lamp, to be copied. It switches a lamp on and lets time pass, and prints what
+//! each turn reports.
 #![tactic(auto)]
 
-mod lamp;
-
-use lamp::{Bulb, Lamp, Press};
+use lamp_module::{Bulb, Lamp, Press};
 use st_core::{Core, Entry, MachineId, Module, Refusal, Start, Turned};
 use std::alloc::Global;
 use std::fmt::Debug;

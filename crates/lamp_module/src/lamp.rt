@@ -9,13 +9,13 @@ ghost use Rattle.st_events.specs.declared.outcome.Outcome.TheVariants as outcome
 ghost use Rattle.st_events.specs.declared.init.Init.TheVariants as init;
 ghost use Rattle.st_events.specs.declared.time.Time.TheVariants.{After};
 ghost use Rattle.st_events.specs.declared.timer.Timer.TheVariants.{State as StateTimer};
-ghost use Rattle.lamp.specs.declared.lamp.Light.{Light};
-ghost use Rattle.lamp.specs.declared.lamp.Light.TheVariants as light;
-ghost use Rattle.lamp.specs.declared.lamp.Bulb.{Bulb};
-ghost use Rattle.lamp.specs.declared.lamp.Press.{Press};
-ghost use Rattle.lamp.specs.declared.lamp.Press.TheVariants as press;
+ghost use Rattle.lamp_module.specs.declared.lamp.Light.{Light};
+ghost use Rattle.lamp_module.specs.declared.lamp.Light.TheVariants as light;
+ghost use Rattle.lamp_module.specs.declared.lamp.Bulb.{Bulb};
+ghost use Rattle.lamp_module.specs.declared.lamp.Press.{Press};
+ghost use Rattle.lamp_module.specs.declared.lamp.Press.TheVariants as press;
 
-use st_core::{
+use st_events::{
     Actions, EnterAction, EnterActions, EnterOutcome, Init, Kind, Module, Outcome, Reason, Time,
     Timer,
 };
