@@ -16,32 +16,45 @@ fn add(script: &mut Vec<u8>, lines: &[u8], times: usize) -> Result<(), AllocErro
 /// How many lines are drawn.
 const DRAWN: usize = 2_000;
 
-/// A line that a number draws: five doors are started, stopped and removed, pressed, asked and relayed to, and time passes.
-fn add_drawn(script: &mut Vec<u8>, number: u64) -> Result<(), AllocError> {
-    let names = [b"c", b"d", b"e", b"f", b"g"];
-    let name = names[(number / 16 % 5) as usize].as_slice();
-    let other = names[(number / 128 % 5) as usize].as_slice();
-    let digit = [b"1", b"2", b"3"][(number / 1024 % 3) as usize].as_slice();
-    let parts: &[&[u8]] = match number % 16 {
-        0 | 1 => &[b"new ", name, b" 1", digit, b"\n"],
-        2 => &[b"stop ", name, b" ", digit, b"\n"],
-        3 => &[b"remove ", name, b"\n"],
-        4 => &[b"length ", name, b"\n"],
-        5 => &[b"at ", digit, b"0000\nat ", digit, b"8000\nat 3", digit, b"0000\n"],
-        6..=8 => &[b"button ", name, b" ", digit, b"\n"],
-        _ => &[b"relay ", name, b" ", other, b" ", digit, b"\n"],
-    };
+/// Adds parts to the end of a script.
+fn add_parts(script: &mut Vec<u8>, parts: &[&[u8]]) -> Result<(), AllocError> {
     for part in parts {
         script.extend_from_slice(part)?;
     }
     Ok(())
 }
 
+/// The name of one of five doors, as a number draws it.
+fn drawn_name(number: u64) -> [u8; 1] {
+    [b"cdefg"[(number % 5) as usize]]
+}
+
+/// A line that a number draws: doors are started, stopped and removed, pressed, asked and relayed to, and time passes.
+fn add_drawn(script: &mut Vec<u8>, number: u64) -> Result<(), AllocError> {
+    let name = drawn_name(number / 16);
+    let other = drawn_name(number / 128);
+    let digit = [b"123"[(number / 1024 % 3) as usize]];
+    match number % 16 {
+        0 | 1 => add_parts(script, &[b"new ", &name, b" 1", &digit, b"\n"]),
+        2 => add_parts(script, &[b"stop ", &name, b" ", &digit, b"\n"]),
+        3 => add_parts(script, &[b"remove ", &name, b"\n"]),
+        4 => add_parts(script, &[b"length ", &name, b"\n"]),
+        5 => add_parts(script, &[b"at ", &digit, b"0000\nat 2", &digit, b"0000\n"]),
+        6..=8 => add_parts(script, &[b"button ", &name, b" ", &digit, b"\n"]),
+        _ => add_parts(
+            script,
+            &[b"relay ", &name, b" ", &other, b" ", &digit, b"\n"],
+        ),
+    }
+}
+
 /// Lines drawn one after another, always the same.
 fn add_all_drawn(script: &mut Vec<u8>) -> Result<(), AllocError> {
     let mut drawn = 1u64;
     for _ in 0..DRAWN {
-        drawn = drawn.wrapping_mul(6_364_136_223_846_793_005).wrapping_add(1_442_695_040_888_963_407);
+        drawn = drawn
+            .wrapping_mul(6_364_136_223_846_793_005)
+            .wrapping_add(1_442_695_040_888_963_407);
         add_drawn(script, drawn >> 33)?;
     }
     Ok(())

@@ -142,11 +142,14 @@ fn many_relays(alloc: Global) -> Result<(Vec<u8>, Vec<u8>), AllocError> {
         add(&mut script, &[b"new ", &name, b" 1\n"])?;
         add(&mut output, &[&name, b" locked buttons 0 waiting 0\n"])?;
     }
-    for waiting in [b"0", b"1"] {
+    for waiting in [b'0', b'1'] {
         for number in 0..RING {
             let (name, next) = (name_of(number), name_of((number + 1) % RING));
             add(&mut script, &[b"relay ", &name, b" ", &next, b" 1\n"])?;
-            add(&mut output, &[&next, b" open buttons 0 waiting ", waiting, b"\n"])?;
+            add(
+                &mut output,
+                &[&next, b" open buttons 0 waiting ", &[waiting], b"\n"],
+            )?;
         }
     }
     add(&mut script, &[b"at 10000\n"])?;

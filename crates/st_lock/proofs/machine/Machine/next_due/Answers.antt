@@ -1,5 +1,5 @@
 use Rattle.std.proofs.Common.{rules}
-use Rattle.st_lock.proofs.readers.Machine.state.Goals as goal
+use Rattle.st_lock.proofs.machine.Machine.next_due.Goals as goal
 
 -- it is read off the cell that lay under the lock
 pub returns : goal.returns
