@@ -19,6 +19,7 @@ mod relay;
 mod row;
 mod shared;
 mod shows;
+mod taken;
 mod threads;
 mod traced;
 mod twin;

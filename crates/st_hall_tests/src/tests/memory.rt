@@ -55,6 +55,22 @@ fn names<R: Wait + Drop>(
     }
 }
 
+/// A copy of the ids of a hall's machines. Where there is no memory, it is made again.
+fn ids<R: Wait + Drop>(
+    rt: &Host<impl Abort>,
+    hall: &Hall<Plain, R>,
+    alloc: Global,
+) -> Vec<MachineId> {
+    match hall.ids(alloc) {
+        Ok(ids) => ids,
+        Err(_) => {
+            rt.retry();
+            hall.ids(alloc)
+                .expect(rt, "one allocation alone is refused")
+        }
+    }
+}
+
 #[test]
 fn a_refused_call_changes_nothing(rt: HostRuntime) {
     let threads = rt;
@@ -71,6 +87,8 @@ fn a_refused_call_changes_nothing(rt: HostRuntime) {
     holds(&rt, "its name", name.as_str() == "front");
     holds(&rt, "its machine", *named == id);
     drop(names);
+    let ids = ids(&rt, &hall, rt.alloc());
+    holds(&rt, "its id", ids.as_slice() == [id].as_slice());
     drop(hall);
     rt.end();
 }

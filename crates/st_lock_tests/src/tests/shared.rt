@@ -117,6 +117,11 @@ pub fn share_in_room(rt: &Host<impl Abort>, threads: &impl Wait, alloc: Global) 
 }
 
 impl Shared {
+    /// The machine itself.
+    pub fn machine(&self) -> &Machine<Plain> {
+        &self.machine
+    }
+
     /// Opens the next port.
     fn open(&mut self, threads: &impl Wait) -> Result<u64, Refusal> {
         self.ports.reserve(1)?;

@@ -7,11 +7,11 @@ mod told;
 use super::host::{Host, holds, same};
 use crowd::{names_of_one_hash, names_of_one_kind};
 use rows::{
-    A_FULL_DIRECTORY, A_MIDDLE_NAME_GOES, AN_ID_IS_GIVEN_ONCE, FRONT_IS_LAST,
+    A_FULL_DIRECTORY, A_MIDDLE_NAME_GOES, AN_ID_IS_GIVEN_ONCE, BY_SLOT, FRONT_IS_LAST,
     NAMES_HAVE_1_TO_64_BYTES, OTHERS_IN_ORDER, THE_FIRST_NAME_GOES,
 };
 use st_directory::{Directory, MOST, a_directory_is_in_order, a_gone_id_stays_gone};
-use told::{drop_place, fill, names_are, names_rise, tell_all};
+use told::{drop_place, fill, ids_are, names_are, names_rise, tell_all};
 
 /// Says that values of a type may go to another thread, and be read by several.
 fn crosses_threads<T: Send + Sync>(_value: &T) {}
@@ -44,6 +44,7 @@ fn names_stand_in_order_of_registration(rt: HostRuntime) {
     tell_all(&rt, &mut directory, A_MIDDLE_NAME_GOES.as_slice());
     drop_place(&rt, &mut directory, "attic");
     names_are(&rt, &directory, OTHERS_IN_ORDER.as_slice());
+    ids_are(&rt, rt.alloc(), &directory, BY_SLOT.as_slice());
     tell_all(&rt, &mut directory, THE_FIRST_NAME_GOES.as_slice());
     names_are(&rt, &directory, FRONT_IS_LAST.as_slice());
     rt.end();

@@ -99,6 +99,9 @@ pub const OTHERS_IN_ORDER: [(&str, MachineId); 3] = [
     ("cellar", SECOND_AGAIN),
 ];
 
+/// The ids then, by rising slot.
+pub const BY_SLOT: [MachineId; 3] = [FIRST, SECOND_AGAIN, THIRD];
+
 /// The first name goes, and is registered again for another value.
 pub const THE_FIRST_NAME_GOES: [Row; 2] = [
     (Call::Unregister("front"), Answer::Id(FIRST)),

@@ -4,6 +4,7 @@ use crate::tests::host::{Host, holds, same};
 use st_directory::{
     Directory, MachineId, Refusal, a_new_id_was_no_id_before, an_inserted_value_is_found,
 };
+use std::alloc::Global;
 use std::process::Abort;
 
 /// What can be read of a directory of few values: how many there are, its first names by their first bytes, and the
@@ -142,6 +143,24 @@ pub fn names_are(rt: &Host<impl Abort>, directory: &Directory<u32>, wanted: &[(&
         same(rt, "the name", &name.as_str(), wanted_name);
         same(rt, "its id", id, wanted_id);
     }
+}
+
+/// Looks at the ids, by rising slot. Where there is no memory, they are asked for again.
+pub fn ids_are(
+    rt: &Host<impl Abort>,
+    alloc: Global,
+    directory: &Directory<u32>,
+    wanted: &[MachineId],
+) {
+    let ids = match directory.ids(alloc) {
+        Ok(ids) => ids,
+        Err(_) => {
+            rt.retry();
+            let again = directory.ids(alloc);
+            again.expect(rt, "one allocation alone is refused")
+        }
+    };
+    holds(rt, "the ids", ids.as_slice() == wanted);
 }
 
 /// Looks that the names stand in order of registration: each has a later serial than the one before it.
