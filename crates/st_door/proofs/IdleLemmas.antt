@@ -1,8 +1,7 @@
 -- Doors go on until they rest.
-use Rattle.std.proofs.Common.{◌≡◌, ℕ, zero, suc, ◌+◌, ◌<◌, ◌≤◌, ◌≢◌, Bool, true, false, List, [], ◌∷◌, length, get_or, set, map, Option, Some, None, refl, ap, sym, ◌∙◌, arith, inl, inr}
+use Rattle.std.proofs.Common.{◌≡◌, ℕ, zero, suc, ◌<◌, Bool, true, false, List, [], ◌∷◌, length, get_or, set, map, Option, Some, None, refl, ap, sym, ◌∙◌, arith, inl, inr}
 use Rattle.std.specs.List.{find, list_any}
-use Rattle.std.proofs.lemmas.Bool.{cases_Bool, cases_lt}
-use Rattle.std.proofs.lemmas.List.{get_or-set_other, length-set}
+use Rattle.std.proofs.lemmas.Bool.{cases_Bool}
 use Rattle.st_core.specs.declared.command.Command.{Command}
 use Rattle.st_core.specs.Choice.{has_event_of, has_message_of, is_ready_of}
 use Rattle.st_core.specs.Start.{first_state}
@@ -15,7 +14,7 @@ use Rattle.st_door.specs.declared.door_content.DoorContent.{DoorContent}
 use Rattle.st_door.specs.declared.door_state.DoorState.TheVariants.{Locked}
 use Rattle.st_door.specs.declared.service.Service.{Service}
 use Rattle.st_door.specs.declared.service.Service.TheVariants.{Turn, TakeOut, Deliver}
-use Rattle.st_door.specs.Doors.{DoorMachine, NamedDoor, KeptDoor, IsFirst, change_first, door_named, door_told_by, is_ready_door, kept_of, kept_told_by, RestsOutside, SameLabels}
+use Rattle.st_door.specs.Doors.{DoorMachine, NamedDoor, KeptDoor, IsFirst, change_first, door_named, door_told_by, is_ready_door, kept_of, kept_told_by, SameLabels}
 use Rattle.st_door.specs.Settling.{command_for, delivered, gone_on, gone_on_by, has_id, message_at, run_until_idle, served_door, source_for}
 use Rattle.st_door.proofs.DoorLemmas.{IsFirst-changed, IsFirst-found}
 use Rattle.st_door.proofs.ToldLemmas.{id-told}
@@ -33,6 +32,11 @@ IsFirst-after test (x ∷ xs) (suc place) d h before here = (
   before zero (omega arith),
   IsFirst-after test xs place d (omega arith) (λ k less. before (suc k) (omega arith)) here,
 )
+
+pub first-passes : {X : Type 0} (test : X → Bool) (xs : List X) (place : ℕ) (d : X) → IsFirst test xs place → test (get_or xs place d) ≡ true
+first-passes test [] place d h = absurd h
+first-passes test (x ∷ xs) zero d h = h
+first-passes test (x ∷ xs) (suc place) d h = first-passes test xs place d h.1
 
 pub list_any-first : {X : Type 0} (test : X → Bool) (xs : List X) (place : ℕ) → IsFirst test xs place → list_any test xs ≡ true
 list_any-first test [] place h = absurd h
@@ -75,43 +79,7 @@ pub labels-served : (old doors new : List NamedDoor) (place : ℕ) (service : Se
 labels-served old doors new place service same less served =
     rw served (labels-more old doors _ same (labels-told doors place no_door (source_for service) (command_for service) less))
 
--- ---- which doors rest
-pub rests-set : (doors : List NamedDoor) (from until place : ℕ) (x : NamedDoor) → from ≤ place → place < until
-    → RestsOutside from until doors → RestsOutside from until (set doors place x)
-rests-set doors from until place x low high rests = λ k d less outside.
-    let other : k ≢ place = elim outside [ inl before ↦ omega arith | inr after ↦ omega arith ] in
-    let within : k < length doors = omega (arith, less, length-set {A = NamedDoor}) in
-    rw get_or-set_other (rests k d within outside)
-
-pub rests-wider : (doors : List NamedDoor) (from until low high : ℕ) → low ≤ from → until ≤ high → RestsOutside from until doors → RestsOutside low high doors
-rests-wider doors from until low high before after rests = λ k d less outside.
-    rests k d less (elim outside [ inl first ↦ inl (omega (arith, before)) | inr last ↦ inr (omega (arith, after)) ])
-
--- two doors are served, one after the other
-pub rests-delivered : (doors mid new : List NamedDoor) (first until place low high : ℕ) (x y : NamedDoor) → mid ≡ set doors first x → new ≡ set mid place y
-    → low ≤ first → low ≤ place → until ≤ high → place < high → first < until → RestsOutside first until doors → RestsOutside low high new
-rests-delivered doors mid new first until place low high x y taken posted before below after above less rests =
-    let here : RestsOutside first until mid = rw taken (rests-set doors first until first x (omega arith) less rests) in
-    rw posted (rests-set mid low high place y below above (rests-wider mid first until low high before after here))
-
--- one that rests is passed over
-pub rests-further : (doors : List NamedDoor) (from until : ℕ) → ((d : NamedDoor) → is_ready_door (get_or doors from d) ≡ false)
-    → RestsOutside from until doors → RestsOutside (from + 1) until doors
-rests-further doors from until here rests = λ k d there outside. elim outside [
-  | inl before ↦ elim (cases_lt k from) [
-    | inl first ↦ rests k d there (inl first)
-    | inr last ↦ let same : k ≡ from = omega (arith, before) in rw same (here d)
-  ]
-  | inr after ↦ rests k d there (inr after)
-]
-
 -- ---- one step, and none
--- the first ready door is found
-pub first-ready : (doors : List NamedDoor) (first until : ℕ) → first < until → first < length doors → RestsOutside first until doors
-    → is_ready_door (get_or doors first no_door) ≡ true → IsFirst is_ready_door doors first
-first-ready doors first until less within rests ready =
-    IsFirst-after is_ready_door doors first no_door within (λ k before. rests k no_door (omega arith) (inl before)) ready
-
 pub some-message : (messages : List (Message DoorContent)) → has_messages messages ≡ true → first_message messages ≡ None → ⊥
 some-message [] some none = cc
 some-message (message ∷ messages) some none = cc
@@ -184,15 +152,10 @@ pub run-gone_on : (steps moment : ℕ) (doors : List NamedDoor) (first : ℕ) �
 unfolding run_until_idle
 run-gone_on steps moment doors first here = rw (list_any-first is_ready_door doors first here, run_until_idle) refl
 
-pub run-rested : (steps moment : ℕ) (doors : List NamedDoor) (until : ℕ) → RestsOutside until until doors → run_until_idle steps moment doors ≡ doors
+pub run-rested : (steps moment : ℕ) (doors : List NamedDoor) → list_any is_ready_door doors ≡ false → run_until_idle steps moment doors ≡ doors
 unfolding run_until_idle
-run-rested zero moment doors until rests = refl
-run-rested (suc steps) moment doors until rests =
-    let none : list_any is_ready_door doors ≡ false = list_any-none is_ready_door doors no_door (λ k within. rests k no_door within (elim (cases_lt k until) [
-      | inl before ↦ inl before
-      | inr after ↦ inr after
-    ])) in
-    rw (none, run_until_idle) refl
+run-rested zero moment doors none = refl
+run-rested (suc steps) moment doors none = rw (none, run_until_idle) refl
 
 pub run-none : (moment : ℕ) (doors : List NamedDoor) → run_until_idle 0 moment doors ≡ doors
 unfolding run_until_idle

@@ -16,3 +16,4 @@ pub mod LateDoorsLemmas
 pub mod TickingLemmas
 pub mod ScriptLemmas
 pub mod ForgettingLemmas
+pub mod PlacesLemmas

@@ -26,6 +26,7 @@ mod lines;
 mod mode;
 mod numbers;
 mod output;
+mod places;
 mod printing;
 mod run;
 mod run_output;
