@@ -27,7 +27,8 @@ fn workers_print_what_run_script_prints(rt: HostRuntime) {
     }
     let long = long_script(rt.alloc()).expect(&rt, "memory");
     let (wanted, output) = run_once(threads, rt.alloc(), long.as_slice(), by(0));
-    same(&rt, "the long script's answer", &wanted, &Ok(0));
+    // Some of the lines that are drawn are refused.
+    same(&rt, "the long script's answer", &wanted, &Ok(1));
     for workers in WORKERS {
         print_the_worked(&rt, threads, workers);
         let way = by(workers.min(16));
