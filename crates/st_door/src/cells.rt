@@ -22,7 +22,7 @@ use std::alloc::AllocError;
 pub(crate) const PORT: u64 = 1;
 
 /// How many entries the journal of a door may have. It may have more where more events wait.
-const JOURNAL_LIMIT: usize = 6;
+const JOURNAL_LIMIT: usize = 2;
 
 /// How many commands a door takes. No script has as many: it has at most 2^20 lines, with 2^21 commands at most for one
 /// door.
