@@ -1,0 +1,2 @@
+-- The definitions computed on an example.
+pub mod WorkedAlarms

@@ -1,0 +1,92 @@
+//! A hundred bells, which set, set anew and cancel the time-outs of each other, and are served by workers.
+use super::belfry::{Belfry, HOUR, Threads, no_bell};
+use super::bell::Order;
+use super::host::{Host, got, holds, same};
+use st_core::Time;
+use st_hall::MachineId;
+use st_pool::Scheduler;
+use std::process::Abort;
+
+/// What the bell before it tells a bell, by its place: at once, soon, not to ring, and a little later.
+fn told(place: usize) -> Time {
+    match place % 4 {
+        0 => Time::After(0),
+        1 => Time::After(30),
+        2 => Time::Infinity,
+        _ => Time::After(50),
+    }
+}
+
+/// How often a bell rings that is told so, and how often it is ticked: a time-out of no time needs no tick.
+fn wanted(place: usize) -> (u32, u64) {
+    match place % 4 {
+        0 => (1, 0),
+        2 => (0, 0),
+        _ => (1, 1),
+    }
+}
+
+/// Each bell tells the next one, and the last one the first.
+fn tell_each<R: Threads>(
+    rt: &impl Abort,
+    belfry: &Belfry<R>,
+    bells: &[MachineId],
+    scheduler: &Scheduler,
+) {
+    for place in 0..bells.len() {
+        let last = if place == 0 {
+            bells.len() - 1
+        } else {
+            place - 1
+        };
+        let order = Order::Tell(bells[place], told(place));
+        belfry.tells(rt, bells[last], scheduler, order);
+    }
+}
+
+/// Waits until each bell rang as often as it is to.
+fn ring_each<R: Threads>(rt: &impl Abort, belfry: &Belfry<R>, bells: &[MachineId]) {
+    for place in 0..bells.len() {
+        belfry.rings(rt, bells[place], wanted(place).0);
+    }
+}
+
+/// Each bell was ticked as often as it is to be.
+fn ticks_each<R: Threads>(rt: &impl Abort, belfry: &Belfry<R>, bells: &[MachineId]) {
+    for place in 0..bells.len() {
+        let ticks = belfry.ticks(rt, bells[place]);
+        same(rt, "so many ticks", &ticks, &wanted(place).1);
+    }
+}
+
+#[test]
+fn each_of_a_hundred_rings_in_its_time(rt: HostRuntime) {
+    let threads = rt;
+    let rt = Host::with_memory(rt);
+    let belfry = no_bell(&rt, threads);
+    let mut bells = Vec::new(rt.alloc());
+    for _ in 0..100 {
+        let id = belfry.starts(&rt, HOUR);
+        bells.push(id).expect(&rt, "a place");
+    }
+    let mut pool = belfry.pool(&rt);
+    let scheduler = pool.pool().scheduler().expect(&rt, "a scheduler");
+    tell_each(&rt, &belfry, bells.as_slice(), &scheduler);
+    ring_each(&rt, &belfry, bells.as_slice());
+    pool.pool().drain();
+    let end = got(&rt, "there is memory", pool.close());
+    same(&rt, "ticks in all", &end.ticks, &50);
+    holds(
+        &rt,
+        "no token is left",
+        end.left == None && end.pool.left.is_empty(),
+    );
+    ring_each(&rt, &belfry, bells.as_slice());
+    ticks_each(&rt, &belfry, bells.as_slice());
+    drop(end);
+    drop(scheduler);
+    drop(pool);
+    drop(bells);
+    drop(belfry);
+    rt.end_with_memory();
+}
