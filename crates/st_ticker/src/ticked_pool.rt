@@ -30,7 +30,7 @@ impl<R: Runtime, C: Drop + Send + 'static, T: Ticks + Drop + Send + Sync + 'stat
     T,
 > {
     /// Starts 1 to 16 workers, as `Pool::start` does, that serve machines behind a ticker of these machines, and the thread
-    /// of that ticker.
+    /// of that ticker. A ticker that was ended is not started again: its thread would end at once.
     ///
     /// Where there is no memory for all of them, or no thread, none is left running.
     ///

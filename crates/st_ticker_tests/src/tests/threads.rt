@@ -4,7 +4,7 @@ use super::bell::Order;
 use super::host::{Host, got, holds, same};
 use st_core::Time;
 use std::thread;
-use std::time::Instant;
+use std::time::{Duration, Instant};
 
 /// A bell is to ring in 49 days, and then one that is to ring soon. The thread sleeps for long again when it is let go.
 #[test]
@@ -14,6 +14,8 @@ fn an_earlier_time_out_and_the_end_wake_the_sleeper(rt: HostRuntime) {
     let belfry = no_bell(&rt, threads);
     belfry.starts(&rt, Time::After(u32::MAX));
     let pool = belfry.pool(&rt);
+    // The thread is asleep by now, as a rule.
+    thread::sleep(&threads, Duration::from_millis(100));
     let early = belfry.starts(&rt, Time::After(60));
     belfry.rings(&rt, early, 1);
     let start = got(&rt, "the clock is read", Instant::now(&threads));
