@@ -4,6 +4,7 @@ use crate::drive::{
     call_each, cycle, end, expire_each, finish_backwards, finish_in_order, post_all_and_turn,
     post_and_turn, post_and_turn_each, post_tick_and_turn, started, take_out_each, turn_each,
 };
+use crate::due::take_and_note_each;
 use crate::latch::{Latch, Press};
 use crate::load::{Load, Work};
 use crate::pool::play;
@@ -12,11 +13,13 @@ use crate::robbed_queue::RobbedQueue;
 use crate::rounds::rounds;
 use crate::shared::{Shared, cast_in_threads, share};
 use crate::shared_queue::SharedQueue;
+use crate::watch::watch_each;
 use crate::workers::{call_to_pool, cast_to_pool, insert_by_workers, pass_by_workers};
 use st_core::{Core, MachineId, Refusal};
 use st_pool::Runtime;
 use st_runq::Lane;
 use std::alloc::Global;
+use std::rt::Clock;
 use std::sync::{Arc, Wait};
 
 /// The identity of a measured machine.
@@ -72,6 +75,9 @@ pub enum Line {
     Steals,
     /// The same with the shared run queue.
     SharedQueue,
+    /// The first of so many machines is taken when it is due, and noted again, to come last: those that are taken in time
+    /// are counted.
+    Due,
     /// Casts to each of so many machines of a pool in turn, each in four steps: post, give, take and turn.
     Pool,
     /// Casts that keep the state, to a machine in a cell whose journal is cut where it has so many entries.
@@ -89,6 +95,8 @@ pub enum Line {
     /// Rounds of a worker on whose own run queue so many tokens stand, and whose turns do nothing: those that serve a
     /// token are counted.
     Rounds,
+    /// A ticker looks when a machine is due that has no time-out, as it does behind each turn.
+    Watch,
     /// Casts that keep the state, to a machine that a pool's one worker serves, and whose journal is cut where so many
     /// were posted.
     PoolCasts,
@@ -110,7 +118,7 @@ pub enum Line {
 }
 
 /// Each line by its name.
-pub const LINES: [(&str, Line); 38] = [
+pub const LINES: [(&str, Line); 40] = [
     ("casts", Line::Casts),
     ("casts-beside", Line::CastsBeside),
     ("casts-with-ticks", Line::CastsWithTicks),
@@ -133,6 +141,7 @@ pub const LINES: [(&str, Line); 38] = [
     ("own-queue", Line::OwnQueue),
     ("steals", Line::Steals),
     ("shared-queue", Line::SharedQueue),
+    ("due", Line::Due),
     ("pool", Line::Pool),
     ("cell-casts", Line::CellCasts),
     ("cell-calls", Line::CellCalls),
@@ -141,6 +150,7 @@ pub const LINES: [(&str, Line); 38] = [
     ("threads-of-one", Line::ThreadsOfOne),
     ("threads-apart", Line::ThreadsApart),
     ("rounds", Line::Rounds),
+    ("watch", Line::Watch),
     ("pool-casts", Line::PoolCasts),
     ("pool-calls", Line::PoolCalls),
     ("pool-1", Line::OneWorker),
@@ -153,8 +163,8 @@ pub const LINES: [(&str, Line); 38] = [
 
 impl Line {
     /// Does the line so many times, and answers how many events were handled, replies collected, machines ended, tokens
-    /// taken or rounds made that served one.
-    pub fn done<R: Runtime>(
+    /// taken, rounds made that served one, or looks made.
+    pub fn done<R: Runtime + Clock>(
         self,
         rt: R,
         alloc: Global,
@@ -162,12 +172,13 @@ impl Line {
         more: u32,
     ) -> Result<u64, Refusal> {
         match self {
-            Line::OwnQueue | Line::Steals | Line::SharedQueue => {
+            Line::OwnQueue | Line::Steals | Line::SharedQueue | Line::Due => {
                 self.done_on_queue(&rt, alloc, count, more)
             }
             Line::PortCasts | Line::PortCalls => self.done_by_port(rt, alloc, count, more),
             Line::ThreadsOfOne | Line::ThreadsApart => self.done_by_threads(rt, alloc, count, more),
             Line::Rounds => rounds(&rt, alloc, count, more),
+            Line::Watch => watch_each(rt, alloc, count),
             Line::PoolCasts | Line::PoolCalls => self.done_by_client(rt, alloc, count, more),
             Line::OneWorker | Line::TwoWorkers | Line::FourWorkers => {
                 self.done_by_workers(rt, alloc, count, more)
@@ -179,7 +190,7 @@ impl Line {
         }
     }
 
-    /// Does a line of a run queue.
+    /// Does a line of a queue of tokens or of machines.
     fn done_on_queue<R: Wait>(
         self,
         rt: &R,
@@ -190,6 +201,7 @@ impl Line {
         match self {
             Line::OwnQueue => pass(&mut Lane::new(alloc)?, count, more),
             Line::Steals => pass(&mut RobbedQueue::new(alloc)?, count, more),
+            Line::Due => take_and_note_each(alloc, count, more),
             _ => pass(&mut SharedQueue::new(rt, alloc)?, count, more),
         }
     }

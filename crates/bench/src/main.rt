@@ -1,12 +1,13 @@
 //! `bench NAME COUNT [MORE]`: does what one line says, COUNT times, and prints how many events were handled, how many
-//! tokens came out of a run queue in order, or how many rounds served one. It has no clock: `tools/count-instructions`
-//! counts what the processor does.
+//! tokens came out of a run queue in order, how many rounds served one, or what else the line counts. It takes no time:
+//! `tools/count-instructions` counts what the processor does.
 //! `bench all COUNT [MORE]` does each line.
 #![tactic(auto)]
 
 mod cell;
 mod client;
 mod drive;
+mod due;
 mod halls;
 mod latch;
 mod line;
@@ -19,6 +20,7 @@ mod rounds;
 mod shared;
 mod shared_queue;
 mod silent;
+mod watch;
 mod workers;
 
 use line::{LINES, Line};
@@ -26,6 +28,7 @@ use st_core::Refusal;
 use st_pool::Runtime;
 use std::alloc::Global;
 use std::process::ExitCode;
+use std::rt::Clock;
 use std::{env, io};
 
 /// The status of words that are not understood.
@@ -42,7 +45,7 @@ fn line_of(name: &str) -> Option<Line> {
 }
 
 /// Does one line, and writes down what it counts.
-fn measure<R: Runtime>(
+fn measure<R: Runtime + Clock>(
     rt: R,
     alloc: Global,
     name: &str,
@@ -57,7 +60,7 @@ fn measure<R: Runtime>(
 }
 
 /// Does the line of a name, or each of them, and answers what was written down; nothing where no line has that name.
-fn report<R: Runtime>(
+fn report<R: Runtime + Clock>(
     rt: R,
     alloc: Global,
     name: &str,
