@@ -160,11 +160,11 @@ impl<R: Threads> Belfry<R> {
         holds(rt, "it is in time", passed.as_secs() < PATIENCE);
     }
 
-    /// Waits until a bell was ticked so often.
-    pub fn is_ticked(&self, rt: &impl Abort, id: MachineId, times: u64) {
+    /// Waits until so many time-outs of a bell came.
+    pub fn waits(&self, rt: &impl Abort, id: MachineId, times: u64) {
         let start = got(rt, "the clock is read", Instant::now(&self.threads));
         for _ in self.threads.forever() {
-            if self.ticks(rt, id) == times {
+            if self.came(rt, id) == times {
                 break;
             }
             self.is_in_time(rt, start);
@@ -172,24 +172,24 @@ impl<R: Threads> Belfry<R> {
         }
     }
 
-    /// How often a bell was ticked. Each tick found a time-out that was due: so none came early, nor in vain.
-    pub fn ticks(&self, rt: &impl Abort, id: MachineId) -> u64 {
+    /// How many time-outs of a bell came. Each tick found one that was due: so none came early.
+    pub fn came(&self, rt: &impl Abort, id: MachineId) -> u64 {
         let machine = self.bell(rt, id);
         let journal = got(
             rt,
             "there is memory",
             machine.journal(&self.threads, "bell"),
         );
-        let mut ticks = 0u64;
+        let mut came = 0u64;
         for entry in journal.entries.as_slice() {
             if let Some(expired) = expired(entry) {
-                holds(rt, "a time-out was due", expired == 1);
-                ticks = ticks.saturating_add(1);
+                holds(rt, "a time-out was due", expired > 0);
+                came = came.saturating_add(expired);
             }
         }
         drop(journal);
         drop(machine);
-        ticks
+        came
     }
 }
 

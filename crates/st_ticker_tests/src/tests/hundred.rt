@@ -17,7 +17,7 @@ fn told(place: usize) -> Time {
     }
 }
 
-/// How often a bell rings that is told so, and how often it is ticked: a time-out of no time needs no tick.
+/// How often a bell rings that is told so, and how many of its time-outs come by a tick: one of no time needs none.
 fn wanted(place: usize) -> (u32, u64) {
     match place % 4 {
         0 => (1, 0),
@@ -51,11 +51,11 @@ fn ring_each<R: Threads>(rt: &impl Abort, belfry: &Belfry<R>, bells: &[MachineId
     }
 }
 
-/// Each bell was ticked as often as it is to be.
-fn ticks_each<R: Threads>(rt: &impl Abort, belfry: &Belfry<R>, bells: &[MachineId]) {
+/// As many time-outs of each bell came by a tick as are to.
+fn come_each<R: Threads>(rt: &impl Abort, belfry: &Belfry<R>, bells: &[MachineId]) {
     for place in 0..bells.len() {
-        let ticks = belfry.ticks(rt, bells[place]);
-        same(rt, "so many ticks", &ticks, &wanted(place).1);
+        let came = belfry.came(rt, bells[place]);
+        same(rt, "so many time-outs", &came, &wanted(place).1);
     }
 }
 
@@ -82,7 +82,7 @@ fn each_of_a_hundred_rings_in_its_time(rt: HostRuntime) {
         end.left == None && end.pool.left.is_empty(),
     );
     ring_each(&rt, &belfry, bells.as_slice());
-    ticks_each(&rt, &belfry, bells.as_slice());
+    come_each(&rt, &belfry, bells.as_slice());
     drop(end);
     drop(scheduler);
     drop(pool);
