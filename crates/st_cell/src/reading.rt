@@ -120,10 +120,10 @@ impl<M: Module> Journaled<M> {
     {
         let (id, from) = (self.scheduled.core().id(), self.base.latest);
         let label = String::from_str(self.alloc, label)?;
-        let base = self.scheduled.snapshot()?;
+        let snapshot = self.scheduled.snapshot()?;
         let journal = Vec::with_capacity(self.alloc, 1)?;
         let entries = mem::replace(&mut self.journal, journal);
-        self.base = base;
+        self.base = snapshot;
         Ok(Journal {
             id,
             label,

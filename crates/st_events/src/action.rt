@@ -24,7 +24,7 @@ pub enum Action<C> {
     /// Gives a timer's running time-out this content, and leaves all else of it; where none runs, sets the
     /// timer for no time. Manual: `timeout_update_action()`.
     Update(Timer, C),
-    /// Is to send a message to a machine. No machine does so yet: it has no effect. Ours:
+    /// Sends a message to a machine: it waits in its sender's outbox until it is taken out. Ours:
     /// docs/DECISIONS.md, Messages.
     Send(MachineId, C),
     /// Is accepted and has no effect. Manual: `hibernate()`; ours: docs/DECISIONS.md, Hibernation.

@@ -14,4 +14,4 @@ returns-clause-journal g c = record {
 -- the machine as it is is the base, and the journal is empty
 pub returns-clause-cut : goal.returns-clause-cut
 returns-clause-cut g c =
-    rw (c.replace-entries.ensures.after, c.in_ok-journal.ensures.items, c.in_ok-base.ensures.snapshot, c.in_ok-base.ensures.unchanged) (ap (λ held. cut held.cell) c.self.view_is)
+    rw (c.replace-entries.ensures.after, c.in_ok-journal.ensures.items, c.in_ok-snapshot.ensures.snapshot, c.in_ok-snapshot.ensures.unchanged) (ap (λ held. cut held.cell) c.self.view_is)
