@@ -160,6 +160,13 @@ impl<R: Threads> Belfry<R> {
         holds(rt, "it is in time", passed.as_secs() < PATIENCE);
     }
 
+    /// So many milliseconds have passed since then, by the system's clock and not by the ticker's moments. A moment is cut to
+    /// whole milliseconds, so a time-out may come up to one before its time.
+    pub fn is_not_early(&self, rt: &impl Abort, start: Instant, least: u128) {
+        let passed = got(rt, "the clock is read", start.elapsed(&self.threads));
+        holds(rt, "it is not early", passed.as_millis() >= least);
+    }
+
     /// Waits until so many time-outs of a bell came.
     pub fn waits(&self, rt: &impl Abort, id: MachineId, times: u64) {
         let start = got(rt, "the clock is read", Instant::now(&self.threads));
@@ -172,7 +179,7 @@ impl<R: Threads> Belfry<R> {
         }
     }
 
-    /// How many time-outs of a bell came. Each tick found one that was due: so none came early.
+    /// How many time-outs of a bell came. Each tick found one that was due by the moment that it told.
     pub fn came(&self, rt: &impl Abort, id: MachineId) -> u64 {
         let machine = self.bell(rt, id);
         let journal = got(

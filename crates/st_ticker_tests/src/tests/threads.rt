@@ -16,8 +16,10 @@ fn an_earlier_time_out_and_the_end_wake_the_sleeper(rt: HostRuntime) {
     let pool = belfry.pool(&rt);
     // The thread is asleep by now, as a rule.
     thread::sleep(&threads, Duration::from_millis(100));
+    let before = got(&rt, "the clock is read", Instant::now(&threads));
     let early = belfry.starts(&rt, Time::After(60));
     belfry.rings(&rt, early, 1);
+    belfry.is_not_early(&rt, before, 59);
     let start = got(&rt, "the clock is read", Instant::now(&threads));
     drop(pool);
     belfry.is_in_time(&rt, start);
