@@ -11,8 +11,10 @@ use crate::pool::play;
 use crate::queue::pass;
 use crate::robbed_queue::RobbedQueue;
 use crate::rounds::rounds;
+use crate::services::{call_to_service, cast_to_service, insert_in_service};
 use crate::shared::{Shared, cast_in_threads, share};
 use crate::shared_queue::SharedQueue;
+use crate::turns::{ticked_turns, turns};
 use crate::watch::watch_each;
 use crate::workers::{call_to_pool, cast_to_pool, insert_by_workers, pass_by_workers};
 use st_core::{Core, MachineId, Refusal};
@@ -97,6 +99,11 @@ pub enum Line {
     Rounds,
     /// A ticker looks when a machine is due that has no time-out, as it does behind each turn.
     Watch,
+    /// Turns that a worker makes of a machine with so many running time-outs, which change none, behind a gate at which nobody
+    /// waits.
+    Turns,
+    /// The same behind a ticker.
+    TickedTurns,
     /// Casts that keep the state, to a machine that a pool's one worker serves, and whose journal is cut where so many
     /// were posted.
     PoolCasts,
@@ -115,10 +122,18 @@ pub enum Line {
     RingByTwo,
     /// The same by four workers.
     RingByFour,
+    /// Casts that keep the state, to a machine of a service with one worker, whose journal has so many entries, and a call.
+    ServiceCasts,
+    /// Calls of such a machine.
+    ServiceCalls,
+    /// Events that so many machines of a service with one worker insert and handle, and a call of each.
+    ServiceOfOne,
+    /// The same by four workers.
+    ServiceOfFour,
 }
 
 /// Each line by its name.
-pub const LINES: [(&str, Line); 40] = [
+pub const LINES: [(&str, Line); 46] = [
     ("casts", Line::Casts),
     ("casts-beside", Line::CastsBeside),
     ("casts-with-ticks", Line::CastsWithTicks),
@@ -151,6 +166,8 @@ pub const LINES: [(&str, Line); 40] = [
     ("threads-apart", Line::ThreadsApart),
     ("rounds", Line::Rounds),
     ("watch", Line::Watch),
+    ("turns", Line::Turns),
+    ("ticked-turns", Line::TickedTurns),
     ("pool-casts", Line::PoolCasts),
     ("pool-calls", Line::PoolCalls),
     ("pool-1", Line::OneWorker),
@@ -159,6 +176,10 @@ pub const LINES: [(&str, Line); 40] = [
     ("ring-1", Line::RingByOne),
     ("ring-2", Line::RingByTwo),
     ("ring-4", Line::RingByFour),
+    ("service-casts", Line::ServiceCasts),
+    ("service-calls", Line::ServiceCalls),
+    ("service-1", Line::ServiceOfOne),
+    ("service-4", Line::ServiceOfFour),
 ];
 
 impl Line {
@@ -179,6 +200,8 @@ impl Line {
             Line::ThreadsOfOne | Line::ThreadsApart => self.done_by_threads(rt, alloc, count, more),
             Line::Rounds => rounds(&rt, alloc, count, more),
             Line::Watch => watch_each(rt, alloc, count),
+            Line::Turns => turns(rt, alloc, count, more),
+            Line::TickedTurns => ticked_turns(rt, alloc, count, more),
             Line::PoolCasts | Line::PoolCalls => self.done_by_client(rt, alloc, count, more),
             Line::OneWorker | Line::TwoWorkers | Line::FourWorkers => {
                 self.done_by_workers(rt, alloc, count, more)
@@ -186,7 +209,26 @@ impl Line {
             Line::RingByOne | Line::RingByTwo | Line::RingByFour => {
                 self.done_round(rt, alloc, count, more)
             }
+            Line::ServiceCasts | Line::ServiceCalls | Line::ServiceOfOne | Line::ServiceOfFour => {
+                self.done_by_service(rt, alloc, count, more)
+            }
             _ => self.done_by_one(alloc, count, more),
+        }
+    }
+
+    /// Does a line of a service.
+    fn done_by_service<R: Runtime + Clock>(
+        self,
+        rt: R,
+        alloc: Global,
+        count: u32,
+        more: u32,
+    ) -> Result<u64, Refusal> {
+        match self {
+            Line::ServiceCasts => cast_to_service(rt, alloc, count, more),
+            Line::ServiceCalls => call_to_service(rt, alloc, count, more),
+            Line::ServiceOfOne => insert_in_service(rt, alloc, 1, count, more),
+            _ => insert_in_service(rt, alloc, 4, count, more),
         }
     }
 

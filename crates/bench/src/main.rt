@@ -17,9 +17,11 @@ mod queue;
 mod restless;
 mod robbed_queue;
 mod rounds;
+mod services;
 mod shared;
 mod shared_queue;
 mod silent;
+mod turns;
 mod watch;
 mod workers;
 

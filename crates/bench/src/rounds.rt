@@ -8,7 +8,7 @@ use std::alloc::Global;
 use std::sync::Wait;
 
 /// A worker, the only one, on whose own run queue so many tokens stand.
-fn worker(alloc: Global, tokens: u32) -> Result<Option<Worker<u32>>, Refusal> {
+pub fn worker<C: Drop>(alloc: Global, tokens: u32) -> Result<Option<Worker<C>>, Refusal> {
     let inlet = Inlet::new(alloc)?;
     let Some(seats) = Seats::for_workers(alloc, &inlet, 1)?.pop() else {
         return Ok(None);

@@ -75,7 +75,8 @@ impl<R: Wait + Drop> Celled for Shared<R> {
             return Ok(());
         }
         self.entries = 0;
-        self.machine.cut(&self.rt)
+        self.machine.cut_beyond(&self.rt, 0)?;
+        Ok(())
     }
 }
 

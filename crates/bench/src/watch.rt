@@ -10,7 +10,7 @@ use std::sync::Arc;
 use std::time::Instant;
 
 /// A ticker of a hall.
-type LoadTicker<R> = Ticker<Load, R>;
+pub type LoadTicker<R> = Ticker<Load, R>;
 
 /// A ticker of a hall with one machine, which has no time-out.
 fn ticker<R: Runtime + Clock>(

@@ -1,9 +1,16 @@
 -- A call posts one event at its port, and the request that it hands out, if it hands one out, is that event's.
-use Rattle.std.specs.Prelude.{◌≡◌, ℕ, Option, Some, None, IfSome}
+use Rattle.std.specs.Prelude.{◌≡◌, ℕ, Option, Some, None, IfSome, Result, Ok, Err}
+use Rattle.st_core.specs.Callbacks.{Callbacks}
+use Rattle.st_core.specs.declared.command.Command.TheVariants as command
 use Rattle.st_core.specs.declared.entry.Entry.TheVariants.{Call}
+use Rattle.st_events.specs.declared.refusal.Refusal.{Refusal}
 use Rattle.st_events.specs.declared.tag.Tag.{Tag}
 use Rattle.st_events.specs.declared.token.Token.{Token}
 use Rattle.st_events.specs.declared.machine_id.MachineId.{MachineId}
+use Rattle.st_requests.specs.declared.collected.Collected.{Collected}
+use Rattle.st_requests.specs.declared.collected.Collected.TheVariants as collected
+use Rattle.st_scheduled.specs.Answered.{collected_as}
+use Rattle.st_lock.specs.Machines.{IsToldSomewhere}
 use Rattle.st_lock.specs.Ports.{PortState, posted}
 use Rattle.st_client.specs.declared.called.Called.{Called}
 use Rattle.st_client.specs.declared.called.Called.TheVariants.{Reply, Stopped, Gone, Uncollected, Unscheduled}
@@ -35,3 +42,17 @@ module _ {M S D C A : Type 0} where
     pub posted : new ≡ posted (record { number = number; entry = Call; content = content }) old
     pub request : IfSome (request_in called) (λ (tag : Tag). tag ≡ record { machine = old.machine; request = number })
     pub token : NamesMachine old.machine (token_in called)
+
+module _ {M S D C : Type 0} (callbacks : M → Callbacks S D C) where
+  -- some lawful cell of the request's machine answers a collect so
+  abbrev pub IsCollected : Tag → Result (Collected C) Refusal → Type 0
+  IsCollected id collected = IsToldSomewhere callbacks id.machine (command.Collect id) (collected_as collected)
+
+module _ {M S D C A : Type 0} (callbacks : M → Callbacks S D C) where
+  -- what waiting for a request answers: what some such cell answers a collect, and never that the reply is still waited for
+  abbrev pub IsReceived : Tag → Called M S D C A → Type 0
+  IsReceived id (Reply content) = IsCollected callbacks id (Ok (collected.Reply content))
+  IsReceived id (Stopped reason) = IsCollected callbacks id (Ok (collected.Stopped reason))
+  IsReceived id Gone = IsCollected callbacks id (Ok collected.Gone)
+  IsReceived id (Uncollected again refusal) = (again ≡ id) × IsCollected callbacks id (Err refusal)
+  IsReceived id (Unscheduled again token) = ⊥

@@ -1,10 +1,10 @@
 //! Requests are waited for, asked about and answered.
-ghost use Rattle.std.specs.Prelude.{◌≡◌, IfOk, IfErr, OnErr};
+ghost use Rattle.std.specs.Prelude.{◌≡◌, None, IfOk, IfErr, IfSome, OnErr};
 ghost use Rattle.st_core.specs.declared.command.Command.TheVariants as command;
 ghost use Rattle.st_core.specs.Callbacks.{callbacks_of};
 ghost use Rattle.st_scheduled.specs.Answered.{collected_as, replied_as};
 ghost use Rattle.st_lock.specs.Machines.{id_of, IsToldSomewhere};
-ghost use Rattle.st_client.specs.Called.{IsCall};
+ghost use Rattle.st_client.specs.Called.{IsCall, IsReceived, request_in, token_in};
 
 use crate::{Called, RequestId, Wake, send_request};
 use st_collection::Request;
@@ -35,12 +35,27 @@ pub fn call<M: Module, W: Wake, R: Wait>(
     if let Some(token) = left {
         return Ok(Called::Unscheduled(id, token));
     }
+    Ok(receive(rt, id))
+}
+
+/// Waits for the reply to a request, or the machine's end, and is handed what is kept for it, once: `Machine::wait_collect` of
+/// its tag. It never answers `Unscheduled`. Where the machine refuses with `Exhausted` or `NoMemory`, what is kept stays, and
+/// the request's id comes back with the refusal.
+///
+/// It waits for good where nobody serves the machine. No contract says that it ends.
+///
+/// Manual: `receive_response/1`.
+pub fn receive<M: Module, R: Wait>(rt: &R, id: RequestId<M>) -> Called<M>
+    ensures received { IsReceived (callbacks_of M.Module M.State.eq) id result }
+    ensures request { IfSome (request_in result) (λ tag. tag ≡ id) }
+    ensures token { token_in result ≡ None }
+{
     match id.machine().wait_collect(rt, id.tag()) {
-        Ok(Collected::Reply(content)) => Ok(Called::Reply(content)),
-        Ok(Collected::Stopped(reason)) => Ok(Called::Stopped(reason)),
-        Ok(Collected::Gone) => Ok(Called::Gone),
+        Ok(Collected::Reply(content)) => Called::Reply(content),
+        Ok(Collected::Stopped(reason)) => Called::Stopped(reason),
+        Ok(Collected::Gone) => Called::Gone,
         Ok(Collected::Waiting) => unreachable!(),
-        Err(refusal) => Ok(Called::Uncollected(id, refusal)),
+        Err(refusal) => Called::Uncollected(id, refusal),
     }
 }
 

@@ -10,7 +10,7 @@ mod sends;
 mod sent;
 
 pub use called::Called;
-pub use calls::{call, check, reply};
+pub use calls::{call, check, receive, reply};
 pub use checked::Checked;
 pub use collection::{Collection, check_any};
 pub use request_id::RequestId;

@@ -32,7 +32,9 @@ impl<M: Module> Model for RequestId<M> {
 
 impl<M: Module> RequestId<M> {
     /// The request of a machine's call of this number.
-    pub(crate) fn new(machine: Arc<Machine<M>>, number: u64) -> RequestId<M>
+    ///
+    /// Ours: docs/DECISIONS.md, Requests.
+    pub fn new(machine: Arc<Machine<M>>, number: u64) -> RequestId<M>
         ensures { result ≡ record { machine = id_of (arc_value machine); request = number } }
     {
         let tag = machine.tag(number);

@@ -177,25 +177,3 @@ turned cell new token moment result ready work own found turns =
     (rw work refl, rw work refl, rw work refl, refl)
     (found-memory token done.0 (is_some new.scheduled.token) (λ none. found (ap turn_refusal done.2 ∙ none)))
     done.1).1
-
--- ---- doors in cells
--- the door in a cell that was told a command: the machine is the definition's, and so is the history where it is kept
-pub door-told : (keeps : Bool) (source : Source) (command : Command DoorContent) (old new : DoorCellState) → IsDoorCell keeps old → HasToldBy source command old new
-    → door_in keeps new ≡ kept_told_by source command (door_in keeps old)
-door-told false source command old new is told = ap (λ (machine : DoorMachine). record { machine = machine; history = None }) told.machine
-door-told true source command old new is told =
-    let entries : new.journal ≡ old.journal ++ recorded (length old.journal + 1) source command (told_in old command).0 =
-    told.journal ∙ ap (λ (count : ℕ). old.journal ++ recorded (count + 1) source command (told_in old command).0) (is.whole refl) in
-    let latest : new.base.latest ≡ old.base.latest = ap (λ base. base.latest) told.base in
-    ap (λ (machine : DoorMachine). record { machine = machine; history = history_in true new }) told.machine
-    ∙ (ap (λ (from : ℕ). record { machine = (told_in old command).1; history = Some (record { from = from; entries = new.journal }) }) latest
-    ∙ ap (λ (entries : List DoorEntry). record { machine = (told_in old command).1; history = Some (record { from = old.base.latest; entries = entries }) }) entries)
-
--- its journal has each command still
-pub whole-told : (keeps : Bool) (source : Source) (command : Command DoorContent) (old new : DoorCellState) → IsDoorCell keeps old → HasToldBy source command old new
-    → length new.ports ≡ length old.ports → IsDoorCell keeps new
-whole-told keeps source command old new is told ports = record {
-  has_port = rw ports is.has_port;
-  whole = λ kept. told.count ∙ (ap (λ (n : ℕ). n + length (recorded_in old source command)) (is.whole kept)
-      ∙ (sym (length-append old.journal (recorded_in old source command)) ∙ sym (ap length told.journal)));
-}

@@ -2,3 +2,4 @@
 pub mod DeskLemmas
 pub mod ClaimLemmas
 pub mod PortLemmas
+pub mod BoundedLemmas

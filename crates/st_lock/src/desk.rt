@@ -9,13 +9,14 @@ ghost use Rattle.st_cell.specs.Calls.{Posts, IsTold, Turns, TakesOut, Delivers, 
 ghost use Rattle.st_cell.specs.Cell.{cell_at_first, IsJournaled, IsOpen, count_for};
 ghost use Rattle.st_cell.specs.Journal.{numbers_of};
 ghost use Rattle.st_post_counter.specs.Seen.{whole, part, IsWhole, IsPart};
+ghost use Rattle.st_lock.specs.Bounded.{is_long};
 ghost use Rattle.st_lock.specs.Service.{Serves, turned_as};
 ghost use Rattle.st_lock.specs.Desk.{EndsWith, desk_at_first, HasEnd, counters_of};
 
 use crate::Service;
 use st_cell::{
-    Cell, Collected, Core, Entry, Journal, Look, MachineId, Message, Module, Next, Post, Posted,
-    Reason, Refusal, Refused, Tag, Ticked, Token, a_cell_is_journaled,
+    Answer, Cell, Collected, Core, Entry, Journal, Look, MachineId, Message, Module, Next, Post,
+    Posted, Reason, Refusal, Refused, Tag, Ticked, Token, Turned, a_cell_is_journaled,
     a_port_has_no_more_posts_than_its_count, a_port_that_is_not_open_has_no_posts,
 };
 use st_post_counter::{Addition, Counter, Endpoint};
@@ -118,6 +119,19 @@ impl<M: Module> Desk<M> {
     {
         let Desk { cell, .. } = self;
         cell.into_core()
+    }
+
+    /// Whether the last entry is of a turn that replied, or at which the machine ended.
+    pub(crate) fn has_replied(&self) -> bool {
+        let Some(entry) = self.cell.entries().last() else {
+            return false;
+        };
+        match &entry.answer {
+            Answer::Turn(Ok(Turned::Reported(report))) => {
+                report.replied.len() > 0 || self.cell.core().ended().is_some()
+            }
+            _ => false,
+        }
     }
 
     /// Opens the next port, with this endpoint of the machine, and answers its number. Where there is no memory, none is
@@ -337,6 +351,14 @@ impl<M: Module> Desk<M> {
         ensures { result ≡ is_removable self.now.cell }
     {
         self.cell.removable()
+    }
+
+    /// Says whether the journal has more entries than this, and no fewer than events wait.
+    pub(crate) fn is_long(&self, limit: usize) -> bool
+        ensures { result ≡ is_long limit self.now.cell }
+    {
+        let entries = self.cell.entries().len();
+        entries > limit && self.core().waiting() <= entries
     }
 
     /// A copy of the journal, with a label.

@@ -2,7 +2,9 @@
 //! It knows nothing of names, run queues and workers.
 #![tactic(auto)]
 
+mod bounded_port;
 mod claim;
+mod cutting;
 mod desk;
 mod machine;
 mod opened;
@@ -10,6 +12,7 @@ mod port;
 mod readers;
 mod room;
 mod service;
+mod unposted;
 
 pub use machine::Machine;
 pub use port::Port;
@@ -20,3 +23,4 @@ pub use st_cell::{
     Module, Next, PlainList, Post, Posted, Reason, Refusal, Refused, Report, Snapshot, Source, Tag,
     Ticked, Token, Turned,
 };
+pub use unposted::Unposted;

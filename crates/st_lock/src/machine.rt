@@ -273,8 +273,8 @@ impl<M: Module> Machine<M> {
         }
     }
 
-    /// Serves the machine by a token: one turn at a moment, in milliseconds, as `Cell::turn` does. Who waits in
-    /// `wait_collect` is woken.
+    /// Serves the machine by a token: one turn at a moment, in milliseconds, as `Cell::turn` does. Where it
+    /// replies, or the machine ends, who waits in `wait_collect` is woken.
     ///
     /// Refused as `Cell::turn` is: with `NotQueued` where the token is not the machine's outstanding one, with `Moment`,
     /// `Exhausted` and `NoMemory`. A refusal changes nothing and gives the token back.
@@ -287,8 +287,9 @@ impl<M: Module> Machine<M> {
         let (taken, mut desk, mut holder) = self.arrive(rt);
         a_desk_is_journaled(&desk);
         let answer = desk.turn(token, now);
+        let is_awaited = desk.has_replied();
         drop(give_back(taken, &mut holder, desk));
-        self.told.notify_all();
+        self.wake(is_awaited);
         answer
     }
 
@@ -314,7 +315,7 @@ impl<M: Module> Machine<M> {
     }
 
     /// Serves the machine by a token in one critical section: takes its first message out, as `take_out` does, and where it
-    /// has none, gives it one turn at a moment, in milliseconds, as `turn` does. Who waits in `wait_collect` is woken.
+    /// has none, gives it one turn at a moment, in milliseconds, as `turn` does.
     ///
     /// Refused as `take_out` and `turn` are. A refusal changes nothing and gives the token back.
     ///
@@ -331,9 +332,17 @@ impl<M: Module> Machine<M> {
         let (taken, mut desk, mut holder) = self.arrive(rt);
         a_desk_is_journaled(&desk);
         let answer = desk.serve(token, now);
+        let is_awaited = desk.has_replied();
         drop(give_back(taken, &mut holder, desk));
-        self.told.notify_all();
+        self.wake(is_awaited);
         answer
+    }
+
+    /// Who waits in `wait_collect` is woken, where what was told may be what he waits for.
+    fn wake(&self, is_awaited: bool) {
+        if is_awaited {
+            self.told.notify_all();
+        }
     }
 
     /// A message that was sent to this machine comes to it, as `Cell::deliver` does it: its content is posted as an info,

@@ -3,19 +3,20 @@
 //! It knows nothing of what a turn does, and of a machine nothing but its token.
 #![tactic(auto)]
 
-mod berth;
 mod found;
 mod gate;
 mod hand;
-mod intake;
+mod injector;
 mod machines;
 mod pool;
 mod pool_end;
 mod pool_state;
 mod runtime;
 mod scheduler;
+mod search;
 mod served;
 mod serving;
+mod sleeper;
 mod work;
 mod worker;
 

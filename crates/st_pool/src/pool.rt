@@ -1,10 +1,10 @@
 //! A pool of workers.
 ghost use Rattle.std.specs.Prelude.{◌≡◌, ◌≤◌, ◌+◌, IfErr, IfOk, OnOk, vec_len, vec_capacity};
 
-use crate::berth::Berth;
-use crate::intake::Intake;
+use crate::injector::Injector;
 use crate::pool_end::PoolEnd;
 use crate::pool_state::PoolState;
+use crate::sleeper::Sleeper;
 use crate::work::{EndedWorker, work};
 use crate::{Gate, Machines, Runtime, Scheduler, Worker};
 use crossbeam_utils::sync::Parker;
@@ -94,14 +94,14 @@ impl<R: Runtime, C: Drop + Send + 'static> Pool<R, C> {
     {
         let inlet = Inlet::new(alloc)?;
         let mut seats = Seats::for_workers(alloc, &inlet, workers)?;
-        let mut berths = Vec::new(alloc);
+        let mut sleepers = Vec::new(alloc);
         let mut parkers = Vec::new(alloc);
         for made in 0..workers {
             let parker = Parker::new(alloc)?;
-            berths.push(Berth::new(parker.unparker().clone()?))?;
+            sleepers.push(Sleeper::new(parker.unparker().clone()?))?;
             parkers.push(parker)?;
         }
-        let state = Arc::new(alloc, PoolState::new(Intake::new(inlet), berths))?;
+        let state = Arc::new(alloc, PoolState::new(Injector::new(inlet), sleepers))?;
         let mut pool = Pool {
             rt,
             alloc,
@@ -112,7 +112,7 @@ impl<R: Runtime, C: Drop + Send + 'static> Pool<R, C> {
             left: Vec::new(alloc),
             carried: Vec::new(alloc),
         };
-        // From the last on, so that each worker gets the parker of its own berth.
+        // From the last on, so that each worker gets the parker of its own sleeper.
         for started in 0..workers {
             let Some(seats) = seats.pop() else {
                 unreachable!()

@@ -1,30 +1,35 @@
 //! What the threads of a pool share.
 ghost use Rattle.std.specs.Prelude.{◌≡◌, IfErr};
 
-use crate::berth::Berth;
 use crate::found::Source;
-use crate::intake::Intake;
+use crate::injector::Injector;
+use crate::sleeper::Sleeper;
 use st_events::Token;
 use st_runq::PutRefused;
-use std::sync::atomic::{AtomicBool, Ordering};
+use std::sync::atomic::{AtomicBool, AtomicU64, AtomicUsize, Ordering};
 use std::sync::{Condvar, Mutex, Wait};
 
-/// The way in, where the workers sleep, and whether the pool closes.
+/// The way in, where the workers sleep, how many of them search, what is left for these, and whether the pool closes.
 #[derive(Drop)]
 pub struct PoolState {
-    intake: Mutex<Intake>,
+    injector: Mutex<Injector>,
     drained: Condvar,
-    berths: Vec<Berth>,
+    sleepers: Vec<Sleeper>,
+    searching: AtomicUsize,
+    // How many tokens are on the shared run queue, or about to be.
+    shared: AtomicU64,
     closing: AtomicBool,
 }
 
 impl PoolState {
-    /// A pool that is not closing, with a berth for each worker, in the order of their numbers.
-    pub fn new(intake: Intake, berths: Vec<Berth>) -> PoolState {
+    /// A pool that is not closing, with a sleeper for each worker, in the order of their numbers.
+    pub fn new(injector: Injector, sleepers: Vec<Sleeper>) -> PoolState {
         PoolState {
-            intake: Mutex::new(intake),
+            injector: Mutex::new(injector),
             drained: Condvar::new(),
-            berths,
+            sleepers,
+            searching: AtomicUsize::new(0),
+            shared: AtomicU64::new(0),
             closing: AtomicBool::new(false),
         }
     }
@@ -33,17 +38,50 @@ impl PoolState {
     pub fn schedule<R: Wait>(&self, rt: &R, token: Token) -> Result<(), PutRefused>
         ensures returned { IfErr result (λ e. e.0 ≡ token) }
     {
-        self.intake.lock(rt).put(rt, token)?;
+        // The count before the put: who takes the token counts it off.
+        self.shared.fetch_add(1, Ordering::SeqCst);
+        if let Err(refused) = self.injector.lock(rt).put(rt, token) {
+            self.shared.fetch_sub(1, Ordering::SeqCst);
+            return Err(refused);
+        }
         self.wake_one();
         Ok(())
     }
 
-    /// Wakes the first worker whose announcement stands that it sleeps.
+    /// Wakes the first worker whose announcement stands that it sleeps. Where a worker searches, nobody is woken: it has yet
+    /// to look, and to see to it that another does.
     pub fn wake_one(&self) {
-        for berth in &self.berths {
-            if berth.wake() {
+        if self.searching.load(Ordering::SeqCst) > 0 {
+            return;
+        }
+        for sleeper in &self.sleepers {
+            if sleeper.wake() {
                 return;
             }
+        }
+    }
+
+    /// A worker searches from now on. `false`: it does not, since half of the workers do.
+    pub fn begin_search(&self) -> bool {
+        let searching = self.searching.load(Ordering::SeqCst);
+        if searching.saturating_mul(2) >= self.sleepers.len() {
+            return false;
+        }
+        self.searching.fetch_add(1, Ordering::SeqCst);
+        true
+    }
+
+    /// A worker searches no longer, and sleeps.
+    pub fn end_search(&self) {
+        self.searching.fetch_sub(1, Ordering::SeqCst);
+    }
+
+    /// A worker searches no longer, since it found a token. Where it was the last one, and there are more, another is woken: for
+    /// of what came meanwhile nobody was.
+    pub fn end_search_with_token(&self) {
+        let was_last = self.searching.fetch_sub(1, Ordering::SeqCst) == 1;
+        if was_last && (self.shared.load(Ordering::SeqCst) > 0 || self.is_any_left()) {
+            self.wake_one();
         }
     }
 
@@ -58,6 +96,9 @@ impl PoolState {
                 return;
             }
             Some(Source::Other(place)) => self.take_from_other(number, place),
+            Some(Source::Shared) => {
+                self.shared.fetch_sub(1, Ordering::SeqCst);
+            }
             _ => {}
         }
         if requeued {
@@ -67,22 +108,22 @@ impl PoolState {
 
     /// The worker leaves a token on its own run queue, and one that sleeps is woken.
     pub fn leave_to_others(&self, number: usize) {
-        if let Some(berth) = self.berths.get(number) {
-            berth.leave_one();
+        if let Some(sleeper) = self.sleepers.get(number) {
+            sleeper.leave_one();
             self.wake_one();
         }
     }
 
     /// A token that was left on the worker's run queue was taken.
     fn take_from(&self, number: usize) {
-        if let Some(berth) = self.berths.get(number) {
-            berth.take_one();
+        if let Some(sleeper) = self.sleepers.get(number) {
+            sleeper.take_one();
         }
     }
 
     /// The worker's thief of this place has taken a token: the first robs the worker of the next number.
     fn take_from_other(&self, number: usize, place: usize) {
-        let workers = self.berths.len();
+        let workers = self.sleepers.len();
         if workers > 0 {
             self.take_from(number.wrapping_add(1).wrapping_add(place) % workers);
         }
@@ -90,8 +131,8 @@ impl PoolState {
 
     /// Whether any worker leaves a token on its run queue while it serves another.
     pub fn is_any_left(&self) -> bool {
-        for berth in &self.berths {
-            if berth.is_any_left() {
+        for sleeper in &self.sleepers {
+            if sleeper.is_any_left() {
                 return true;
             }
         }
@@ -100,32 +141,34 @@ impl PoolState {
 
     /// Counts a token that a delivery woke as scheduled. `false`: there are as many as can be counted.
     pub fn count_woken<R: Wait>(&self, rt: &R) -> bool {
-        self.intake.lock(rt).count_woken()
+        self.injector.lock(rt).count_woken()
     }
 
     /// A token came to rest.
     pub fn rest<R: Wait>(&self, rt: &R) {
-        let mut intake = self.intake.lock(rt);
-        if intake.rest() {
+        let mut injector = self.injector.lock(rt);
+        if injector.rest() {
             self.drained.notify_all();
         }
     }
 
     /// Waits until each token that was scheduled or woken has come to rest.
     pub fn drain<R: Wait>(&self, rt: &R) {
-        let intake = self
-            .drained
-            .wait_while(rt, self.intake.lock(rt), |intake| !intake.is_drained());
-        drop(intake);
+        let injector = self.drained.wait_while(
+            rt,
+            self.injector.lock(rt),
+            |injector| !injector.is_drained(),
+        );
+        drop(injector);
     }
 
     /// From now on no token comes in, and each worker stops after the turn that it is in.
     pub fn close<R: Wait>(&self, rt: &R) {
-        self.intake.lock(rt).close();
+        self.injector.lock(rt).close();
         // The mark before the waking: who sleeps after it does not sleep.
         self.closing.store(true, Ordering::SeqCst);
-        for berth in &self.berths {
-            berth.wake_anyway();
+        for sleeper in &self.sleepers {
+            sleeper.wake_anyway();
         }
     }
 
@@ -135,7 +178,7 @@ impl PoolState {
     }
 
     /// Where the worker of this number sleeps.
-    pub fn berth(&self, number: usize) -> Option<&Berth> {
-        self.berths.get(number)
+    pub fn sleeper(&self, number: usize) -> Option<&Sleeper> {
+        self.sleepers.get(number)
     }
 }

@@ -5,6 +5,7 @@ ghost use Rattle.st_pool.specs.Round.{Holds, FindsNone, HoldsWhatCarries, GivesW
 ghost use Rattle.st_pool.specs.Thread.{MakesRounds, Concludes};
 
 use crate::pool_state::PoolState;
+use crate::search::Search;
 use crate::served::Served;
 use crate::{Gate, Machines, Runtime, Worker};
 use crossbeam_utils::sync::Parker;
@@ -36,15 +37,17 @@ pub fn work<R: Runtime, M: Machines, G: Gate>(
 {
     let mut turns = 0u64;
     let mut requeued = false;
+    let mut search = Search::new();
     for _ in rt.forever() {
         if state.is_closing() {
             break;
         }
         if !look(rt, &mut worker, state, requeued) {
             requeued = false;
-            sleep(rt, &mut worker, &parker, state);
+            pause(rt, &mut worker, &parker, state, &mut search);
             continue;
         }
+        search.end(state);
         let Some(served) = worker.serve_next(rt, machines, gate) else {
             continue;
         };
@@ -118,27 +121,44 @@ fn look<R: Runtime, C>(rt: &R, worker: &mut Worker<C>, state: &PoolState, requeu
     source.is_some()
 }
 
-/// Announces that the worker is about to sleep, looks once more, and sleeps if there is still nothing.
-fn sleep<R: Runtime, C>(rt: &R, worker: &mut Worker<C>, parker: &Parker, state: &PoolState)
+/// A worker that found nothing is to look again, or else it sleeps.
+fn pause<R: Runtime, C>(
+    rt: &R,
+    worker: &mut Worker<C>,
+    parker: &Parker,
+    state: &PoolState,
+    search: &mut Search,
+)
     ensures { (Holds worker.old worker.new × (put_of worker.new.lane ≡ put_of worker.old.lane)) ⊎ FindsNone worker.old worker.new ⊎ (worker.new ≡ worker.old) }
 {
-    let Some(berth) = state.berth(worker.number) else {
-        return;
+    if !search.goes_on(state) && sleep(rt, worker, parker, state) {
+        search.begin(state);
+    }
+}
+
+/// Announces that the worker is about to sleep, looks once more, and sleeps if there is still nothing. Answers whether it
+/// is to look again.
+fn sleep<R: Runtime, C>(rt: &R, worker: &mut Worker<C>, parker: &Parker, state: &PoolState) -> bool
+    ensures { (Holds worker.old worker.new × (put_of worker.new.lane ≡ put_of worker.old.lane)) ⊎ FindsNone worker.old worker.new ⊎ (worker.new ≡ worker.old) }
+{
+    let Some(sleeper) = state.sleeper(worker.number) else {
+        return false;
     };
-    berth.announce();
+    sleeper.announce();
     if look(rt, worker, state, false) {
         // Whoever took the announcement back meant it for another token than the one found.
-        if !berth.recall() {
+        if !sleeper.recall() {
             state.wake_one();
         }
-        return;
+        return false;
     }
     if state.is_any_left() {
         // A steal may have missed what is left there, since another was quicker.
-        berth.recall();
+        sleeper.recall();
         thread::yield_now();
-        return;
+        return true;
     }
     parker.park(rt);
-    berth.recall();
+    sleeper.recall();
+    true
 }

@@ -1,6 +1,7 @@
 //! A pool of workers with a ticker.
-ghost use Rattle.std.specs.Prelude.{◌≡◌, ◌≤◌, None, IfOk};
+ghost use Rattle.std.specs.Prelude.{◌≡◌, ◌≤◌, IfOk};
 ghost use Rattle.st_pool.specs.Pool.{threads_of};
+ghost use Rattle.st_ticker.specs.Ended.{HasEnded};
 
 use crate::{TickedPoolEnd, TickerThread, Ticks};
 use st_hall::Token;
@@ -56,7 +57,9 @@ impl<R: Runtime, C: Drop + Send + 'static, T: Ticks + Drop + Send + Sync + 'stat
             left: None,
         })
     }
+}
 
+impl<R: Runtime, C: Drop + Send + 'static, T: Ticks + Drop> TickedPool<R, C, T> {
     /// The pool, for its schedulers, and to give it tokens.
     ///
     /// Ours: docs/DECISIONS.md, Tickers.
@@ -71,7 +74,7 @@ impl<R: Runtime, C: Drop + Send + 'static, T: Ticks + Drop + Send + Sync + 'stat
     ///
     /// Ours: docs/DECISIONS.md, Tickers, Pools.
     pub fn close(&mut self) -> Result<TickedPoolEnd<C>, AllocError>
-        ensures joined { (self.new.thread.thread ≡ None) × (threads_of self.new.pool ≡ 0) }
+        ensures joined { HasEnded self.new }
     {
         let end = self.thread.end();
         self.left = self.left.or(end.left);

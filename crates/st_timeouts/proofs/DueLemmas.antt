@@ -100,10 +100,6 @@ none_filtered p o [] h = tt
 none_filtered p o (y ∷ ys) h = none_filtered_by (p y) o y (filter p ys) h.0 (none_filtered p o ys h.1)
 
 -- in front of all of them it comes first
-put_first_by : (b : Bool) (x y : Key) (ys : List Key) → before x y ≡ b → b ≡ true → (if b then x ∷ y ∷ ys else y ∷ put_key x ys) ≡ x ∷ y ∷ ys
-put_first_by true x y ys e h = refl
-put_first_by false x y ys e h = cc
-
 put_first : (x y : Key) (ys : List Key) → before x y ≡ true → NoneBefore y ys → put_key x ys ≡ x ∷ ys
 put_first x y [] e h = refl
 put_first x y (z ∷ ys) e h = let front : before x z ≡ true = before_step x z y e h.0 in rw front refl

@@ -60,11 +60,6 @@ zeros_within [] place h = absurd (omega (arith, h))
 zeros_within (x ∷ xs) zero h = (x, refl)
 zeros_within (x ∷ xs) (suc place) h = zeros_within xs place (omega (arith, h))
 
-pub zeros_removed : (xs : List (Timer × ℕ)) (place : ℕ) → place < length xs → length (remove xs place) + 1 ≡ length xs
-zeros_removed [] place h = absurd (omega (arith, h))
-zeros_removed (x ∷ xs) zero h = omega arith
-zeros_removed (x ∷ xs) (suc place) h = let rest = zeros_removed xs place (omega (arith, h)) in omega (arith, rest)
-
 module _ {C : Type 0} where
   without_zero_by : (b z : Bool) (timer : Timer) (one : Running C) (rest : List (Running C)) (zeros : List (Timer × ℕ)) → runs_for timer one ≡ b → is_zero one.due ≡ z
       → map name_of (filter (λ (one : Running C). is_zero one.due) rest) ≡ filter (other_zero timer) zeros

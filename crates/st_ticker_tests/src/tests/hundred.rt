@@ -6,6 +6,7 @@ use st_core::Time;
 use st_hall::MachineId;
 use st_pool::Scheduler;
 use std::process::Abort;
+use std::time::Instant;
 
 /// What the bell before it tells a bell, by its place: at once, soon, not to ring, and a little later.
 fn told(place: usize) -> Time {
@@ -71,8 +72,11 @@ fn each_of_a_hundred_rings_in_its_time(rt: HostRuntime) {
     }
     let mut pool = belfry.pool(&rt);
     let scheduler = pool.pool().scheduler().expect(&rt, "a scheduler");
+    let start = got(&rt, "the clock is read", Instant::now(&threads));
     tell_each(&rt, &belfry, bells.as_slice(), &scheduler);
     ring_each(&rt, &belfry, bells.as_slice());
+    // A quarter of them ring 50 milliseconds after they were told.
+    belfry.is_not_early(&rt, start, 49);
     pool.pool().drain();
     let end = got(&rt, "there is memory", pool.close());
     same(&rt, "ticks in all", &end.ticks, &50);

@@ -10,9 +10,9 @@ loop-init g c = (counts_none _ _, c.requires.woken, c.requires.carrying)
 pub loop-preserved-then-not-look : goal.loop-preserved-then-not-look
 loop-preserved-then-not-look g c =
     let none = c.if-not-look.ensures.none refl in (
-      counts_sleep _ _ _ _ _ (counts_no_find _ _ _ c.look.new.worker _ c.loop.invariant.0 none) c.sleep.ensures,
-      slept_none c.loop.worker c.look.new.worker c.sleep.new.worker c.loop.invariant.1 none c.sleep.ensures,
-      slept_carries c.loop.worker c.look.new.worker c.sleep.new.worker c.loop.invariant.2 none c.sleep.ensures,
+      counts_sleep _ _ _ _ _ (counts_no_find _ _ _ c.look.new.worker _ c.loop.invariant.0 none) c.pause.ensures,
+      slept_none c.loop.worker c.look.new.worker c.pause.new.worker c.loop.invariant.1 none c.pause.ensures,
+      slept_carries c.loop.worker c.look.new.worker c.pause.new.worker c.loop.invariant.2 none c.pause.ensures,
     )
 
 pub loop-preserved : goal.loop-preserved

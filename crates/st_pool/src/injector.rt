@@ -10,7 +10,7 @@ use std::sync::Wait;
 /// rest. A token that a delivery woke counts as scheduled, and is put on its worker's own run queue. It stands under one
 /// lock.
 #[derive(Drop)]
-pub struct Intake {
+pub struct Injector {
     inlet: Inlet,
     closed: bool,
     scheduled: u64,
@@ -20,15 +20,15 @@ pub struct Intake {
     ghost ordered: { rested ≤ scheduled },
 }
 
-impl Intake {
+impl Injector {
     /// Nothing was scheduled.
-    pub fn new(inlet: Inlet) -> Intake
+    pub fn new(inlet: Inlet) -> Injector
         requires { given_of inlet ≡ [] }
         ensures inlet { result.inlet ≡ inlet }
         ensures closed { result.closed ≡ false }
         ensures counts { (result.scheduled ≡ 0) × (result.woken ≡ 0) × (result.rested ≡ 0) }
     {
-        Intake {
+        Injector {
             inlet,
             closed: false,
             scheduled: 0,

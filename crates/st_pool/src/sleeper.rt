@@ -6,16 +6,16 @@ use std::sync::atomic::{AtomicBool, AtomicU64, Ordering};
 ///
 /// A worker announces here that it is about to sleep; who takes the announcement back is the one that wakes it.
 #[derive(Drop)]
-pub struct Berth {
+pub struct Sleeper {
     asleep: AtomicBool,
     unparker: Unparker,
     left: AtomicU64,
 }
 
-impl Berth {
+impl Sleeper {
     /// Its worker is awake, and leaves no token.
-    pub fn new(unparker: Unparker) -> Berth {
-        Berth {
+    pub fn new(unparker: Unparker) -> Sleeper {
+        Sleeper {
             asleep: AtomicBool::new(false),
             unparker,
             left: AtomicU64::new(0),

@@ -1,0 +1,245 @@
+//! A machine is served by the thread that owns it.
+ghost use Rattle.std.specs.Prelude.{◌≡◌, ◌<◌, ◌≤◌, ◌^◌, Some, None, true, false, List, IfOk, IfErr, IfSome};
+ghost use Rattle.st_core.specs.declared.command.Command.{Command};
+ghost use Rattle.st_core.specs.declared.command.Command.TheVariants as command;
+ghost use Rattle.st_core.specs.declared.answer.Answer.{Answer};
+ghost use Rattle.st_core.specs.Callbacks.{callbacks_of};
+ghost use Rattle.st_core.specs.Choice.{has_message_of, has_event_of};
+ghost use Rattle.st_core.specs.Run.{Runs};
+ghost use Rattle.actor.specs.Serving.{is_due_by, IsNext, IsRunning, IsMoment, IsNothingDue, IsServed, ServesSilentlyOrNot};
+ghost use Rattle.actor.specs.Ending.{IsEndOf, IsUnserved};
+
+use crate::moment::moment;
+use crate::{Event, Events, Observer, Served, Unserved};
+use crossbeam_channel::RecvTimeoutError;
+use st_core::{Core, Module, Refusal, Turned};
+use std::rt::Clock;
+use std::sync::Wait;
+use std::time::{Duration, Instant};
+
+/// What waiting for an event gave.
+enum Next<C> {
+    /// An event.
+    Event(Event<C>),
+    /// The time at which the next time-out is due has come.
+    Due,
+    /// Nobody sends any more.
+    Left,
+}
+
+/// Serves a machine until it has ended, or nobody sends any more and nothing waits. Moments are the milliseconds since the
+/// start; where the clock cannot be read, the moment stays.
+///
+/// What is done next is, in this order: a message that the machine has sent is handed to the observer; a machine that has
+/// ended is served no more; time-outs that are due expire; an event is handled, and the observer is told its report;
+/// an event is taken from the channel, for which it waits until the next time-out is due. So what waits in the channel
+/// is taken when the machine has nothing to handle.
+///
+/// Refused with `NoMemory` where memory is wanted, and with `Exhausted` where too few numbers are left: nothing changed then
+/// but by what was done before, of which the observer was told, and an event that could not be posted comes back. Once
+/// that is posted, the same call goes on.
+///
+/// Manual: the introduction, on the event queue, and time-outs; ours: docs/DECISIONS.md, Actors.
+pub fn serve<M: Module, O: Observer<M>, R: Wait + Clock>(
+    rt: &R,
+    core: &mut Core<M>,
+    events: &Events<M::Content>,
+    start: &Instant,
+    observer: &mut O,
+) -> Result<Served, Unserved<M::Content>>
+    ensures served { IsServed (callbacks_of M.Module M.State.eq) O.hears O.takes core.old observer.old core.new observer.new }
+    ensures run { (commands : List (Command M.Content)) × (answers : List (Answer M.State M.Content)) × Runs (callbacks_of M.Module M.State.eq) core.old commands answers core.new }
+    ensures end { IfOk result (λ served. IsEndOf served core.new.machine) }
+
+    ensures unserved { IfErr result (λ unserved. IsUnserved (callbacks_of M.Module M.State.eq) unserved core.new) }
+{
+    for _ in rt.forever() {
+        if let Some(served) = step(rt, core, events, start, observer)? {
+            return Ok(served);
+        }
+    }
+    unreachable!()
+}
+
+/// What is next is done.
+fn step<M: Module, O: Observer<M>, R: Wait + Clock>(
+    rt: &R,
+    core: &mut Core<M>,
+    events: &Events<M::Content>,
+    start: &Instant,
+    observer: &mut O,
+) -> Result<Option<Served>, Unserved<M::Content>>
+    ensures served { IsServed (callbacks_of M.Module M.State.eq) O.hears O.takes core.old observer.old core.new observer.new }
+    ensures end { IfOk result (λ end. IfSome end (λ served. IsEndOf served core.new.machine)) }
+
+    ensures unserved { IfErr result (λ unserved. IsUnserved (callbacks_of M.Module M.State.eq) unserved core.new) }
+{
+    if core.has_message() {
+        hand_out(core, observer);
+        return Ok(None);
+    }
+    if let Some((reason, word)) = core.ended() {
+        return Ok(Some(Served::Ended(reason, word)));
+    }
+    let now = moment(rt, start, core.latest());
+    go_on(rt, core, events, now, observer)
+}
+
+/// A message that the machine has sent is handed to the observer.
+fn hand_out<M: Module, O: Observer<M>>(core: &mut Core<M>, observer: &mut O)
+    requires next { has_message_of core.old.machine ≡ true }
+    ensures served { IsServed (callbacks_of M.Module M.State.eq) O.hears O.takes core.old observer.old core.new observer.new }
+{
+    if let Some(message) = core.take_out() {
+        observer.sent(message);
+    }
+}
+
+/// What is next of a machine that runs is done.
+fn go_on<M: Module, O: Observer<M>, R: Wait + Clock>(
+    rt: &R,
+    core: &mut Core<M>,
+    events: &Events<M::Content>,
+    now: u64,
+    observer: &mut O,
+) -> Result<Option<Served>, Unserved<M::Content>>
+    requires running { IsRunning core.old.machine }
+    requires moment { IsMoment core.old.machine now }
+    ensures served { IsServed (callbacks_of M.Module M.State.eq) O.hears O.takes core.old observer.old core.new observer.new }
+    ensures end { IfOk result (λ end. IfSome end (λ served. IsEndOf served core.new.machine)) }
+
+    ensures unserved { IfErr result (λ unserved. IsUnserved (callbacks_of M.Module M.State.eq) unserved core.new) }
+{
+    if is_due(core.next_due(), now) {
+        tick(core, now)
+    } else if core.has_event() {
+        turn(core, now, observer)
+    } else {
+        receive(rt, core, events, now)
+    }
+}
+
+/// Says whether a time-out is due by a moment.
+fn is_due(due: Option<u64>, now: u64) -> bool
+    ensures { result ≡ is_due_by due now }
+{
+    match due {
+        Some(due) => due <= now,
+        None => false,
+    }
+}
+
+/// Time-outs that are due expire.
+fn tick<M: Module>(core: &mut Core<M>, now: u64) -> Result<Option<Served>, Unserved<M::Content>>
+    requires next { IsNext core.old.machine (command.Tick now) }
+    ensures served { ServesSilentlyOrNot (callbacks_of M.Module M.State.eq) core.old core.new }
+    ensures end { IfOk result (λ end. end ≡ None) }
+
+    ensures unserved { IfErr result (λ unserved. IsUnserved (callbacks_of M.Module M.State.eq) unserved core.new) }
+{
+    match core.tick_to(now) {
+        Ok(_) => Ok(None),
+        Err(refusal) => Err(unserved(refusal)),
+    }
+}
+
+/// The next event is handled, and the observer is told.
+fn turn<M: Module, O: Observer<M>>(
+    core: &mut Core<M>,
+    now: u64,
+    observer: &mut O,
+) -> Result<Option<Served>, Unserved<M::Content>>
+    requires next { IsNext core.old.machine (command.Turn now) }
+    ensures served { IsServed (callbacks_of M.Module M.State.eq) O.hears O.takes core.old observer.old core.new observer.new }
+    ensures end { IfOk result (λ end. end ≡ None) }
+
+    ensures unserved { IfErr result (λ unserved. IsUnserved (callbacks_of M.Module M.State.eq) unserved core.new) }
+{
+    match core.turn(now) {
+        Ok(Turned::Reported(report)) => {
+            observer.turned(&report, core);
+            Ok(None)
+        }
+        Ok(Turned::Idle) => Ok(None),
+        Err(refusal) => Err(unserved(refusal)),
+    }
+}
+
+/// A tick or a turn was refused.
+fn unserved<C>(refusal: Refusal) -> Unserved<C>
+    ensures { result ≡ record { refusal = refusal; event = None } }
+{
+    Unserved {
+        refusal,
+        event: None,
+    }
+}
+
+/// The next event that is sent is posted, unless a time-out is due before it comes, or nobody sends any more.
+fn receive<M: Module, R: Wait + Clock>(
+    rt: &R,
+    core: &mut Core<M>,
+    events: &Events<M::Content>,
+    now: u64,
+) -> Result<Option<Served>, Unserved<M::Content>>
+    requires running { IsRunning core.old.machine }
+    requires nothing { IsNothingDue core.old.machine now }
+    requires idle { has_event_of core.old.machine ≡ false }
+    ensures served { ServesSilentlyOrNot (callbacks_of M.Module M.State.eq) core.old core.new }
+    ensures end { IfOk result (λ end. IfSome end (λ served. IsEndOf served core.new.machine)) }
+
+    ensures unserved { IfErr result (λ unserved. IsUnserved (callbacks_of M.Module M.State.eq) unserved core.new) }
+{
+    match wait(rt, events, core.next_due(), now) {
+        Next::Event(event) => post(core, event),
+        Next::Due => Ok(None),
+        Next::Left => Ok(Some(Served::Left)),
+    }
+}
+
+/// An event is posted.
+fn post<M: Module>(
+    core: &mut Core<M>,
+    event: Event<M::Content>,
+) -> Result<Option<Served>, Unserved<M::Content>>
+    requires next { IsNext core.old.machine (command.Post event.entry event.content) }
+    ensures served { ServesSilentlyOrNot (callbacks_of M.Module M.State.eq) core.old core.new }
+    ensures end { IfOk result (λ end. end ≡ None) }
+
+    ensures unserved { IfErr result (λ unserved. IsUnserved (callbacks_of M.Module M.State.eq) unserved core.new) }
+    ensures returned { IfErr result (λ unserved. unserved.event ≡ Some event) }
+{
+    let Event { entry, content } = event;
+    match core.post(entry, content) {
+        Ok(_) => Ok(None),
+        Err(refused) => Err(Unserved {
+            refusal: refused.refusal,
+            event: Some(Event::new(entry, refused.value)),
+        }),
+    }
+}
+
+/// Waits for an event, at most until the next time-out is due.
+fn wait<C: Drop, R: Wait + Clock>(
+    rt: &R,
+    events: &Events<C>,
+    due: Option<u64>,
+    now: u64,
+) -> Next<C> {
+    match due {
+        Some(due) => wait_until(rt, events, due.saturating_sub(now)),
+        None => match events.recv(rt) {
+            Ok(event) => Next::Event(event),
+            Err(_) => Next::Left,
+        },
+    }
+}
+
+/// Waits for an event, at most so many milliseconds.
+fn wait_until<C: Drop, R: Wait + Clock>(rt: &R, events: &Events<C>, left: u64) -> Next<C> {
+    match events.recv_timeout(rt, Duration::from_millis(left)) {
+        Ok(event) => Next::Event(event),
+        Err(RecvTimeoutError::Timeout) => Next::Due,
+        Err(RecvTimeoutError::Disconnected) => Next::Left,
+    }
+}

@@ -1,0 +1,2 @@
+-- What a bell does.
+pub mod Bell

@@ -1,0 +1,116 @@
+//! What a service makes of its machines.
+ghost use Rattle.std.specs.Prelude.{◌≤◌};
+
+use crate::load::{Load, Work};
+use st_core::Refusal;
+use st_pool::Runtime;
+use st_service::{Called, Nobody, Options, Service, ServicePort, Spawned};
+use std::alloc::Global;
+use std::rt::Clock;
+
+/// A service of the machines that are measured.
+type Services<R> = Service<Load, R, Nobody>;
+
+/// A port of such a machine.
+type Ports<R> = ServicePort<Load, R, Nobody>;
+
+/// A service of so many workers, which keeps so many entries a journal.
+fn service<R: Runtime + Clock>(
+    rt: R,
+    alloc: Global,
+    workers: usize,
+    entries: u32,
+) -> Result<Services<R>, Refusal>
+    requires { (1 ≤ workers) × (workers ≤ 16) }
+{
+    let options = Options {
+        waiting: usize::MAX,
+        journal: Some(entries as usize),
+        turns: 0,
+    };
+    Ok(Service::start(rt, alloc, workers, options, Nobody)?)
+}
+
+/// Starts a machine, and answers its port.
+fn spawned<R: Runtime + Clock>(services: &Services<R>) -> Result<Ports<R>, Refusal> {
+    match services.spawn(None, Load, &0) {
+        Ok(Spawned::Running(_, Some(port))) => Ok(port),
+        _ => Err(Refusal::NoMemory),
+    }
+}
+
+/// Casts once.
+fn casts<R: Runtime + Clock>(port: &mut Ports<R>, work: Work) -> Result<(), Refusal> {
+    match port.cast(work) {
+        Ok(_) => Ok(()),
+        Err(_) => Err(Refusal::NoMemory),
+    }
+}
+
+/// Calls once. Answers 1 where a reply came.
+fn calls<R: Runtime + Clock>(port: &mut Ports<R>) -> Result<u64, Refusal> {
+    match port.call(Work::Answer) {
+        Ok(called) => Ok(u64::from(matches!(called, Called::Reply(_)))),
+        Err(_) => Err(Refusal::NoMemory),
+    }
+}
+
+/// Casts so many times to a machine that one worker serves, and then calls it. Answers whether it replied.
+pub fn cast_to_service<R: Runtime + Clock>(
+    rt: R,
+    alloc: Global,
+    count: u32,
+    entries: u32,
+) -> Result<u64, Refusal> {
+    let services = service(rt, alloc, 1, entries)?;
+    let mut port = spawned(&services)?;
+    for _ in 0..count {
+        casts(&mut port, Work::Keep)?;
+    }
+    calls(&mut port)
+}
+
+/// Calls so many times a machine that one worker serves, and answers how many replies came.
+pub fn call_to_service<R: Runtime + Clock>(
+    rt: R,
+    alloc: Global,
+    count: u32,
+    entries: u32,
+) -> Result<u64, Refusal> {
+    let services = service(rt, alloc, 1, entries)?;
+    let mut port = spawned(&services)?;
+    let mut replies = 0u64;
+    for _ in 0..count {
+        replies = replies.saturating_add(calls(&mut port)?);
+    }
+    Ok(replies)
+}
+
+/// So many workers serve so many machines, each of which handles an event that inserts so many others, those, and then a call.
+/// It answers how many replies came.
+pub fn insert_in_service<R: Runtime + Clock>(
+    rt: R,
+    alloc: Global,
+    workers: usize,
+    count: u32,
+    many: u32,
+) -> Result<u64, Refusal>
+    requires { (1 ≤ workers) × (workers ≤ 16) }
+{
+    let services = service(rt, alloc, workers, 1)?;
+    let mut ports = Vec::new(alloc);
+    for _ in 0..many {
+        ports.push(spawned(&services)?)?;
+    }
+    for port in ports.iter_mut() {
+        casts(port, Work::InsertMany(count))?;
+    }
+    // From the last on, which is served last: so the caller sleeps before one reply and not before each.
+    let mut replies = 0u64;
+    for _ in 0..many {
+        if let Some(mut port) = ports.pop() {
+            replies = replies.saturating_add(calls(&mut port)?);
+        }
+    }
+    Ok(replies)
+}

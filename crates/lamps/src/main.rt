@@ -1,0 +1,61 @@
+//! A service of lamps, to be copied: ten lamps are switched on, an observer counts those that were lit, and the service is
+//! shut down.
+#![tactic(auto)]
+
+mod counting;
+
+use counting::{Counting, counts};
+use lamp_module::{Bulb, Lamp, Press};
+use st_service::{Options, Refusal, Runtime, Service, Spawned};
+use std::alloc::{AllocError, Global};
+use std::process::ExitCode;
+use std::rt::Clock;
+use std::sync::Arc;
+use std::sync::atomic::{AtomicU64, Ordering};
+
+/// So many events may wait at a lamp, its journal stays short, and what waits at the end is handled.
+const OPTIONS: Options = Options {
+    waiting: 100,
+    journal: Some(10),
+    turns: 1_000,
+};
+
+/// A service of lamps.
+type Lamps<R> = Service<Lamp, R, Counting>;
+
+/// Starts ten lamps, and switches each on.
+fn light<R: Runtime + Clock>(lamps: &Lamps<R>) {
+    for _ in 0..10 {
+        if let Ok(Spawned::Running(_, Some(mut port))) = lamps.spawn(
+            None,
+            Lamp,
+            &Bulb { left: 3 },
+        ) {
+            // Where it is refused, too many events wait, or there is no memory: this lamp stays dark.
+            let _ = port.cast(Press::Switch);
+        }
+    }
+}
+
+/// Lights ten lamps, and says how many were lit and stopped.
+fn run<R: Runtime + Clock>(rt: R, alloc: Global) -> Result<String, AllocError> {
+    let lit = Arc::new(alloc, AtomicU64::new(0))?;
+    let mut lamps = Service::start(rt, alloc, 4, OPTIONS, counts(&lit)?)?;
+    light(&lamps);
+    let end = lamps.shut_down(7)?;
+    let lit = lit.load(Ordering::SeqCst);
+    Ok(format!(in alloc; "lit {lit} stopped {}\n", end.stopped)?)
+}
+
+fn main(rt: HostRuntime) -> ExitCode {
+    match run(rt, rt.alloc()) {
+        Ok(log) => match print!(rt; "{log}") {
+            Ok(()) => ExitCode::SUCCESS,
+            Err(_) => ExitCode::FAILURE,
+        },
+        Err(_) => {
+            let _ = eprintln!(rt; "lamps: {}", Refusal::NoMemory);
+            ExitCode::FAILURE
+        }
+    }
+}

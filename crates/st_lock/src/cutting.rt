@@ -1,0 +1,66 @@
+//! Journals that stay short.
+ghost use Rattle.std.specs.Prelude.{◌≡◌, IfOk, IfErr};
+ghost use Rattle.st_events.specs.declared.refusal.Refusal.TheVariants.{NoMemory};
+ghost use Rattle.st_core.specs.Callbacks.{callbacks_of};
+ghost use Rattle.st_lock.specs.Bounded.{IsLongSomewhere, IsTakenBeyond};
+ghost use Rattle.st_lock.specs.Machines.{id_of};
+
+use crate::Machine;
+use crate::desk::a_desk_is_journaled;
+use crate::machine::give_back;
+use st_cell::{Journal, Module, Refusal};
+use std::sync::Wait;
+
+impl<M: Module> Machine<M> {
+    /// Cuts the journal, as `cut` does, where it has more entries than `limit`, and no fewer than events wait: so a cut, which
+    /// copies what waits, copies no more than there were entries. Answers whether it did.
+    ///
+    /// Refused with `NoMemory` where memory is wanted and there is none; then nothing is cut.
+    ///
+    /// Ours: docs/DECISIONS.md, Journals.
+    pub fn cut_beyond<R: Wait>(&self, rt: &R, limit: usize) -> Result<bool, Refusal>
+        ensures long { IfOk result (λ is_cut. IsLongSomewhere (callbacks_of M.Module M.State.eq) (id_of self.now) limit is_cut) }
+
+        ensures refusals { IfErr result (λ refusal. refusal ≡ NoMemory) }
+    {
+        let (taken, mut desk, mut holder) = self.arrive(rt);
+        a_desk_is_journaled(&desk);
+        let is_long = desk.is_long(limit);
+        let answer = if is_long { desk.cut() } else { Ok(()) };
+        drop(give_back(taken, &mut holder, desk));
+        match answer {
+            Ok(()) => Ok(is_long),
+            Err(refusal) => Err(refusal),
+        }
+    }
+
+    /// Hands the journal out, with a label, and cuts it, as `take_journal` does, where it has more entries than `limit`, and
+    /// no fewer than events wait. `None`: it is shorter, and stays.
+    ///
+    /// Refused with `NoMemory` where memory is wanted and there is none; then the journal stays.
+    ///
+    /// Ours: docs/DECISIONS.md, Journals.
+    pub fn take_journal_beyond<R: Wait>(
+        &self,
+        rt: &R,
+        limit: usize,
+        label: &str,
+    ) -> Result<Option<Journal<M::State, M::Content>>, Refusal>
+        ensures taken { IfOk result (λ journal. IsTakenBeyond (callbacks_of M.Module M.State.eq) (id_of self.now) limit label.now journal) }
+
+        ensures refusals { IfErr result (λ refusal. refusal ≡ NoMemory) }
+    {
+        let (taken, mut desk, mut holder) = self.arrive(rt);
+        a_desk_is_journaled(&desk);
+        if !desk.is_long(limit) {
+            drop(give_back(taken, &mut holder, desk));
+            return Ok(None);
+        }
+        let answer = desk.take_journal(label);
+        drop(give_back(taken, &mut holder, desk));
+        match answer {
+            Ok(journal) => Ok(Some(journal)),
+            Err(refusal) => Err(refusal),
+        }
+    }
+}

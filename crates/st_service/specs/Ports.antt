@@ -1,0 +1,30 @@
+-- A port of a service's machine: what was posted through it, and how many events may wait where it posts.
+use Rattle.std.specs.Prelude.{◌≡◌, ℕ, Result, Ok, Err}
+use Rattle.st_events.specs.declared.machine_id.MachineId.{MachineId}
+use Rattle.st_core.specs.Callbacks.{Callbacks}
+use Rattle.st_core.specs.declared.entry.Entry.{Entry}
+use Rattle.st_cell.specs.declared.post.Post.{Post}
+use Rattle.st_scheduled.specs.declared.posted.Posted.{Posted}
+use Rattle.st_lock.specs.Bounded.{PostsWithin}
+use Rattle.st_lock.specs.Ports.{PortState, posted}
+use Rattle.st_lock.specs.declared.unposted.Unposted.{Unposted}
+
+-- what a contract sees of a service's port: the port, and how many events may wait at its machine
+pub record ServicePortState (C : Type 0) : Type 0 where
+  pub port : PortState C
+  pub limit : ℕ
+
+-- an event was posted too
+abbrev pub with_post : {C : Type 0} → Post C → ServicePortState C → ServicePortState C
+with_post post old = record old { port = posted post old.port }
+
+-- the number alone
+abbrev pub numbered : {C : Type 0} → Result Posted (Unposted C) → Result ℕ (Unposted C)
+numbered (Ok posted) = Ok posted.number
+numbered (Err unposted) = Err unposted
+
+module _ {M S D C : Type 0} (callbacks : M → Callbacks S D C) where
+  -- some lawful cell of the port's machine answers a bounded post so, by its number
+  abbrev pub SendsWithin : MachineId → ℕ → ℕ → Entry → C → Result ℕ (Unposted C) → Type 0
+  SendsWithin id count limit entry content result =
+      (answer : Result Posted (Unposted C)) × PostsWithin callbacks id count limit entry content answer × (result ≡ numbered answer)

@@ -1,0 +1,238 @@
+//! Machines that are served.
+ghost use Rattle.std.specs.Prelude.{◌≡◌, ◌⊎◌, ◌≤◌, ℕ, Result, Err, IfOk, IfErr, option_copied};
+ghost use Rattle.std.specs.Arc.{arc_value};
+ghost use Rattle.st_events.specs.declared.refusal.Refusal.TheVariants.{NoMemory, NoSuchName, NoSuchMachine};
+ghost use Rattle.st_directory.specs.Entries.{names_of_entries};
+ghost use Rattle.st_lock.specs.Machines.{id_of};
+ghost use Rattle.st_lock.specs.Ports.{port_at_first};
+ghost use Rattle.st_events.specs.declared.refused.Refused.{Refused};
+ghost use Rattle.st_core.specs.Callbacks.{callbacks_of};
+ghost use Rattle.st_core.specs.Start.{start_of};
+ghost use Rattle.st_registry.specs.declared.started.Started.{Started};
+ghost use Rattle.st_hall.specs.Hall.{StartsSomewhere, IsNamedSomewhere, AreNamesSomewhere};
+ghost use Rattle.st_service.specs.Spawning.{module_in, AnswersStart};
+ghost use Rattle.st_service.specs.declared.unspawned.Unspawned.TheVariants.{Closed};
+
+use crate::closing::Closing;
+use crate::link::Link;
+use crate::served_hall::ServedHall;
+use crate::shutting::Shutting;
+use crate::{Observer, Options, ServicePort, Slices, Spawned, Unspawned};
+use st_events::Token;
+use st_hall::{Hall, Machine, MachineId, Module, Refusal, Refused, Registry, Started};
+use st_pool::Runtime;
+use st_ticker::{TickedPool, Ticker};
+use std::alloc::{AllocError, Global};
+use std::rt::Clock;
+use std::sync::Arc;
+use std::time::Instant;
+
+/// Machines of one module, workers in threads of their own that serve them, and a ticker in one more that makes their
+/// time-outs come. Any number of threads may share it.
+///
+/// One that is let go ends its threads, each after the turn that it is in. What waits at its machines is let go with them.
+/// `shut_down` ends it in order.
+///
+/// Moments are the milliseconds since its start.
+///
+/// Manual: the introduction; ours: docs/DECISIONS.md, Services.
+#[derive(Drop)]
+pub struct Service<M: Module, R: Runtime + Clock, O: Observer<M> + Drop> {
+    pub(crate) rt: R,
+    pub(crate) alloc: Global,
+    pub(crate) options: Options,
+    pub(crate) pool: TickedPool<R, M::Content, Ticker<M, R>>,
+    pub(crate) link: Arc<Link<M, R, O>, Global>,
+    pub(crate) ticker: Arc<Ticker<M, R>, Global>,
+    pub(crate) served: Arc<ServedHall<M, R, O>, Global>,
+    pub(crate) hall: Arc<Hall<M, R>, Global>,
+    pub(crate) shutting: Shutting<M::Content>,
+}
+
+impl<M: Module + Send + Sync + 'static, R: Runtime + Clock, O> Service<M, R, O>
+where
+    O: Observer<M> + Drop + Send + Sync + 'static,
+    M::State: Send + Sync + 'static,
+    M::Data: Send + Sync + 'static,
+    M::Content: Send + Sync + 'static,
+    M::Arg: Send + Sync + 'static,
+{
+    /// Starts a service without machines: 1 to 16 workers and a ticker.
+    ///
+    /// Refused with `AllocError` where there is no memory, no thread or no clock; then no thread is left running.
+    ///
+    /// Ours: docs/DECISIONS.md, Services.
+    pub fn start(
+        rt: R,
+        alloc: Global,
+        workers: usize,
+        options: Options,
+        observer: O,
+    ) -> Result<Service<M, R, O>, AllocError>
+        requires { (1 ≤ workers) × (workers ≤ 16) }
+    {
+        let Ok(start) = Instant::now(&rt) else {
+            return Err(AllocError);
+        };
+        let closing = Closing::new(alloc)?;
+        let hall = Arc::new(alloc, Hall::new(rt, Registry::new(alloc)))?;
+        let ticker = Ticker::new(rt, alloc, start, &hall)?;
+        let slices = Slices::new(Arc::try_clone(&hall)?);
+        let theirs = Arc::try_clone(&hall)?;
+        let limit = options.journal;
+        let served = ServedHall::new(rt, theirs, slices, observer, limit, closing.share()?);
+        let served = Arc::new(alloc, served)?;
+        let pool = TickedPool::start(rt, alloc, workers, &served, &ticker)?;
+        let scheduler = pool.pool().scheduler()?;
+        let theirs = Arc::try_clone(&served)?;
+        let link = Link::new(rt, scheduler, closing, theirs, Arc::try_clone(&ticker)?);
+        Ok(Service {
+            rt,
+            alloc,
+            options,
+            pool,
+            link: Arc::new(alloc, link)?,
+            ticker,
+            served,
+            hall,
+            shutting: Shutting::new(alloc),
+        })
+    }
+}
+
+impl<M: Module, R: Runtime + Clock, O: Observer<M> + Drop> Service<M, R, O> {
+    /// Starts a machine, under a name if one is given, and opens a port on it. Workers serve it from now on, and its time-outs
+    /// come. The module's `init` and first enter call run in the caller's thread.
+    ///
+    /// Refused with `Closed` where the service is shutting down, and as `Hall::start` is. Then nothing has changed, and the
+    /// module comes back. Where there is no memory to schedule or to watch the machine, that is tried again until the service
+    /// is shutting down; no contract says that this ends.
+    ///
+    /// Manual: `start/3`, `start/4`, `start_ret()`; ours: docs/DECISIONS.md, Services.
+    pub fn spawn(
+        &self,
+        name: Option<&str>,
+        module: M,
+        arg: &M::Arg,
+    ) -> Result<Spawned<M, R, O>, Unspawned<M>>
+        ensures starts { (result ≡ Err (Closed «module»)) ⊎ ((now : ℕ) × (answer : Result Started (Refused M)) × StartsSomewhere {A = M.Arg} «module» (λ id. start_of (callbacks_of M.Module M.State.eq «module») «module» id (M.init_is «module» arg.now) now 1) (option_copied name.entry) now answer × AnswersStart answer result) }
+
+        ensures returned { IfErr result (λ unspawned. module_in unspawned ≡ «module») }
+    {
+        let is_closed = self.link.is_closed().read(&self.rt);
+        if *is_closed || self.link.is_closing() {
+            return Err(Unspawned::Closed(module));
+        }
+        let started = self.hall.start(name, module, arg, self.ticker.now());
+        self.answer(started)
+    }
+
+    /// What a start came to. A machine that runs is watched and scheduled, and a port is opened on it.
+    fn answer(&self, started: Result<Started, Refused<M>>) -> Result<Spawned<M, R, O>, Unspawned<M>>
+        ensures { AnswersStart started result }
+    {
+        match started {
+            Ok(Started::Running { id, wake }) => {
+                self.begin(id, wake);
+                Ok(Spawned::Running(id, self.port(id).ok()))
+            }
+            Ok(Started::Ignored) => Ok(Spawned::Ignored),
+            Ok(Started::Stopped(reason)) => Ok(Spawned::Stopped(reason)),
+            Err(refused) => Err(Unspawned::Refused(refused)),
+        }
+    }
+
+    /// A machine that was started is watched, and scheduled where it has work. Where there is no memory, it is tried again
+    /// until the service is shutting down.
+    fn begin(&self, id: MachineId, wake: Option<Token>) {
+        for _ in self.rt.forever() {
+            if self.ticker.watch(id).is_ok() || self.link.gives_up() {
+                break;
+            }
+        }
+        // Where it comes back, the service is shutting down, and no worker would serve it.
+        let _ = self.link.schedule(wake);
+    }
+
+    /// The machine of an id, as `Hall::machine` answers it.
+    ///
+    /// Refused with `NoSuchMachine` where the id names none now, and with `NoMemory` where the machine has as many owners as
+    /// can be counted.
+    ///
+    /// Ours: docs/DECISIONS.md, Services.
+    pub fn machine(&self, id: MachineId) -> Result<Arc<Machine<M>, Global>, Refusal>
+        ensures id { IfOk result (λ machine. id_of (arc_value machine) ≡ id) }
+
+        ensures refusals { IfErr result (λ refusal. (refusal ≡ NoSuchMachine) ⊎ (refusal ≡ NoMemory)) }
+    {
+        self.hall.machine(id)
+    }
+
+    /// The id of the machine of a name.
+    ///
+    /// Refused with `NoSuchName` where the name is not registered.
+    ///
+    /// Manual: `server_ref()`; ours: docs/DECISIONS.md, Services.
+    pub fn whereis(&self, name: &str) -> Result<MachineId, Refusal>
+        ensures found { IfOk result (λ id. IsNamedSomewhere M M.State M.Data M.Content M.Arg name.now id) }
+
+        ensures refusals { IfErr result (λ refusal. refusal ≡ NoSuchName) }
+    {
+        self.hall.whereis(name)
+    }
+
+    /// A copy of the names, each with the id of its machine, in order of registration.
+    ///
+    /// Refused with `AllocError` where memory is wanted and there is none.
+    ///
+    /// Ours: docs/DECISIONS.md, Services.
+    pub fn names(&self) -> Result<Vec<(String, MachineId)>, AllocError>
+        ensures names { IfOk result (λ names. AreNamesSomewhere M M.State M.Data M.Content M.Arg (names_of_entries names.items)) }
+    {
+        self.hall.names(self.alloc)
+    }
+
+    /// How many machines there are.
+    ///
+    /// Ours: docs/DECISIONS.md, Services.
+    pub fn len(&self) -> usize {
+        self.hall.len()
+    }
+
+    /// Says whether there is no machine.
+    ///
+    /// Ours: docs/DECISIONS.md, Services.
+    pub fn is_empty(&self) -> bool {
+        self.hall.is_empty()
+    }
+
+    /// Opens the next port on a machine. Nothing was posted through it yet.
+    ///
+    /// Refused with `NoSuchMachine` where the id names none now, and with `NoMemory`; then none is opened.
+    ///
+    /// Ours: docs/DECISIONS.md, Ports.
+    pub fn port(&self, id: MachineId) -> Result<ServicePort<M, R, O>, Refusal>
+        ensures opened { IfOk result (λ port. port.port ≡ port_at_first id) }
+
+        ensures refusals { IfErr result (λ refusal. (refusal ≡ NoSuchMachine) ⊎ (refusal ≡ NoMemory)) }
+    {
+        let machine = self.hall.machine(id)?;
+        let link = Arc::try_clone(&self.link)?;
+        let port = Machine::port(&machine, &self.rt)?;
+        Ok(ServicePort::new(port, link, self.options.waiting))
+    }
+
+    /// Removes a machine that has ended, as `Hall::remove_stopped` does. The observer is told what its journal holds.
+    ///
+    /// Refused with `NoSuchMachine` where the id names none now, with `NotStopped` where the machine has not ended or a message
+    /// of it was not delivered, and with `NoMemory`; then it is not removed.
+    ///
+    /// Ours: docs/DECISIONS.md, Services.
+    pub fn remove_stopped(&self, id: MachineId) -> Result<(), Refusal> {
+        let machine = self.hall.machine(id)?;
+        if self.served.is_observed() && machine.removable(&self.rt) {
+            self.served.tell_all(&*machine)?;
+        }
+        self.hall.remove_stopped(id)
+    }
+}

@@ -1,0 +1,2 @@
+-- What a clerk does.
+pub mod Clerk

@@ -1,0 +1,165 @@
+//! Each call finds no memory once, and is made again.
+use super::host::{Host, got, holds, same};
+use super::house::{ALONE, Hatch, House, OPTIONS, Threads};
+use super::tally::{Counting, Tally};
+use super::watchdog::Watchdog;
+use crate::{Clerk, Order};
+use st_service::{
+    Called, MachineId, Refusal, Refused, Service, ShutDown, Spawned, Unposted, Unspawned,
+};
+use std::alloc::Global;
+use std::process::Abort;
+use std::sync::Arc;
+use std::sync::atomic::{AtomicU64, Ordering};
+
+/// A service of clerks that are counted.
+type Counted<R> = House<R, Counting>;
+
+/// A tally, with its owners' count.
+fn tally(rt: &Host<impl Abort>, alloc: Global) -> Arc<Tally, Global> {
+    for _ in 0..2 {
+        let tally = Tally {
+            reports: AtomicU64::new(0),
+            numbers: AtomicU64::new(0),
+            entries: AtomicU64::new(0),
+        };
+        match Arc::new(alloc, tally) {
+            Ok(tally) => return tally,
+            Err(_) => rt.retry(),
+        }
+    }
+    panic!(rt; "one allocation alone is refused")
+}
+
+/// A service of one worker. Where there is no memory, it is started again.
+fn starts<R: Threads>(
+    rt: &Host<impl Abort>,
+    threads: R,
+    alloc: Global,
+    tally: &Arc<Tally, Global>,
+) -> Counted<R> {
+    for _ in 0..2 {
+        let theirs = Arc::try_clone(tally).expect(rt, "an owner");
+        match Service::start(threads, alloc, 1, OPTIONS, Counting { tally: theirs }) {
+            Ok(house) => return house,
+            Err(_) => rt.retry(),
+        }
+    }
+    panic!(rt; "one allocation alone is refused")
+}
+
+/// A clerk is hired. Where there is no memory, nobody was, and he is hired again; or the port is opened then.
+fn hires<R: Threads>(rt: &Host<impl Abort>, house: &Counted<R>) -> (MachineId, Hatch<R, Counting>) {
+    for _ in 0..2 {
+        match house.spawn(Some("anna"), ALONE, &()) {
+            Ok(Spawned::Running(id, Some(hatch))) => return (id, hatch),
+            Ok(Spawned::Running(id, None)) => {
+                rt.retry();
+                return (id, got(rt, "a port", house.port(id)));
+            }
+            Ok(_) => panic!(rt; "he is there"),
+            Err(refused) => {
+                holds(rt, "there was no memory", is_want(refused));
+                holds(rt, "nobody was hired", house.is_empty());
+                rt.retry();
+            }
+        }
+    }
+    panic!(rt; "one allocation alone is refused")
+}
+
+/// A start was refused for want of memory.
+fn is_want(refused: Unspawned<Clerk>) -> bool {
+    match refused {
+        Unspawned::Refused(Refused { refusal, .. }) => refusal == Refusal::NoMemory,
+        Unspawned::Closed(_) => false,
+    }
+}
+
+/// A clerk is told an order. Where there is no memory, nothing was posted, and he is told again.
+fn tells<R: Threads>(rt: &Host<impl Abort>, hatch: &mut Hatch<R, Counting>, order: Order) {
+    for _ in 0..2 {
+        let count = hatch.count();
+        let Err(refused) = hatch.cast(order) else {
+            return;
+        };
+        let want = Unposted::Refused(Refused::new(Refusal::NoMemory, order));
+        same(rt, "there was no memory", &refused, &want);
+        same(rt, "nothing was posted", &hatch.count(), &count);
+        rt.retry();
+    }
+    panic!(rt; "one allocation alone is refused")
+}
+
+/// The sum that a clerk replies with.
+fn asks<R: Threads>(rt: &Host<impl Abort>, threads: R, hatch: &mut Hatch<R, Counting>) -> u32 {
+    for _ in 0..2 {
+        match hatch.call(Order::Ask) {
+            Ok(Called::Reply(Order::Sum(sum))) => return sum,
+            Ok(Called::Uncollected(id, Refusal::NoMemory)) => {
+                rt.retry();
+                match st_client::receive(&threads, id) {
+                    Called::Reply(Order::Sum(sum)) => return sum,
+                    _ => panic!(rt; "he replies"),
+                }
+            }
+            Ok(_) => panic!(rt; "he replies"),
+            Err(_) => rt.retry(),
+        }
+    }
+    panic!(rt; "one allocation alone is refused")
+}
+
+/// A service is shut down. Where there is no memory, it is shut down again.
+fn shuts<R: Threads>(rt: &Host<impl Abort>, house: &mut Counted<R>) -> ShutDown<Order> {
+    for _ in 0..2 {
+        match house.shut_down(7) {
+            Ok(end) => return end,
+            Err(_) => rt.retry(),
+        }
+    }
+    panic!(rt; "one allocation alone is refused")
+}
+
+/// Each call, in turn.
+fn goes_through<R: Threads>(rt: &Host<impl Abort>, threads: R, alloc: Global) {
+    let tally = tally(rt, alloc);
+    let mut house = starts(rt, threads, alloc, &tally);
+    let (_, mut hatch) = hires(rt, &house);
+    tells(rt, &mut hatch, Order::Add(4));
+    tells(rt, &mut hatch, Order::Later(1));
+    for _ in 0..40_000 {
+        if asks(rt, threads, &mut hatch) == 5 {
+            break;
+        }
+        std::thread::sleep(&threads, std::time::Duration::from_millis(1));
+    }
+    same(rt, "the sum", &asks(rt, threads, &mut hatch), &5);
+    let end = shuts(rt, &mut house);
+    holds(
+        rt,
+        "it ends",
+        hatch.machine().ended(&threads) == Some((7, 5)),
+    );
+    // Each event from the first on was handled, and its report was told once.
+    let reports = tally.reports.load(Ordering::SeqCst).min(1_000_000);
+    let numbers = tally.numbers.load(Ordering::SeqCst);
+    same(rt, "each is told", &numbers, &(reports * (reports + 1) / 2));
+    drop(end);
+    drop(hatch);
+    drop(house);
+    drop(tally);
+}
+
+#[test]
+fn a_service_finds_no_memory_once(rt: HostRuntime) {
+    let threads = rt;
+    let rt = Host::new(rt);
+    let Some(watchdog) = Watchdog::start(threads, rt.alloc()) else {
+        rt.retry();
+        return;
+    };
+    goes_through(&rt, threads, rt.alloc());
+    watchdog.end(threads);
+    rt.end();
+}

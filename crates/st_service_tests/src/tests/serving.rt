@@ -1,0 +1,141 @@
+//! Clerks are hired, told, asked, and refuse what is too much.
+use super::host::{Host, got, holds, same};
+use super::house::{ALONE, OPTIONS, asks, hires, house, is_busy, sums, tells};
+use crate::{Clerk, Order};
+use st_service::{Called, Nobody, Options, Refusal, Refused, Unspawned};
+
+#[test]
+fn a_clerk_is_told_and_asked(rt: HostRuntime) {
+    let threads = rt;
+    let rt = Host::with_memory(rt);
+    let mut house = house(&rt, threads, OPTIONS, Nobody);
+    let (id, mut hatch) = hires(&rt, &house, Some("anna"), ALONE);
+    for more in 1..=10 {
+        tells(&rt, &mut hatch, Order::Add(more));
+    }
+    same(&rt, "the sum", &asks(&rt, &mut hatch), &55);
+    got(&rt, "he is told a message", hatch.info(Order::Add(1)));
+    let request = got(&rt, "he is asked", hatch.send_request(Order::Ask));
+    same(&rt, "the next sum", &asks(&rt, &mut hatch), &56);
+    let look = got(&rt, "there is memory", hatch.look());
+    holds(
+        &rt,
+        "he was told so often",
+        look.mine == 14 && hatch.count() == 14,
+    );
+    holds(&rt, "his journal is short", look.numbers.len() <= 13);
+    same(&rt, "by name", &house.whereis("anna"), &Ok(id));
+    holds(&rt, "one clerk", house.len() == 1 && !house.is_empty());
+    let taken = house.spawn(Some("anna"), ALONE, &());
+    holds(&rt, "the name is taken", is_taken(taken.err(), id));
+    let end = got(&rt, "there is memory", house.shut_down(7));
+    holds(&rt, "one was stopped", end.stopped == 1 && end.events == 0);
+    drop(request);
+    drop(hatch);
+    drop(house);
+    rt.end_with_memory();
+}
+
+/// A start was refused, since the name is taken by this machine.
+fn is_taken(refused: Option<Unspawned<Clerk>>, id: st_service::MachineId) -> bool {
+    match refused {
+        Some(Unspawned::Refused(Refused { refusal, .. })) => {
+            refusal == Refusal::AlreadyStarted(id)
+        }
+        _ => false,
+    }
+}
+
+#[test]
+fn who_calls_a_clerk_at_rest_makes_his_turn(rt: HostRuntime) {
+    let threads = rt;
+    let rt = Host::with_memory(rt);
+    let mut house = house(&rt, threads, OPTIONS, Nobody);
+    let (_, mut hatch) = hires(&rt, &house, None, ALONE);
+    for _ in 0..100 {
+        same(&rt, "nothing yet", &asks(&rt, &mut hatch), &0);
+    }
+    let end = got(&rt, "there is memory", house.shut_down(7));
+    same(&rt, "no worker had a turn", &end.turns, &0);
+    drop(end);
+    drop(hatch);
+    drop(house);
+    rt.end_with_memory();
+}
+
+#[test]
+fn what_a_call_leaves_is_the_workers(rt: HostRuntime) {
+    let threads = rt;
+    let rt = Host::with_memory(rt);
+    let house = house(&rt, threads, OPTIONS, Nobody);
+    let (_, mut hatch) = hires(&rt, &house, None, ALONE);
+    let taken = got(&rt, "he is asked", hatch.call(Order::Take(5)));
+    holds(
+        &rt,
+        "the sum before",
+        matches!(taken, Called::Reply(Order::Sum(0))),
+    );
+    let machine = hatch.machine();
+    for _ in 0..40_000 {
+        if machine.waiting(&threads) == 0 {
+            break;
+        }
+        std::thread::sleep(&threads, std::time::Duration::from_millis(1));
+    }
+    same(&rt, "it was added", &asks(&rt, &mut hatch), &5);
+    drop(taken);
+    drop(hatch);
+    drop(house);
+    rt.end_with_memory();
+}
+
+#[test]
+fn a_time_out_comes_by_itself(rt: HostRuntime) {
+    let threads = rt;
+    let rt = Host::with_memory(rt);
+    let house = house(&rt, threads, OPTIONS, Nobody);
+    let (_, mut hatch) = hires(&rt, &house, None, ALONE);
+    tells(&rt, &mut hatch, Order::Later(2));
+    sums(&rt, threads, &mut hatch, 1);
+    drop(hatch);
+    drop(house);
+    rt.end_with_memory();
+}
+
+#[test]
+fn a_busy_clerk_refuses_and_takes_again(rt: HostRuntime) {
+    let threads = rt;
+    let rt = Host::with_memory(rt);
+    let few = Options {
+        waiting: 3,
+        ..OPTIONS
+    };
+    let house = house(&rt, threads, few, Nobody);
+    let (shut, mut hatch) = hires(&rt, &house, None, ALONE);
+    let (_, mut other) = hires(&rt, &house, None, ALONE);
+    tells(&rt, &mut hatch, Order::Shut);
+    same(&rt, "nothing yet", &asks(&rt, &mut hatch), &0);
+    for _ in 0..3 {
+        tells(&rt, &mut hatch, Order::Add(5));
+    }
+    is_busy(&rt, hatch.cast(Order::Add(6)), Order::Add(6));
+    holds(&rt, "nor is he asked", hatch.call(Order::Ask).is_err());
+    same(&rt, "nothing was posted", &hatch.count(), &5);
+    // A message from another machine comes in all the same.
+    tells(&rt, &mut other, Order::Tell(shut));
+    let machine = got(&rt, "he is there", house.machine(shut));
+    for _ in 0..40_000 {
+        if machine.waiting(&threads) == 0 {
+            break;
+        }
+        std::thread::sleep(&threads, std::time::Duration::from_millis(1));
+    }
+    same(&rt, "what waited was added", &asks(&rt, &mut hatch), &15);
+    tells(&rt, &mut hatch, Order::Add(6));
+    same(&rt, "and more", &asks(&rt, &mut hatch), &21);
+    drop(machine);
+    drop(other);
+    drop(hatch);
+    drop(house);
+    rt.end_with_memory();
+}
