@@ -1,0 +1,2 @@
+-- What a mailbox answers, by its tables.
+pub mod Protocol
