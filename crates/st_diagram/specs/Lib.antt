@@ -1,0 +1,5 @@
+-- What a diagram is: the marks of an arrow, the arrows, their lines, and the whole text.
+pub mod Arrows
+pub mod Diagram
+pub mod Lines
+pub mod Marks
