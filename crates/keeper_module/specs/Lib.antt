@@ -1,0 +1,2 @@
+-- What a connection answers, by its table.
+pub mod Pooling

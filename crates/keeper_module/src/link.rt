@@ -1,0 +1,18 @@
+//! The states of a connection.
+
+/// How far the connection is, and who has it.
+///
+/// Manual: `state()`, a term of any form in `handle_event_function`.
+#[derive(Clone, Copy, Debug, PartialEq, Eq)]
+pub enum Link {
+    /// It is not connected. Ours: the first state.
+    Down,
+    /// An attempt to connect is being made. Ours: after a `CheckOut`, a `Lost`, or a pause.
+    Connecting,
+    /// It is connected, and nobody has it. Ours: after `Connected` and `CheckIn`, and where the lease is over.
+    Free,
+    /// It is connected, and the client of this number has it. Ours: after a `CheckOut` that is answered.
+    Busy(u32),
+    /// An attempt has failed, and the next one is not made yet. Ours: after `Failed`.
+    BackingOff,
+}
