@@ -41,7 +41,7 @@ postpones = KeepStateAndData (Postpone true ∷ [])
 
 -- the owner is told something
 abbrev pub tells : History → Content → Action Content
-tells held content = Send held.place.owner content
+tells held word = Send held.place.owner word
 
 -- the lease: a client may keep the connection for 30,000 milliseconds
 abbrev pub lease_runs : Action Content
@@ -97,7 +97,7 @@ check_out_of tag client state held = postpones
 abbrev pub call_of : Tag → Content → Link → History → Handled
 call_of tag (CheckOut client) state held = check_out_of tag client state held
 call_of tag Count state held = KeepStateAndData (Reply tag (Counted held.count) ∷ [])
-call_of tag content state held = stays
+call_of tag other state held = stays
 
 -- a client gives the connection back: that of somebody else is not given back
 abbrev pub check_in_of : ℕ → ℕ → History → Handled
@@ -111,7 +111,7 @@ renew_of client holder = if client == holder then KeepStateAndData (lease_runs �
 abbrev pub cast_of : Content → Link → History → Handled
 cast_of (CheckIn client) (Busy holder) held = check_in_of client holder held
 cast_of (Renew client) (Busy holder) held = renew_of client holder
-cast_of content state held = stays
+cast_of other state held = stays
 
 -- the attempt is done: the connection is free, and no failure is remembered
 abbrev pub connected : History → Handled
@@ -128,7 +128,7 @@ info_of Progress Connecting held = RepeatStateAndData []
 info_of Failed Connecting held = fails held
 info_of Lost Free held = connects held
 info_of Lost (Busy holder) held = lost held
-info_of content state held = stays
+info_of other state held = stays
 
 -- an attempt takes too long: that counts as a failure, before all that waits, and the owner is to let it be
 abbrev pub overdue : History → Handled
@@ -136,7 +136,7 @@ overdue held = KeepStateAndData (NextEvent Info Failed ∷ tells held Close ∷ 
 
 -- the connection leaves its state, and the owner is told why
 abbrev pub leaves : Link → Content → History → Handled
-leaves state content held = NextState state held (tells held content ∷ [])
+leaves state word held = NextState state held (tells held word ∷ [])
 
 -- a time-out; the first row that fits counts
 abbrev pub timeout_of : Timer → Link → History → Handled
@@ -148,11 +148,11 @@ timeout_of timer state held = stays
 
 -- what a connection answers to an event
 abbrev pub handle_of : Kind → Content → Link → History → Handled
-handle_of (Call tag) content state held = call_of tag content state held
-handle_of Cast content state held = cast_of content state held
-handle_of Info content state held = info_of content state held
-handle_of (Timeout timer) content state held = timeout_of timer state held
-handle_of kind content state held = stays
+handle_of (Call tag) asked state held = call_of tag asked state held
+handle_of Cast asked state held = cast_of asked state held
+handle_of Info asked state held = info_of asked state held
+handle_of (Timeout timer) asked state held = timeout_of timer state held
+handle_of kind asked state held = stays
 
 -- a connection begins without a socket: the first client brings it about
 abbrev pub init_of : Place → Init Link History Content
