@@ -8,25 +8,30 @@ use lamp_module::{Bulb, Lamp, Light, Press};
 use lamp_names::LampNames;
 use mail_module::{Command, Content, Mail, Mailbox, Phase, Session, Take};
 use mail_names::MailNames;
-use st_diagram::mermaid;
+use st_diagram::{dot, mermaid};
 use st_events::{Kind, MachineId, Tag, Timer};
 use std::alloc::{AllocError, Global};
 use std::process::ExitCode;
 
+/// The events of a lamp.
+const PRESSES: [(Kind, Press); 2] = [
+    (Kind::Cast, Press::Switch),
+    (Kind::Cast, Press::Renew(Bulb { left: 9 })),
+];
+
+/// The states of a lamp, the first one first.
+const LIGHTS: [Light; 2] = [Light::Off, Light::On];
+
 /// The diagram of a lamp whose bulb lasts.
 fn lamp(alloc: Global) -> Result<String, AllocError> {
-    let events = [
-        (Kind::Cast, Press::Switch),
-        (Kind::Cast, Press::Renew(Bulb { left: 9 })),
-    ];
-    mermaid(
-        alloc,
-        &Lamp,
-        &LampNames,
-        &Bulb { left: 1 },
-        &[Light::Off, Light::On],
-        &events,
-    )
+    let bulb = Bulb { left: 1 };
+    mermaid(alloc, &Lamp, &LampNames, &bulb, &LIGHTS, &PRESSES)
+}
+
+/// The same in DOT.
+fn lamp_in_dot(alloc: Global) -> Result<String, AllocError> {
+    let bulb = Bulb { left: 1 };
+    dot(alloc, &Lamp, &LampNames, &bulb, &LIGHTS, &PRESSES)
 }
 
 /// The diagram of a mailbox with two mails, and with one try left.
@@ -74,16 +79,18 @@ fn mail(alloc: Global) -> Result<String, AllocError> {
     mermaid(alloc, &Mail, &MailNames, &data, &states, &events)
 }
 
-/// Both diagrams.
-fn both(alloc: Global) -> Result<String, AllocError> {
+/// All diagrams.
+fn all(alloc: Global) -> Result<String, AllocError> {
     let mut text = lamp(alloc)?;
+    let other = lamp_in_dot(alloc)?;
+    text.push_str(other.as_str())?;
     let other = mail(alloc)?;
     text.push_str(other.as_str())?;
     Ok(text)
 }
 
 fn main(rt: HostRuntime) -> ExitCode {
-    match both(rt.alloc()) {
+    match all(rt.alloc()) {
         Ok(text) => match print!(rt; "{text}") {
             Ok(()) => ExitCode::SUCCESS,
             Err(_) => ExitCode::FAILURE,

@@ -38,8 +38,8 @@ type Entered = EnterOutcome<Journey, Content>;
 ///
 /// It tells the door to close, and moves once the door says that it is closed; at its floor it tells the door to open,
 /// and replies once the door says that it is open. A call that comes before is postponed. Where nobody wants it for
-/// 60,000 milliseconds it parks. Where it is halted, where the door does not
-/// close, or opens on the way, all calls fail, and it stays where it is.
+/// 60,000 milliseconds it parks. Where it is halted, where the door does not close, or opens on the way, all calls fail,
+/// and it stays where it is.
 ///
 /// It has enter calls: those of `Leaving` and of `Moving` set the time-out of the door and that of a floor. Its last word
 /// is its floor.
