@@ -2,7 +2,7 @@
 use Rattle.std.proofs.Common.{◌≡◌, Bool, true, false, not, Option, Some, None, refl, ap, sym, ◌∙◌, if◌then◌else◌}
 use Rattle.st_events.specs.declared.event.Event.{Event}
 use Rattle.st_core.specs.declared.machine_state.MachineState.{MachineState}
-use Rattle.st_core.specs.Callbacks.{Callbacks, Called, or_old, differs, said_by, outcome_of, is_entered, handled_with, entered_by, called_of}
+use Rattle.st_core.specs.Callbacks.{Callbacks, Called, or_old, differs, asked_by, outcome_of, is_entered, handled_with, entered_by, called_of}
 
 not_both : (same : Bool) → same ≡ true → not same ≡ true → ⊥
 not_both true h k = cc
@@ -41,10 +41,10 @@ module _ {S D C : Type 0} (callbacks : Callbacks S D C) (machine : MachineState 
   pub changed_is_another : ((one : S) → callbacks.same_state one one ≡ true) → (called_of callbacks machine event).changed ≡ true
       → (called_of callbacks machine event).state ≡ machine.state → ⊥
   changed_is_another reflexive changed same =
-      another callbacks.same_state reflexive machine.state (said_by (outcome_of callbacks machine event)).state
+      another callbacks.same_state reflexive machine.state (asked_by (outcome_of callbacks machine event)).state
       (sym as_handled.1 ∙ changed) (sym as_handled.0 ∙ same)
 
   pub unchanged_is_the_same : ((one other : S) → callbacks.same_state one other ≡ true → one ≡ other) → (called_of callbacks machine event).changed ≡ false
       → (called_of callbacks machine event).state ≡ machine.state
   unchanged_is_the_same exact unchanged =
-      as_handled.0 ∙ the_same callbacks.same_state exact machine.state (said_by (outcome_of callbacks machine event)).state (sym as_handled.1 ∙ unchanged)
+      as_handled.0 ∙ the_same callbacks.same_state exact machine.state (asked_by (outcome_of callbacks machine event)).state (sym as_handled.1 ∙ unchanged)

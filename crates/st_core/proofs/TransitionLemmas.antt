@@ -27,7 +27,7 @@ use Rattle.st_core.specs.declared.turned.Turned.{Turned}
 use Rattle.st_core.specs.declared.turned.Turned.TheVariants.{Reported}
 use Rattle.st_core.specs.declared.machine_state.MachineState.{MachineState}
 use Rattle.st_core.specs.MachineState.{Machine}
-use Rattle.st_core.specs.Callbacks.{Callbacks, Called, or_old, differs, said_by, called_of, called_with, entered_by, is_entered}
+use Rattle.st_core.specs.Callbacks.{Callbacks, Called, or_old, differs, asked_by, called_of, called_with, entered_by, is_entered}
 use Rattle.st_core.specs.Gathering.{ComesTo, TurnsTo, turned_with}
 use Rattle.st_core.specs.declared.done.Done.{Done}
 use Rattle.st_core.specs.declared.gathered.Gathered.{Gathered}
@@ -171,9 +171,9 @@ module _ {S D C : Type 0} (machine : MachineState S D C) (entry : Entry) (conten
 -- ---- the course of a transition
 module _ {S D C : Type 0} (callbacks : Callbacks S D C) (machine : MachineState S D C) (calls : List (Call S)) (outcome : Outcome S D C) (course : Course S) (handled called : Called S D C) where
   -- what `handle` answers leads there
-  pub comes_of : handled ≡ called_with callbacks.same_state calls machine.state machine.data outcome → or_old machine.state (said_by outcome).state ≡ course.after
-      → differs callbacks.same_state machine.state (said_by outcome).state ≡ course.changed
-      → ComesTo course machine.data calls (said_by outcome).data (said_by outcome).actions handled
+  pub comes_of : handled ≡ called_with callbacks.same_state calls machine.state machine.data outcome → or_old machine.state (asked_by outcome).state ≡ course.after
+      → differs callbacks.same_state machine.state (asked_by outcome).state ≡ course.changed
+      → ComesTo course machine.data calls (asked_by outcome).data (asked_by outcome).actions handled
   comes_of handled_is same_state same_change = record {
     calls = rw handled_is refl;
     state = rw handled_is same_state;
@@ -183,12 +183,12 @@ module _ {S D C : Type 0} (callbacks : Callbacks S D C) (machine : MachineState 
   }
 
   -- and there is an enter call where the course says so
-  pub enters_by : differs callbacks.same_state machine.state (said_by outcome).state ≡ course.changed → (said_by outcome).repeats ≡ course.repeats
+  pub enters_by : differs callbacks.same_state machine.state (asked_by outcome).state ≡ course.changed → (asked_by outcome).repeats ≡ course.repeats
       → called ≡ (if is_entered callbacks machine.state outcome then entered_by callbacks machine.state handled else handled)
       → called ≡ (if callbacks.enters_is && (course.changed || course.repeats) then entered_by callbacks machine.state handled else handled)
   enters_by same_change same_repeat called_is =
       called_is
-      ∙ ap (λ (changed : Bool). if callbacks.enters_is && (changed || (said_by outcome).repeats) then entered_by callbacks machine.state handled else handled) same_change
+      ∙ ap (λ (changed : Bool). if callbacks.enters_is && (changed || (asked_by outcome).repeats) then entered_by callbacks machine.state handled else handled) same_change
       ∙ ap (λ (repeats : Bool). if callbacks.enters_is && (course.changed || repeats) then entered_by callbacks machine.state handled else handled) same_repeat
 
 module _ {S D C : Type 0} (callbacks : Callbacks S D C) (machine : MachineState S D C) (outcome : Outcome S D C) (handled called : Called S D C) where
@@ -197,12 +197,12 @@ module _ {S D C : Type 0} (callbacks : Callbacks S D C) (machine : MachineState 
   never false = refl
 
   -- one that stops the machine is entered by none
-  pub enters_not : differs callbacks.same_state machine.state (said_by outcome).state ≡ false → (said_by outcome).repeats ≡ false
+  pub enters_not : differs callbacks.same_state machine.state (asked_by outcome).state ≡ false → (asked_by outcome).repeats ≡ false
       → called ≡ (if is_entered callbacks machine.state outcome then entered_by callbacks machine.state handled else handled)
       → called ≡ handled
   enters_not same_change same_repeat called_is =
       called_is
-      ∙ ap (λ (changed : Bool). if callbacks.enters_is && (changed || (said_by outcome).repeats) then entered_by callbacks machine.state handled else handled) same_change
+      ∙ ap (λ (changed : Bool). if callbacks.enters_is && (changed || (asked_by outcome).repeats) then entered_by callbacks machine.state handled else handled) same_change
       ∙ ap (λ (repeats : Bool). if callbacks.enters_is && (false || repeats) then entered_by callbacks machine.state handled else handled) same_repeat
       ∙ ap (λ (enters : Bool). if enters then entered_by callbacks machine.state handled else handled) (never callbacks.enters_is)
 

@@ -1,4 +1,5 @@
-//! Tests of the door and of the script runner, through what their crate makes public.
+//! Tests of the door, of the script runner, and of scripts whose doors are served by workers, through what their crates make
+//! public.
 #![tactic(auto)]
 
 #[cfg(test)]

@@ -1,4 +1,5 @@
-//! Whole scripts against outputs worked out by hand, faults, limits, and each public call once.
+//! Whole scripts against outputs worked out by hand, faults, limits, and each public call once; and scripts run by workers,
+//! against what `run_script` prints.
 
 mod digits;
 mod door;
@@ -8,6 +9,11 @@ mod lengths;
 mod limits;
 mod lines;
 mod moments;
+mod pool_faults;
+mod pool_long;
+mod pool_streams;
+mod pool_worked;
+mod pools;
 mod scripts;
 mod streams;
 mod traces;

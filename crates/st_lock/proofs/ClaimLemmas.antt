@@ -1,4 +1,4 @@
--- What is claimed of a desk stays so.
+-- What is claimed of an inner state stays so.
 use Rattle.std.proofs.Common.{◌≡◌, ℕ, ◌+◌, ◌-◌, List, [], ◌∷◌, ◌++◌, length, refl, sym, ap, ◌∙◌, subst, arith}
 use Rattle.std.specs.Prelude.{Option, Some, None, IfSome, slice_get}
 use Rattle.std.specs.Global.{Box}
@@ -7,32 +7,32 @@ use Rattle.st_cell.specs.declared.post.Post.{Post}
 use Rattle.st_post_counter.specs.Endpoint.{CounterId, EndpointState}
 use Rattle.st_lock.specs.declared.claim.Claim.{Claim}
 use Rattle.st_lock.specs.declared.opened.Opened.{Opened}
-use Rattle.st_lock.specs.Claims.{HasEndOf, Fits, desk_of, HasSameCounters}
-use Rattle.st_lock.specs.Desk.{DeskState, HasEnd, counters_of}
-use Rattle.st_lock.proofs.DeskLemmas.{at_longer, at_last}
+use Rattle.st_lock.specs.Claims.{HasEndOf, Fits, inner_of, HasSameCounters}
+use Rattle.st_lock.specs.Inner.{InnerState, HasEnd, counters_of}
+use Rattle.st_lock.proofs.InnerLemmas.{at_longer, at_last}
 
 module _ {M S D C : Type 0} where
-  -- the desk that lies there has the endpoint
-  pub has_end : (desk : DeskState M S D C) (one : Opened) → HasEndOf (Some desk) one → HasEnd desk one.port one.counter
-  has_end desk one has =
-      let there : Some desk ≡ Some has.desk = has.there in
-      let same : desk ≡ has.desk = cc in
-      subst (λ (d : DeskState M S D C). HasEnd d one.port one.counter) (sym same) has.end
+  -- the inner state that lies there has the endpoint
+  pub has_end : (inner : InnerState M S D C) (one : Opened) → HasEndOf (Some inner) one → HasEnd inner one.port one.counter
+  has_end inner one has =
+      let there : Some inner ≡ Some has.inner = has.there in
+      let same : inner ≡ has.inner = cc in
+      subst (λ (d : InnerState M S D C). HasEnd d one.port one.counter) (sym same) has.end
 
   -- where none lies, nothing is claimed
-  from_none : (opened : Option Opened) (desk : DeskState M S D C)
-      → IfSome opened (λ (one : Opened). HasEndOf {M = M} {S = S} {D = D} {C = C} None one) → IfSome opened (λ (one : Opened). HasEndOf (Some desk) one)
-  from_none None desk fits = tt
-  from_none (Some one) desk fits = let there : None ≡ Some fits.desk = fits.there in absurd cc
+  from_none : (opened : Option Opened) (inner : InnerState M S D C)
+      → IfSome opened (λ (one : Opened). HasEndOf {M = M} {S = S} {D = D} {C = C} None one) → IfSome opened (λ (one : Opened). HasEndOf (Some inner) one)
+  from_none None inner fits = tt
+  from_none (Some one) inner fits = let there : None ≡ Some fits.inner = fits.there in absurd cc
 
   -- where the endpoints are of the same counters
-  same_by : (opened : Option Opened) (old new : DeskState M S D C) → counters_of new.ends ≡ counters_of old.ends
+  same_by : (opened : Option Opened) (old new : InnerState M S D C) → counters_of new.ends ≡ counters_of old.ends
       → IfSome opened (λ (one : Opened). HasEndOf (Some old) one) → IfSome opened (λ (one : Opened). HasEndOf (Some new) one)
   same_by None old new same fits = tt
   same_by (Some one) old new same fits =
       let was = has_end old one fits in
       record {
-        desk = new;
+        inner = new;
         there = refl;
         end = record {
           numbered = was.numbered;
@@ -40,28 +40,28 @@ module _ {M S D C : Type 0} where
         };
       }
 
-  pub same_fits : (old new : DeskState M S D C) → counters_of new.ends ≡ counters_of old.ends → (claimed : Claim) → Fits (Some old) claimed → Fits (Some new) claimed
+  pub same_fits : (old new : InnerState M S D C) → counters_of new.ends ≡ counters_of old.ends → (claimed : Claim) → Fits (Some old) claimed → Fits (Some new) claimed
   same_fits old new same claimed fits = same_by claimed.opened old new same fits
 
   -- or there was none
-  pub put_fits : (under : Option (Box (DeskState M S D C))) (desk : DeskState M S D C) → HasSameCounters under desk
-      → (claimed : Claim) → Fits (desk_of under) claimed → Fits (Some desk) claimed
-  put_fits None desk same claimed fits = from_none claimed.opened desk fits
-  put_fits (Some was) desk same claimed fits = same_fits was.value desk same claimed fits
+  pub put_fits : (under : Option (Box (InnerState M S D C))) (inner : InnerState M S D C) → HasSameCounters under inner
+      → (claimed : Claim) → Fits (inner_of under) claimed → Fits (Some inner) claimed
+  put_fits None inner same claimed fits = from_none claimed.opened inner fits
+  put_fits (Some was) inner same claimed fits = same_fits was.value inner same claimed fits
 
   -- where there is one endpoint more
-  one_more : (old new : DeskState M S D C) (end : EndpointState (Post C)) → new.ends ≡ old.ends ++ end ∷ []
+  one_more : (old new : InnerState M S D C) (end : EndpointState (Post C)) → new.ends ≡ old.ends ++ end ∷ []
       → counters_of new.ends ≡ counters_of old.ends ++ end.counter ∷ []
   one_more old new end more =
       ap (λ (ends : List (EndpointState (Post C))). counters_of ends) more ∙ map-append (λ (one : EndpointState (Post C)). one.counter) old.ends (end ∷ [])
 
-  more_by : (opened : Option Opened) (old new : DeskState M S D C) (end : EndpointState (Post C)) → new.ends ≡ old.ends ++ end ∷ []
+  more_by : (opened : Option Opened) (old new : InnerState M S D C) (end : EndpointState (Post C)) → new.ends ≡ old.ends ++ end ∷ []
       → IfSome opened (λ (one : Opened). HasEndOf (Some old) one) → IfSome opened (λ (one : Opened). HasEndOf (Some new) one)
   more_by None old new end more fits = tt
   more_by (Some one) old new end more fits =
       let was = has_end old one fits in
       record {
-        desk = new;
+        inner = new;
         there = refl;
         end = record {
           numbered = was.numbered;
@@ -70,12 +70,12 @@ module _ {M S D C : Type 0} where
         };
       }
 
-  pub more_fits : (old new : DeskState M S D C) (end : EndpointState (Post C)) → new.ends ≡ old.ends ++ end ∷ []
+  pub more_fits : (old new : InnerState M S D C) (end : EndpointState (Post C)) → new.ends ≡ old.ends ++ end ∷ []
       → (claimed : Claim) → Fits (Some old) claimed → Fits (Some new) claimed
   more_fits old new end more claimed fits = more_by claimed.opened old new end more fits
 
   -- and that is the next port's
-  pub next_fits : (old new : DeskState M S D C) (end : EndpointState (Post C)) (port : ℕ) (counter : CounterId) → new.ends ≡ old.ends ++ end ∷ []
+  pub next_fits : (old new : InnerState M S D C) (end : EndpointState (Post C)) (port : ℕ) (counter : CounterId) → new.ends ≡ old.ends ++ end ∷ []
       → port ≡ length old.ends + 1 → end.counter ≡ counter → HasEnd new port counter
   next_fits old new end port counter more next same =
       let place : port - 1 ≡ length (counters_of old.ends) = omega (arith, next, length-map old.ends (λ (one : EndpointState (Post C)). one.counter)) in

@@ -16,7 +16,7 @@ use Rattle.st_cell.specs.declared.look.Look.{Look}
 use Rattle.st_cell.specs.declared.next.Next.{Next}
 use Rattle.st_lock.specs.Service.{Serves}
 use Rattle.st_lock.specs.declared.machine.Machine.{Machine}
-use Rattle.st_lock.specs.declared.room.MachineRoom.{MachineRoom}
+use Rattle.st_lock.specs.declared.vacant_machine.VacantMachine.{VacantMachine}
 use Rattle.st_lock.specs.declared.service.Service.{Service}
 use Rattle.std.specs.Arc.{arc_value}
 use Rattle.std.specs.Prelude.{◌≡◌, ℕ, List, Option, Result}
@@ -26,9 +26,9 @@ module _ {M S D C A : Type 0} where
   abbrev pub id_of : Machine M S D C A → MachineId
   id_of machine = machine.id
 
-  -- the id of the machine for which this is room
-  abbrev pub id_for : MachineRoom M S D C A → MachineId
-  id_for room = id_of (arc_value room.machine)
+  -- the id of the machine that a vacant one is filled with
+  abbrev pub id_for : VacantMachine M S D C A → MachineId
+  id_for vacant = id_of (arc_value vacant.machine)
 
 module _ {M S D C : Type 0} (callbacks : M → Callbacks S D C) where
   -- a lawful cell of the machine of this id: what lies under its lock is one at every moment

@@ -4,7 +4,7 @@ ghost use Rattle.st_core.specs.Callbacks.{callbacks_of};
 ghost use Rattle.st_lock.specs.Bounded.{PostsWithin, content_in};
 ghost use Rattle.st_lock.specs.Ports.{posted};
 
-use crate::desk::a_desk_is_journaled;
+use crate::inner::its_cell_is_journaled;
 use crate::machine::give_back;
 use crate::{Port, Unposted};
 use st_cell::{Entry, Module, Posted};
@@ -31,23 +31,20 @@ impl<M: Module> Port<M> {
         ensures unchanged { OnErr result (self.new ≡ self.old) }
         ensures returned { IfErr result (λ unposted. content_in unposted ≡ content) }
     {
-        let (taken, under) = self.machine.lock.take(rt, &mut self.holder);
-        let Some(mut desk) = under else {
-            unreachable!()
-        };
-        if !desk.counts(self.machine.id(), self.number, self.count) {
-            // No run comes here: nobody else posts through this port.
-            drop(give_back(taken, &mut self.holder, desk));
-            for _ in rt.forever() {}
-            unreachable!()
-        }
-        a_desk_is_journaled(&desk);
-        if limit <= desk.core().waiting() {
-            drop(give_back(taken, &mut self.holder, desk));
+        let (taken, mut inner) = self.machine.take(
+            rt,
+            &mut self.holder,
+            &self.counter,
+            self.number,
+            self.count,
+        );
+        its_cell_is_journaled(&inner);
+        if limit <= inner.core().waiting() {
+            drop(give_back(taken, &mut self.holder, inner));
             return Err(Unposted::Busy(content));
         }
-        let answer = desk.post(&self.counter, &mut self.end, self.number, entry, content);
-        drop(give_back(taken, &mut self.holder, desk));
+        let answer = inner.post(&self.counter, &mut self.end, self.number, entry, content);
+        drop(give_back(taken, &mut self.holder, inner));
         match answer {
             Ok(posted) => {
                 self.count += 1;

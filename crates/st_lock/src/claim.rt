@@ -1,4 +1,4 @@
-//! What is claimed of the desk under a machine's lock.
+//! What is claimed of the inner state under a machine's lock.
 
 use crate::machine::UnderLock;
 use crate::opened::Opened;
@@ -11,15 +11,15 @@ pub struct Claim {
     pub opened: Option<Opened>,
 }
 
-/// There is a desk with the endpoint that is claimed, if one is.
+/// There is an inner state with the endpoint that is claimed, if one is.
 pub struct ByPort<M> {
     of: PhantomData<M>,
 }
 
 impl<M: Module> Tie<UnderLock<M>, Claim> for ByPort<M> {
-    ghost use Rattle.st_lock.specs.Claims.{Fits, desk_of, newcomer};
+    ghost use Rattle.st_lock.specs.Claims.{Fits, inner_of, newcomer};
 
-    ghost fits = { λ under claimed. Fits (desk_of under) claimed };
+    ghost fits = { λ under claimed. Fits (inner_of under) claimed };
 
     ghost first = { newcomer };
 }

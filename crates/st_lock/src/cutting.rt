@@ -6,7 +6,7 @@ ghost use Rattle.st_lock.specs.Bounded.{IsLongSomewhere, IsTakenBeyond};
 ghost use Rattle.st_lock.specs.Machines.{id_of};
 
 use crate::Machine;
-use crate::desk::a_desk_is_journaled;
+use crate::inner::its_cell_is_journaled;
 use crate::machine::give_back;
 use st_cell::{Journal, Module, Refusal};
 use std::sync::Wait;
@@ -23,11 +23,11 @@ impl<M: Module> Machine<M> {
 
         ensures refusals { IfErr result (λ refusal. refusal ≡ NoMemory) }
     {
-        let (taken, mut desk, mut holder) = self.arrive(rt);
-        a_desk_is_journaled(&desk);
-        let is_long = desk.is_long(limit);
-        let answer = if is_long { desk.cut() } else { Ok(()) };
-        drop(give_back(taken, &mut holder, desk));
+        let (taken, mut inner, mut holder) = self.arrive(rt);
+        its_cell_is_journaled(&inner);
+        let is_long = inner.is_long(limit);
+        let answer = if is_long { inner.cut() } else { Ok(()) };
+        drop(give_back(taken, &mut holder, inner));
         match answer {
             Ok(()) => Ok(is_long),
             Err(refusal) => Err(refusal),
@@ -50,14 +50,14 @@ impl<M: Module> Machine<M> {
 
         ensures refusals { IfErr result (λ refusal. refusal ≡ NoMemory) }
     {
-        let (taken, mut desk, mut holder) = self.arrive(rt);
-        a_desk_is_journaled(&desk);
-        if !desk.is_long(limit) {
-            drop(give_back(taken, &mut holder, desk));
+        let (taken, mut inner, mut holder) = self.arrive(rt);
+        its_cell_is_journaled(&inner);
+        if !inner.is_long(limit) {
+            drop(give_back(taken, &mut holder, inner));
             return Ok(None);
         }
-        let answer = desk.take_journal(label);
-        drop(give_back(taken, &mut holder, desk));
+        let answer = inner.take_journal(label);
+        drop(give_back(taken, &mut holder, inner));
         match answer {
             Ok(journal) => Ok(Some(journal)),
             Err(refusal) => Err(refusal),

@@ -5,18 +5,17 @@
 mod bounded_port;
 mod claim;
 mod cutting;
-mod desk;
+mod inner;
 mod machine;
 mod opened;
 mod port;
 mod readers;
-mod room;
 mod service;
 mod unposted;
+mod vacant_machine;
 
 pub use machine::Machine;
 pub use port::Port;
-pub use room::MachineRoom;
 pub use service::Service;
 pub use st_cell::{
     Answer, Cell, Collected, Command, Core, Entry, Journal, JournalEntry, Look, MachineId, Message,
@@ -24,3 +23,4 @@ pub use st_cell::{
     Ticked, Token, Turned,
 };
 pub use unposted::Unposted;
+pub use vacant_machine::VacantMachine;

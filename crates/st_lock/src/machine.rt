@@ -1,15 +1,15 @@
 //! A machine that threads share.
-ghost use Rattle.std.specs.Prelude.{◌≡◌, Some, IfOk, IfErr};
+ghost use Rattle.std.specs.Prelude.{◌≡◌, ◌<◌, ◌^◌, Some, IfOk, IfErr};
 ghost use Rattle.std.specs.Arc.{arc_value};
 ghost use Rattle.st_events.specs.declared.refusal.Refusal.TheVariants.{NoMemory};
 ghost use Rattle.st_requests.specs.declared.collected.Collected.TheVariants.{Waiting};
 ghost use Rattle.st_scheduled.specs.ScheduledMachine.{token_of};
-ghost use Rattle.st_cell.specs.Cell.{cell_at_first};
+ghost use Rattle.st_cell.specs.Cell.{cell_at_first, IsOpen, count_for};
 ghost use Rattle.st_claim_lock.specs.Holders.{lock_id, lock_of, claim_of, taken_from, value_taken, Claims, HasOut};
 ghost use Rattle.st_post_counter.specs.Endpoint.{CounterId};
 ghost use Rattle.st_lock.specs.declared.claim.Claim.{Claim};
-ghost use Rattle.st_lock.specs.Claims.{claim, Fits, desk_of, HasSameCounters};
-ghost use Rattle.st_lock.specs.Desk.{desk_at_first, HasEnd};
+ghost use Rattle.st_lock.specs.Claims.{claim, Fits, inner_of, HasSameCounters};
+ghost use Rattle.st_lock.specs.Inner.{inner_at_first, HasEnd};
 ghost use Rattle.st_core.specs.Callbacks.{callbacks_of};
 ghost use Rattle.st_core.specs.declared.command.Command.TheVariants as command;
 ghost use Rattle.st_scheduled.specs.Answered.{ticked_as, collected_as, replied_as, stopped_as};
@@ -17,7 +17,7 @@ ghost use Rattle.st_lock.specs.Machines.{id_of, DeliversSomewhere, IsJournalAt, 
 ghost use Rattle.st_lock.specs.Ports.{port_at_first};
 
 use crate::claim::{ByPort, Claim};
-use crate::desk::{Desk, PostOf, a_desk_is_journaled};
+use crate::inner::{Inner, PostOf, its_cell_is_journaled};
 use crate::{Port, Service};
 use st_cell::{
     Collected, Core, Journal, MachineId, Message, Module, Next, Posted, Reason, Refusal, Refused,
@@ -29,13 +29,13 @@ use std::alloc::Global;
 use std::marker::Brand;
 use std::sync::{Arc, Condvar, MutexGuard, Wait};
 
-/// The desk of a machine of this module: a hold moves no more than a box.
-pub(crate) type DeskOf<M> = Box<Desk<M>>;
+/// The inner state of a machine of this module: a hold moves no more than a box.
+pub(crate) type InnerOf<M> = Box<Inner<M>>;
 
-/// What lies under its lock: the desk, but in a room whose machine is not there yet.
-pub(crate) type UnderLock<M> = Option<DeskOf<M>>;
+/// What lies under its lock: the inner state, or nothing as long as the machine is vacant.
+pub(crate) type UnderLock<M> = Option<InnerOf<M>>;
 
-/// A lock over the desk of a machine of this module.
+/// A lock over the inner state of a machine of this module.
 pub(crate) type LockOf<M> = ClaimLock<UnderLock<M>, Claim, ByPort<M>>;
 
 /// A holder of that lock.
@@ -53,79 +53,79 @@ pub(crate) type TakenOf<'a, M> = Taken<'a, UnderLock<M>, Claim, ByPort<M>>;
 #[derive(Drop)]
 pub struct Machine<M: Module> {
     pub(crate) lock: LockOf<M>,
-    pub(crate) told: Condvar,
+    pub(crate) changed: Condvar,
     pub(crate) id: MachineId,
     alloc: Global,
 }
 
-/// Gives the desk back, whose endpoints are of the same counters.
+/// Gives the inner state back, whose endpoints are of the same counters.
 pub(crate) fn give_back<'a, M: Module>(
     taken: TakenOf<'a, M>,
     holder: &mut HolderOf<M>,
-    desk: DeskOf<M>,
+    inner: InnerOf<M>,
 ) -> MutexGuard<'a, ()>
     requires lock { lock_of holder.old ≡ taken_from taken }
     requires out { HasOut holder.old (claim_of holder.old) (value_taken taken) }
-    requires same { HasSameCounters (value_taken taken) desk.value }
+    requires same { HasSameCounters (value_taken taken) inner.value }
     ensures claims { Claims holder.new (claim_of holder.old) }
     ensures same { lock_of holder.new ≡ lock_of holder.old }
 {
-    taken.give_back(holder, Some(desk))
+    taken.give_back(holder, Some(inner))
 }
 
-/// Gives the desk back, after the port was opened that the holder claims from now on.
+/// Gives the inner state back, after the port was opened that the holder claims from now on.
 fn give_opened<M: Module>(
     taken: TakenOf<'_, M>,
     holder: &mut HolderOf<M>,
-    desk: DeskOf<M>,
+    inner: InnerOf<M>,
     port: u64,
     counter: &Counter<PostOf<M>>,
 )
     requires lock { lock_of holder.old ≡ taken_from taken }
     requires out { HasOut holder.old (claim_of holder.old) (value_taken taken) }
-    requires others { (claimed : Claim) → Fits (desk_of (value_taken taken)) claimed → Fits (Some desk.value) claimed }
-    requires own { HasEnd desk.value port counter.now }
+    requires others { (claimed : Claim) → Fits (inner_of (value_taken taken)) claimed → Fits (Some inner.value) claimed }
+    requires own { HasEnd inner.value port counter.now }
     ensures claims { Claims holder.new (claim port counter.now) }
     ensures same { lock_of holder.new ≡ lock_of holder.old }
 {
-    give_picked::<M, Brand>(taken, holder, desk, port, counter);
+    give_picked::<M, Brand>(taken, holder, inner, port, counter);
 }
 
 /// The same, where the claim is picked.
 fn give_picked<M: Module, J: Claimed<Claim>>(
     taken: TakenOf<'_, M>,
     holder: &mut HolderOf<M>,
-    desk: DeskOf<M>,
+    inner: InnerOf<M>,
     port: u64,
     counter: &Counter<PostOf<M>>,
 )
     requires lock { lock_of holder.old ≡ taken_from taken }
     requires out { HasOut holder.old (claim_of holder.old) (value_taken taken) }
-    requires others { (claimed : Claim) → Fits (desk_of (value_taken taken)) claimed → Fits (Some desk.value) claimed }
-    requires own { HasEnd desk.value port counter.now }
+    requires others { (claimed : Claim) → Fits (inner_of (value_taken taken)) claimed → Fits (Some inner.value) claimed }
+    requires own { HasEnd inner.value port counter.now }
     requires picked { J.claim ≡ claim port counter.now }
     ensures claims { Claims holder.new (claim port counter.now) }
     ensures same { lock_of holder.new ≡ lock_of holder.old }
 {
     let _ = port;
     let _ = counter;
-    drop(taken.give::<J>(holder, Some(desk)));
+    drop(taken.give::<J>(holder, Some(inner)));
 }
 
-/// A desk with this machine as its cell's base, in a box. Where there is no memory, the machine comes back.
+/// An inner state with this machine as its cell's base, in a box. Where there is no memory, the machine comes back.
 pub(crate) fn boxed<M: Module>(
     alloc: Global,
     core: Core<M>,
-) -> Result<(DeskOf<M>, Option<Token>), Refused<Core<M>>>
-    ensures desk { IfOk result (λ made. made.0.value ≡ desk_at_first core) }
+) -> Result<(InnerOf<M>, Option<Token>), Refused<Core<M>>>
+    ensures inner { IfOk result (λ made. made.0.value ≡ inner_at_first core) }
     ensures token { IfOk result (λ made. made.1 ≡ token_of (cell_at_first core).scheduled) }
 
     ensures refusals { IfErr result (λ refused. refused.refusal ≡ NoMemory) }
     ensures returned { IfErr result (λ refused. refused.value ≡ core) }
 {
-    let (desk, token) = Desk::new(alloc, core)?;
-    match Box::new(alloc, desk) {
-        Ok(desk) => Ok((desk, token)),
+    let (inner, token) = Inner::new(alloc, core)?;
+    match Box::new(alloc, inner) {
+        Ok(inner) => Ok((inner, token)),
         Err(failed) => Err(Refused::new(Refusal::NoMemory, failed.value.into_core())),
     }
 }
@@ -147,21 +147,21 @@ impl<M: Module> Machine<M> {
         ensures returned { IfErr result (λ refused. refused.value ≡ core) }
     {
         let id = core.id();
-        let (desk, token) = boxed(alloc, core)?;
-        match ClaimLock::new(alloc, Some(desk)) {
+        let (inner, token) = boxed(alloc, core)?;
+        match ClaimLock::new(alloc, Some(inner)) {
             Ok((lock, _first)) => Ok((Machine::over(alloc, lock, id), token)),
             Err(failed) => {
-                let Some(desk) = failed.value else {
+                let Some(inner) = failed.value else {
                     unreachable!()
                 };
-                let desk = Box::into_inner(desk);
-                Err(Refused::new(Refusal::NoMemory, desk.into_core()))
+                let inner = Box::into_inner(inner);
+                Err(Refused::new(Refusal::NoMemory, inner.into_core()))
             }
         }
     }
 
-    /// A machine of this id, whose desk will lie under a new lock. Where there is no memory, there is none.
-    pub(crate) fn without_desk(alloc: Global, id: MachineId) -> Result<Machine<M>, Refusal>
+    /// A machine of this id, whose inner state will lie under a new lock. Where there is no memory, there is none.
+    pub(crate) fn without_inner(alloc: Global, id: MachineId) -> Result<Machine<M>, Refusal>
         ensures id { IfOk result (λ machine. id_of machine ≡ id) }
 
         ensures refusals { IfErr result (λ refusal. refusal ≡ NoMemory) }
@@ -178,26 +178,26 @@ impl<M: Module> Machine<M> {
     {
         Machine {
             lock,
-            told: Condvar::new(),
+            changed: Condvar::new(),
             id,
             alloc,
         }
     }
 
-    /// Puts a desk under the lock, where none lies.
-    pub(crate) fn put<R: Wait>(&self, rt: &R, desk: DeskOf<M>) {
+    /// Puts an inner state under the lock, where none lies.
+    pub(crate) fn put<R: Wait>(&self, rt: &R, inner: InnerOf<M>) {
         let (taken, under, mut holder) = self.lock.arrive(rt);
         if under.is_some() {
-            // No run comes here: a room is filled once.
+            // No run comes here: a vacant machine is filled once.
             drop(taken.give_back(&mut holder, under));
             for _ in rt.forever() {}
             unreachable!()
         }
-        drop(give_back(taken, &mut holder, desk));
+        drop(give_back(taken, &mut holder, inner));
     }
 
-    /// Takes the machine's own desk, with a newcomer's claim.
-    pub(crate) fn arrive<R: Wait>(&self, rt: &R) -> (TakenOf<'_, M>, DeskOf<M>, HolderOf<M>)
+    /// Takes the machine's own inner state, with a newcomer's claim.
+    pub(crate) fn arrive<R: Wait>(&self, rt: &R) -> (TakenOf<'_, M>, InnerOf<M>, HolderOf<M>)
         ensures lock { lock_of result.2 ≡ taken_from result.0 }
         ensures from { taken_from result.0 ≡ lock_id self.now.lock }
         ensures taken { value_taken result.0 ≡ Some result.1 }
@@ -205,19 +205,51 @@ impl<M: Module> Machine<M> {
         ensures own { result.1.value.cell.scheduled.core.machine.id ≡ id_of self.now }
     {
         let (taken, under, mut holder) = self.lock.arrive(rt);
-        let Some(desk) = under else {
-            // No run comes here: a machine is shared after its desk is there.
+        let Some(inner) = under else {
+            // No run comes here: a machine is shared after its inner state is there.
             drop(taken.give_back(&mut holder, None));
             for _ in rt.forever() {}
             unreachable!()
         };
-        if desk.id() != self.id {
-            // No run comes here: the desk that was put there is the machine's own.
-            drop(give_back(taken, &mut holder, desk));
+        if inner.id() != self.id {
+            // No run comes here: the inner state that was put there is the machine's own.
+            drop(give_back(taken, &mut holder, inner));
             for _ in rt.forever() {}
             unreachable!()
         }
-        (taken, desk, holder)
+        (taken, inner, holder)
+    }
+
+    /// Takes the machine's own inner state by the holder of a port, which has posted so many events.
+    pub(crate) fn take<'a, R: Wait>(
+        &'a self,
+        rt: &R,
+        holder: &mut HolderOf<M>,
+        counter: &Counter<PostOf<M>>,
+        port: u64,
+        count: u64,
+    ) -> (TakenOf<'a, M>, InnerOf<M>)
+        requires lock { lock_of holder.old ≡ lock_id self.now.lock }
+        requires claims { Claims holder.old (claim port counter.now) }
+        ensures lock { lock_of holder.new ≡ taken_from result.0 }
+        ensures from { taken_from result.0 ≡ lock_id self.now.lock }
+        ensures taken { value_taken result.0 ≡ Some result.1 }
+        ensures out { HasOut holder.new (claim port counter.now) (value_taken result.0) }
+        ensures own { result.1.value.cell.scheduled.core.machine.id ≡ id_of self.now }
+        ensures end { HasEnd result.1.value port counter.now }
+        ensures open { IsOpen port result.1.value.cell }
+        ensures count { count ≡ count_for port result.1.value.cell }
+        ensures limited { count < 2 ^ 63 }
+    {
+        let (taken, under) = self.lock.take(rt, holder);
+        let Some(inner) = under else { unreachable!() };
+        if !inner.counts(self.id, port, count) {
+            // No run comes here: nobody else posts through a port.
+            drop(give_back(taken, holder, inner));
+            for _ in rt.forever() {}
+            unreachable!()
+        }
+        (taken, inner)
     }
 
     /// Its id.
@@ -253,10 +285,10 @@ impl<M: Module> Machine<M> {
     {
         let machine = Arc::try_clone(this)?;
         let (counter, end, mine) = Counter::open(this.alloc)?;
-        let (taken, mut desk, mut holder) = this.arrive(rt);
-        match desk.port(end) {
+        let (taken, mut inner, mut holder) = this.arrive(rt);
+        match inner.port(end) {
             Ok(number) => {
-                give_opened(taken, &mut holder, desk, number, &counter);
+                give_opened(taken, &mut holder, inner, number, &counter);
                 Ok(Port {
                     machine,
                     counter,
@@ -267,7 +299,7 @@ impl<M: Module> Machine<M> {
                 })
             }
             Err(refusal) => {
-                drop(give_back(taken, &mut holder, desk));
+                drop(give_back(taken, &mut holder, inner));
                 Err(refusal)
             }
         }
@@ -284,11 +316,11 @@ impl<M: Module> Machine<M> {
         ensures does { TurnsSomewhere (callbacks_of M.Module M.State.eq) (id_of self.now) token now result }
         ensures returned { IfErr result (λ refused. refused.value ≡ token) }
     {
-        let (taken, mut desk, mut holder) = self.arrive(rt);
-        a_desk_is_journaled(&desk);
-        let answer = desk.turn(token, now);
-        let is_awaited = desk.has_replied();
-        drop(give_back(taken, &mut holder, desk));
+        let (taken, mut inner, mut holder) = self.arrive(rt);
+        its_cell_is_journaled(&inner);
+        let answer = inner.turn(token, now);
+        let is_awaited = inner.has_replied();
+        drop(give_back(taken, &mut holder, inner));
         self.wake(is_awaited);
         answer
     }
@@ -307,10 +339,10 @@ impl<M: Module> Machine<M> {
         ensures does { TakesOutSomewhere (callbacks_of M.Module M.State.eq) (id_of self.now) token result }
         ensures returned { IfErr result (λ refused. refused.value ≡ token) }
     {
-        let (taken, mut desk, mut holder) = self.arrive(rt);
-        a_desk_is_journaled(&desk);
-        let answer = desk.take_out(token);
-        drop(give_back(taken, &mut holder, desk));
+        let (taken, mut inner, mut holder) = self.arrive(rt);
+        its_cell_is_journaled(&inner);
+        let answer = inner.take_out(token);
+        drop(give_back(taken, &mut holder, inner));
         answer
     }
 
@@ -329,11 +361,11 @@ impl<M: Module> Machine<M> {
         ensures does { ServesSomewhere (callbacks_of M.Module M.State.eq) (id_of self.now) token now result }
         ensures returned { IfErr result (λ refused. refused.value ≡ token) }
     {
-        let (taken, mut desk, mut holder) = self.arrive(rt);
-        a_desk_is_journaled(&desk);
-        let answer = desk.serve(token, now);
-        let is_awaited = desk.has_replied();
-        drop(give_back(taken, &mut holder, desk));
+        let (taken, mut inner, mut holder) = self.arrive(rt);
+        its_cell_is_journaled(&inner);
+        let answer = inner.serve(token, now);
+        let is_awaited = inner.has_replied();
+        drop(give_back(taken, &mut holder, inner));
         self.wake(is_awaited);
         answer
     }
@@ -341,7 +373,7 @@ impl<M: Module> Machine<M> {
     /// Who waits in `wait_collect` is woken, where what was told may be what he waits for.
     fn wake(&self, is_awaited: bool) {
         if is_awaited {
-            self.told.notify_all();
+            self.changed.notify_all();
         }
     }
 
@@ -361,10 +393,10 @@ impl<M: Module> Machine<M> {
         ensures does { DeliversSomewhere (callbacks_of M.Module M.State.eq) (id_of self.now) message result }
         ensures returned { IfErr result (λ refused. refused.value ≡ message) }
     {
-        let (taken, mut desk, mut holder) = self.arrive(rt);
-        a_desk_is_journaled(&desk);
-        let answer = desk.deliver(message);
-        drop(give_back(taken, &mut holder, desk));
+        let (taken, mut inner, mut holder) = self.arrive(rt);
+        its_cell_is_journaled(&inner);
+        let answer = inner.deliver(message);
+        drop(give_back(taken, &mut holder, inner));
         answer
     }
 
@@ -376,10 +408,10 @@ impl<M: Module> Machine<M> {
     pub fn tick<R: Wait>(&self, rt: &R, now: u64) -> Result<Ticked, Refusal>
         ensures { IsToldSomewhere (callbacks_of M.Module M.State.eq) (id_of self.now) (command.Tick now) (ticked_as result) }
     {
-        let (taken, mut desk, mut holder) = self.arrive(rt);
-        a_desk_is_journaled(&desk);
-        let answer = desk.tick(now);
-        drop(give_back(taken, &mut holder, desk));
+        let (taken, mut inner, mut holder) = self.arrive(rt);
+        its_cell_is_journaled(&inner);
+        let answer = inner.tick(now);
+        drop(give_back(taken, &mut holder, inner));
         answer
     }
 
@@ -391,10 +423,10 @@ impl<M: Module> Machine<M> {
     pub fn collect<R: Wait>(&self, rt: &R, tag: Tag) -> Result<Collected<M::Content>, Refusal>
         ensures { IsToldSomewhere (callbacks_of M.Module M.State.eq) (id_of self.now) (command.Collect tag) (collected_as result) }
     {
-        let (taken, mut desk, mut holder) = self.arrive(rt);
-        a_desk_is_journaled(&desk);
-        let answer = desk.collect(tag);
-        drop(give_back(taken, &mut holder, desk));
+        let (taken, mut inner, mut holder) = self.arrive(rt);
+        its_cell_is_journaled(&inner);
+        let answer = inner.collect(tag);
+        drop(give_back(taken, &mut holder, inner));
         answer
     }
 
@@ -409,12 +441,12 @@ impl<M: Module> Machine<M> {
         ensures does { IsToldSomewhere (callbacks_of M.Module M.State.eq) (id_of self.now) (command.Collect tag) (collected_as result) }
     {
         for _ in rt.forever() {
-            let (taken, mut desk, mut holder) = self.arrive(rt);
-            a_desk_is_journaled(&desk);
-            let answer = desk.collect(tag);
-            let gate = give_back(taken, &mut holder, desk);
+            let (taken, mut inner, mut holder) = self.arrive(rt);
+            its_cell_is_journaled(&inner);
+            let answer = inner.collect(tag);
+            let gate = give_back(taken, &mut holder, inner);
             match answer {
-                Ok(Collected::Waiting) => drop(self.told.wait(rt, gate)),
+                Ok(Collected::Waiting) => drop(self.changed.wait(rt, gate)),
                 _ => {
                     drop(gate);
                     return answer;
@@ -438,11 +470,11 @@ impl<M: Module> Machine<M> {
         ensures does { IsToldSomewhere (callbacks_of M.Module M.State.eq) (id_of self.now) (command.Reply tag content) (replied_as result) }
         ensures returned { IfErr result (λ refused. refused.value ≡ content) }
     {
-        let (taken, mut desk, mut holder) = self.arrive(rt);
-        a_desk_is_journaled(&desk);
-        let answer = desk.reply(tag, content);
-        drop(give_back(taken, &mut holder, desk));
-        self.told.notify_all();
+        let (taken, mut inner, mut holder) = self.arrive(rt);
+        its_cell_is_journaled(&inner);
+        let answer = inner.reply(tag, content);
+        drop(give_back(taken, &mut holder, inner));
+        self.changed.notify_all();
         answer
     }
 
@@ -454,11 +486,11 @@ impl<M: Module> Machine<M> {
     pub fn stop<R: Wait>(&self, rt: &R, reason: Reason) -> Result<u32, Refusal>
         ensures { IsToldSomewhere (callbacks_of M.Module M.State.eq) (id_of self.now) (command.Stop reason) (stopped_as result) }
     {
-        let (taken, mut desk, mut holder) = self.arrive(rt);
-        a_desk_is_journaled(&desk);
-        let answer = desk.stop(reason);
-        drop(give_back(taken, &mut holder, desk));
-        self.told.notify_all();
+        let (taken, mut inner, mut holder) = self.arrive(rt);
+        its_cell_is_journaled(&inner);
+        let answer = inner.stop(reason);
+        drop(give_back(taken, &mut holder, inner));
+        self.changed.notify_all();
         answer
     }
 
@@ -466,9 +498,9 @@ impl<M: Module> Machine<M> {
     ///
     /// Ours: docs/DECISIONS.md, Journals.
     pub fn removable<R: Wait>(&self, rt: &R) -> bool {
-        let (taken, desk, mut holder) = self.arrive(rt);
-        let answer = desk.removable();
-        drop(give_back(taken, &mut holder, desk));
+        let (taken, inner, mut holder) = self.arrive(rt);
+        let answer = inner.removable();
+        drop(give_back(taken, &mut holder, inner));
         answer
     }
 
@@ -486,10 +518,10 @@ impl<M: Module> Machine<M> {
 
         ensures refusals { IfErr result (λ refusal. refusal ≡ NoMemory) }
     {
-        let (taken, desk, mut holder) = self.arrive(rt);
-        a_desk_is_journaled(&desk);
-        let answer = desk.journal(label);
-        drop(give_back(taken, &mut holder, desk));
+        let (taken, inner, mut holder) = self.arrive(rt);
+        its_cell_is_journaled(&inner);
+        let answer = inner.journal(label);
+        drop(give_back(taken, &mut holder, inner));
         answer
     }
 
@@ -501,9 +533,9 @@ impl<M: Module> Machine<M> {
     pub fn cut<R: Wait>(&self, rt: &R) -> Result<(), Refusal>
         ensures refusals { IfErr result (λ refusal. refusal ≡ NoMemory) }
     {
-        let (taken, mut desk, mut holder) = self.arrive(rt);
-        let answer = desk.cut();
-        drop(give_back(taken, &mut holder, desk));
+        let (taken, mut inner, mut holder) = self.arrive(rt);
+        let answer = inner.cut();
+        drop(give_back(taken, &mut holder, inner));
         answer
     }
 
@@ -522,10 +554,10 @@ impl<M: Module> Machine<M> {
 
         ensures refusals { IfErr result (λ refusal. refusal ≡ NoMemory) }
     {
-        let (taken, mut desk, mut holder) = self.arrive(rt);
-        a_desk_is_journaled(&desk);
-        let answer = desk.take_journal(label);
-        drop(give_back(taken, &mut holder, desk));
+        let (taken, mut inner, mut holder) = self.arrive(rt);
+        its_cell_is_journaled(&inner);
+        let answer = inner.take_journal(label);
+        drop(give_back(taken, &mut holder, inner));
         answer
     }
 }

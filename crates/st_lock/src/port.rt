@@ -5,12 +5,12 @@ ghost use Rattle.st_events.specs.declared.refusal.Refusal.TheVariants.{NoMemory}
 ghost use Rattle.st_core.specs.Callbacks.{callbacks_of};
 ghost use Rattle.st_scheduled.specs.Answered.{posted_as};
 ghost use Rattle.st_cell.specs.Journal.{numbers_of};
-ghost use Rattle.st_lock.specs.Desk.{EndsWith};
+ghost use Rattle.st_lock.specs.Inner.{EndsWith};
 ghost use Rattle.st_lock.specs.Machines.{id_of, IsLookAt, PostsSomewhere};
 ghost use Rattle.st_lock.specs.Ports.{posted};
 
 use crate::Machine;
-use crate::desk::{PostOf, a_desk_is_journaled};
+use crate::inner::{PostOf, its_cell_is_journaled};
 use crate::machine::{HolderOf, give_back};
 use st_cell::{Entry, Look, Module, Posted, Refusal, Refused};
 use st_post_counter::{Counter, Endpoint};
@@ -84,19 +84,16 @@ impl<M: Module> Port<M> {
         ensures unchanged { OnErr result (self.new ≡ self.old) }
         ensures returned { IfErr result (λ refused. refused.value ≡ content) }
     {
-        let (taken, under) = self.machine.lock.take(rt, &mut self.holder);
-        let Some(mut desk) = under else {
-            unreachable!()
-        };
-        if !desk.counts(self.machine.id(), self.number, self.count) {
-            // No run comes here: nobody else posts through this port.
-            drop(give_back(taken, &mut self.holder, desk));
-            for _ in rt.forever() {}
-            unreachable!()
-        }
-        a_desk_is_journaled(&desk);
-        let answer = desk.post(&self.counter, &mut self.end, self.number, entry, content);
-        drop(give_back(taken, &mut self.holder, desk));
+        let (taken, mut inner) = self.machine.take(
+            rt,
+            &mut self.holder,
+            &self.counter,
+            self.number,
+            self.count,
+        );
+        its_cell_is_journaled(&inner);
+        let answer = inner.post(&self.counter, &mut self.end, self.number, entry, content);
+        drop(give_back(taken, &mut self.holder, inner));
         match answer {
             Ok(posted) => {
                 self.count += 1;
@@ -122,19 +119,16 @@ impl<M: Module> Port<M> {
 
         ensures refusals { IfErr result (λ refusal. refusal ≡ NoMemory) }
     {
-        let (taken, under) = self.machine.lock.take(rt, &mut self.holder);
-        let Some(mut desk) = under else {
-            unreachable!()
-        };
-        if !desk.counts(self.machine.id(), self.number, self.count) {
-            // No run comes here: nobody else posts through this port.
-            drop(give_back(taken, &mut self.holder, desk));
-            for _ in rt.forever() {}
-            unreachable!()
-        }
-        a_desk_is_journaled(&desk);
-        let answer = desk.look(&self.counter, &mut self.end, self.number);
-        drop(give_back(taken, &mut self.holder, desk));
+        let (taken, mut inner) = self.machine.take(
+            rt,
+            &mut self.holder,
+            &self.counter,
+            self.number,
+            self.count,
+        );
+        its_cell_is_journaled(&inner);
+        let answer = inner.look(&self.counter, &mut self.end, self.number);
+        drop(give_back(taken, &mut self.holder, inner));
         answer
     }
 }

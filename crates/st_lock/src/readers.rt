@@ -4,7 +4,7 @@ ghost use Rattle.st_core.specs.Choice.{is_ready_of, next_due_of, waiting_of};
 ghost use Rattle.st_lock.specs.Machines.{IsReadAt, id_of};
 
 use crate::Machine;
-use crate::desk::a_desk_is_journaled;
+use crate::inner::its_cell_is_journaled;
 use crate::machine::give_back;
 use st_cell::{Module, Reason};
 use std::sync::Wait;
@@ -16,10 +16,10 @@ impl<M: Module> Machine<M> {
     pub fn state<R: Wait>(&self, rt: &R) -> M::State
         ensures { IsReadAt (callbacks_of M.Module M.State.eq) (λ machine. machine.state) (id_of self.now) result }
     {
-        let (taken, desk, mut holder) = self.arrive(rt);
-        a_desk_is_journaled(&desk);
-        let answer = desk.core().state();
-        drop(give_back(taken, &mut holder, desk));
+        let (taken, inner, mut holder) = self.arrive(rt);
+        its_cell_is_journaled(&inner);
+        let answer = inner.core().state();
+        drop(give_back(taken, &mut holder, inner));
         answer
     }
 
@@ -29,10 +29,10 @@ impl<M: Module> Machine<M> {
     pub fn waiting<R: Wait>(&self, rt: &R) -> usize
         ensures { IsReadAt (callbacks_of M.Module M.State.eq) (λ machine. waiting_of machine) (id_of self.now) result }
     {
-        let (taken, desk, mut holder) = self.arrive(rt);
-        a_desk_is_journaled(&desk);
-        let answer = desk.core().waiting();
-        drop(give_back(taken, &mut holder, desk));
+        let (taken, inner, mut holder) = self.arrive(rt);
+        its_cell_is_journaled(&inner);
+        let answer = inner.core().waiting();
+        drop(give_back(taken, &mut holder, inner));
         answer
     }
 
@@ -43,10 +43,10 @@ impl<M: Module> Machine<M> {
     pub fn next_due<R: Wait>(&self, rt: &R) -> Option<u64>
         ensures { IsReadAt (callbacks_of M.Module M.State.eq) (λ machine. next_due_of machine) (id_of self.now) result }
     {
-        let (taken, desk, mut holder) = self.arrive(rt);
-        a_desk_is_journaled(&desk);
-        let answer = desk.core().next_due();
-        drop(give_back(taken, &mut holder, desk));
+        let (taken, inner, mut holder) = self.arrive(rt);
+        its_cell_is_journaled(&inner);
+        let answer = inner.core().next_due();
+        drop(give_back(taken, &mut holder, inner));
         answer
     }
 
@@ -56,10 +56,10 @@ impl<M: Module> Machine<M> {
     pub fn ended<R: Wait>(&self, rt: &R) -> Option<(Reason, u32)>
         ensures { IsReadAt (callbacks_of M.Module M.State.eq) (λ machine. machine.ended) (id_of self.now) result }
     {
-        let (taken, desk, mut holder) = self.arrive(rt);
-        a_desk_is_journaled(&desk);
-        let answer = desk.core().ended();
-        drop(give_back(taken, &mut holder, desk));
+        let (taken, inner, mut holder) = self.arrive(rt);
+        its_cell_is_journaled(&inner);
+        let answer = inner.core().ended();
+        drop(give_back(taken, &mut holder, inner));
         answer
     }
 
@@ -69,10 +69,10 @@ impl<M: Module> Machine<M> {
     pub fn is_ready<R: Wait>(&self, rt: &R) -> bool
         ensures { IsReadAt (callbacks_of M.Module M.State.eq) (λ machine. is_ready_of machine) (id_of self.now) result }
     {
-        let (taken, desk, mut holder) = self.arrive(rt);
-        a_desk_is_journaled(&desk);
-        let answer = desk.core().is_ready();
-        drop(give_back(taken, &mut holder, desk));
+        let (taken, inner, mut holder) = self.arrive(rt);
+        its_cell_is_journaled(&inner);
+        let answer = inner.core().is_ready();
+        drop(give_back(taken, &mut holder, inner));
         answer
     }
 }

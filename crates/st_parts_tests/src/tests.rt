@@ -7,6 +7,7 @@ mod collection;
 mod directory;
 mod events;
 mod host;
+mod replays;
 mod runq;
 mod trace;
 mod words;

@@ -76,11 +76,17 @@ impl PoolState {
         self.searching.fetch_sub(1, Ordering::SeqCst);
     }
 
-    /// A worker searches no longer, since it found a token. Where it was the last one, and there are more, another is woken: for
-    /// of what came meanwhile nobody was.
+    /// A worker searches no longer, since it found a token. The last one sees to it that more are looked for.
     pub fn end_search_with_token(&self) {
-        let was_last = self.searching.fetch_sub(1, Ordering::SeqCst) == 1;
-        if was_last && (self.shared.load(Ordering::SeqCst) > 0 || self.is_any_left()) {
+        if self.searching.fetch_sub(1, Ordering::SeqCst) == 1 {
+            self.wake_for_more();
+        }
+    }
+
+    /// A worker that searched has found a token. Where there are more, another is woken: for what came while it searched
+    /// nobody was.
+    pub fn wake_for_more(&self) {
+        if self.shared.load(Ordering::SeqCst) > 0 || self.is_any_left() {
             self.wake_one();
         }
     }

@@ -150,6 +150,7 @@ fn sleep<R: Runtime, C>(rt: &R, worker: &mut Worker<C>, parker: &Parker, state: 
         if !sleeper.recall() {
             state.wake_one();
         }
+        state.wake_for_more();
         return false;
     }
     if state.is_any_left() {

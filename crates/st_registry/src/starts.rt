@@ -10,11 +10,11 @@ ghost use Rattle.st_registry.specs.Registry.{KeepsAs, StartsAs};
 use crate::Started;
 use st_core::Start;
 use st_directory::{Directory, Place};
-use st_lock::{Core, Machine, MachineRoom, Module, Refused};
+use st_lock::{Core, Machine, Module, Refused, VacantMachine};
 use std::alloc::Global;
 use std::sync::{Arc, Wait};
 
-/// Starts a machine at its place. A machine that is shared gives its module back no more, so room is made for it first.
+/// Starts a machine at its place. A machine that is shared gives its module back no more, so the memory for it is got first.
 pub(crate) fn start_at<M: Module, R: Wait>(
     alloc: Global,
     rt: &R,
@@ -27,14 +27,14 @@ pub(crate) fn start_at<M: Module, R: Wait>(
     requires room { HasRoomFor directory.old place }
     ensures starts { StartsAs «module» (start_of (callbacks_of M.Module M.State.eq «module») «module» place.id (M.init_is «module» arg.now) now 1) place directory.old.state result directory.new.state }
 {
-    let room = match MachineRoom::new(alloc, place.id()) {
-        Ok(room) => room,
+    let vacant = match VacantMachine::new(alloc, place.id()) {
+        Ok(vacant) => vacant,
         Err(refusal) => return Err(Refused::new(refusal, module)),
     };
     match Core::start(alloc, module, place.id(), arg, now) {
         Ok(Start::Running(core, report)) => {
             drop(report);
-            keep(alloc, rt, directory, place, room, core)
+            keep(alloc, rt, directory, place, vacant, core)
         }
         Ok(Start::Ignored) => Ok(Started::Ignored),
         Ok(Start::Stopped(reason)) => Ok(Started::Stopped(reason)),
@@ -48,11 +48,11 @@ fn keep<M: Module, R: Wait>(
     rt: &R,
     directory: &mut Directory<Arc<Machine<M>>>,
     place: Place,
-    room: MachineRoom<M>,
+    vacant: VacantMachine<M>,
     core: Core<M>,
 ) -> Result<Started, Refused<M>>
     requires place { HasRoomFor directory.old place }
-    requires room { id_for room ≡ place.id }
+    requires vacant { id_for vacant ≡ place.id }
     requires core { core.machine.id ≡ place.id }
     ensures keeps { IfOk result (λ started. KeepsAs core place directory.old.state started directory.new.state) }
 
@@ -60,7 +60,7 @@ fn keep<M: Module, R: Wait>(
     ensures unchanged { OnErr result (directory.new ≡ directory.old) }
 {
     let id = place.id();
-    match room.fill(alloc, rt, core) {
+    match vacant.fill(alloc, rt, core) {
         Ok((machine, wake)) => {
             directory.insert(place, machine);
             Ok(Started::Running { id, wake })

@@ -1,4 +1,5 @@
-//! The tests of st_service: machines that are served, observed, refused more than may wait, and shut down.
+//! The tests of st_service: machines that are served, observed, refused more than may wait, and shut down. And those of
+//! st_ticker: time-outs that come by themselves, none early, and what becomes of a ticker that is let go.
 #![tactic(auto)]
 
 mod clerk;

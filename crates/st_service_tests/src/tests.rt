@@ -1,10 +1,17 @@
-//! Clerks at windows, served by a service.
+//! Clerks at windows, served by a service; and bells that ring after a time, whoever serves them.
 
+mod belfry;
+mod bell;
 mod host;
 mod house;
+mod hundred;
 mod memory;
 mod observing;
 mod serving;
+mod shelf;
 mod shutting;
 mod tally;
+mod threads;
+mod ticker_memory;
+mod timed;
 mod watchdog;

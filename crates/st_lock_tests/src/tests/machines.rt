@@ -8,7 +8,7 @@ use super::host::Host;
 use super::memory::EACH_CALL;
 use super::plain::OTHER;
 use super::row::Row;
-use super::shared::{share, share_in_room};
+use super::shared::{fill_vacant, share};
 use st_core::{Kind, Refusal};
 use st_events::Token;
 use st_lock::Next;
@@ -27,7 +27,7 @@ fn a_machine_by_rows(rt: HostRuntime) {
 fn a_machines_journal_is_cut(rt: HostRuntime) {
     let threads = rt;
     let rt = Host::new(rt);
-    let mut machine = share_in_room(&rt, &threads, rt.alloc());
+    let mut machine = fill_vacant(&rt, &threads, rt.alloc());
     machine.plays(&rt, &threads, BEFORE_A_CUT.as_slice());
     machine.plays(&rt, &threads, AFTER_A_CUT.as_slice());
     drop(machine);

@@ -10,7 +10,7 @@ use super::played::{are_lines, is_given_back, is_labelled, is_sight};
 use super::row::Row;
 use super::shows::shows;
 use st_lock::{
-    Core, Entry, Journal, Look, Machine, MachineId, MachineRoom, Message, Port, Refusal, Token,
+    Core, Entry, Journal, Look, Machine, MachineId, Message, Port, Refusal, Token, VacantMachine,
 };
 use std::alloc::Global;
 use std::process::Abort;
@@ -70,20 +70,20 @@ pub fn share(rt: &Host<impl Abort>, alloc: Global) -> Shared {
     }
 }
 
-/// Room for a machine. Where memory was refused, it is asked for again.
-fn room(rt: &Host<impl Abort>, alloc: Global, id: MachineId) -> MachineRoom<Plain>
+/// A vacant machine. Where memory was refused, it is asked for again.
+fn vacant(rt: &Host<impl Abort>, alloc: Global, id: MachineId) -> VacantMachine<Plain>
     ensures { id_for result ≡ id }
 {
-    match MachineRoom::new(alloc, id) {
-        Ok(room) => room,
+    match VacantMachine::new(alloc, id) {
+        Ok(vacant) => vacant,
         Err(refusal) => {
             is_made_again(rt, refusal);
-            MachineRoom::new(alloc, id).expect(rt, "one allocation alone is refused")
+            VacantMachine::new(alloc, id).expect(rt, "one allocation alone is refused")
         }
     }
 }
 
-/// Puts a machine where room is made for it. Where memory was refused, it had come back, and is put where room is made
+/// Fills a vacant machine. Where memory was refused, the machine had come back, and fills another vacant one that is made
 /// anew.
 fn put(
     rt: &Host<impl Abort>,
@@ -92,7 +92,7 @@ fn put(
     core: Core<Plain>,
 ) -> (Arc<Machine<Plain>>, Option<Token>) {
     let id = core.id();
-    let refused = match room(rt, alloc, id).fill(alloc, threads, core) {
+    let refused = match vacant(rt, alloc, id).fill(alloc, threads, core) {
         Ok(put) => return put,
         Err(refused) => refused,
     };
@@ -100,16 +100,16 @@ fn put(
     got(
         rt,
         "one allocation alone is refused",
-        room(rt, alloc, id).fill(alloc, threads, refused.value),
+        vacant(rt, alloc, id).fill(alloc, threads, refused.value),
     )
 }
 
-/// A machine that has just started, and was put where room was made for it.
-pub fn share_in_room(rt: &Host<impl Abort>, threads: &impl Wait, alloc: Global) -> Shared {
+/// A machine that has just started, and fills a vacant one.
+pub fn fill_vacant(rt: &Host<impl Abort>, threads: &impl Wait, alloc: Global) -> Shared {
     let core = machine(rt, alloc, 1, [].as_slice());
     let (machine, token) = put(rt, threads, alloc, core);
     holds(rt, "it has no work", token == None);
-    holds(rt, "it has the id of its room", machine.id() == ID);
+    holds(rt, "it has the id of the vacant one", machine.id() == ID);
     Shared {
         machine,
         ports: Vec::new(alloc),

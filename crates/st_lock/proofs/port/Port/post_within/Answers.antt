@@ -9,7 +9,7 @@ use Rattle.st_lock.proofs.port.Port.post_within.Goals as goal
 -- at the cell under the lock too many events wait
 pub returns-then-limit-waiting-clause-does : goal.returns-then-limit-waiting-clause-does
 returns-then-limit-waiting-clause-does g c =
-    (c.deref-5.result.now.cell, record { own = search rules; journaled = search rules }, search rules)
+    (c.deref-3.result.now.cell, record { own = search rules; journaled = search rules }, search rules)
 
 -- or it is the one that is posted to
 pub returns-in-Ok-clause-does : goal.returns-in-Ok-clause-does

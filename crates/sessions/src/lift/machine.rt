@@ -1,0 +1,131 @@
+//! What the lift does with one of its machines.
+
+use crate::time::LIMIT;
+use lift_module::Content;
+use st_core::{Collected, Core, Done, Entry, Module, Refusal, Report, Turned};
+use std::alloc::{AllocError, Global};
+use std::fmt::Debug;
+
+/// Writes down which state comes after a turn, where it is another, and the event, where it is postponed.
+fn tell_course<S: Copy + Eq + Debug>(
+    report: &Report<S>,
+    now: u64,
+    name: &str,
+    alloc: Global,
+    log: &mut String,
+) -> Result<(), AllocError> {
+    let (before, after) = (report.before, report.after);
+    if before != after {
+        log.push_str(format!(in alloc; "{now} {name}: {before:?} -> {after:?}\n")?.as_str())?;
+    }
+    if let (Done::PutOff, Some(event)) = (report.done, report.event) {
+        log.push_str(format!(in alloc; "{now} {name} postpones event {event}\n")?.as_str())?;
+    }
+    Ok(())
+}
+
+/// Writes down the events that a turn inserted, and what it asked of timers.
+fn tell_asked<S>(
+    report: &Report<S>,
+    now: u64,
+    name: &str,
+    alloc: Global,
+    log: &mut String,
+) -> Result<(), AllocError> {
+    for event in report.inserted.as_slice() {
+        log.push_str(format!(in alloc; "{now} {name} inserts event {event}\n")?.as_str())?;
+    }
+    for asked in report.set.as_slice() {
+        let (timer, decision) = *asked;
+        log.push_str(format!(in alloc; "{now} {name} timer {timer:?}: {decision:?}\n")?.as_str())?;
+    }
+    Ok(())
+}
+
+/// Takes the replies of a turn, and writes them down.
+fn tell_replies<M: Module<Content = Content>>(
+    core: &mut Core<M>,
+    report: &Report<M::State>,
+    name: &str,
+    alloc: Global,
+    log: &mut String,
+) -> Result<(), AllocError> {
+    let now = core.latest();
+    for tag in report.replied.as_slice() {
+        if let Collected::Reply(content) = core.collect(*tag) {
+            let call = tag.request;
+            log.push_str(format!(in alloc;
+                "{now} {name} answers call {call}: {content:?}\n"
+            )?.as_str())?;
+        }
+    }
+    Ok(())
+}
+
+/// Lets a machine handle the next event, and writes down what it did.
+pub fn turn<M: Module<Content = Content>>(
+    core: &mut Core<M>,
+    name: &str,
+    alloc: Global,
+    log: &mut String,
+) -> Result<(), Refusal>
+where
+    M::State: Debug,
+{
+    if let Turned::Reported(report) = core.turn(core.latest())? {
+        let now = core.latest();
+        tell_course(&report, now, name, alloc, log)?;
+        tell_asked(&report, now, name, alloc, log)?;
+        tell_replies(core, &report, name, alloc, log)?;
+    }
+    Ok(())
+}
+
+/// Hands an event to a machine that has not ended, and answers its number.
+pub fn post<M: Module<Content = Content>>(
+    core: &mut Core<M>,
+    entry: Entry,
+    content: Content,
+) -> Result<Option<u64>, Refusal> {
+    if core.ended().is_some() {
+        return Ok(None);
+    }
+    Ok(Some(core.post(entry, content)?))
+}
+
+/// Carries the messages of one machine to another, and writes them down.
+pub fn carry<A: Module<Content = Content>, B: Module<Content = Content>>(
+    from: &mut Core<A>,
+    to: &mut Core<B>,
+    name: &str,
+    alloc: Global,
+    log: &mut String,
+) -> Result<(), Refusal> {
+    let now = from.latest();
+    for _ in 0..LIMIT {
+        let Some(message) = from.take_out() else {
+            break;
+        };
+        let content = message.content;
+        log.push_str(format!(in alloc; "{now} {name} sends {content:?}\n")?.as_str())?;
+        post(to, Entry::Info, content)?;
+    }
+    Ok(())
+}
+
+/// Stops a machine that has not ended, and writes its last word down.
+pub fn stop<M: Module>(
+    core: &mut Core<M>,
+    name: &str,
+    alloc: Global,
+    log: &mut String,
+) -> Result<(), Refusal> {
+    if core.ended().is_none() {
+        let now = core.latest();
+        let word = core.stop(0)?;
+        log.push_str(format!(in alloc;
+            "{now} {name} is stopped, with the word {word}\n"
+        )?.as_str())?;
+    }
+    Ok(())
+}

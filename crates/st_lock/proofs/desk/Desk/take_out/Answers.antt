@@ -1,6 +1,0 @@
-use Rattle.st_lock.proofs.DeskLemmas.{desk_kept}
-use Rattle.st_lock.proofs.desk.Desk.take_out.Goals as goal
-
--- nothing was posted
-pub invariant_of-self : goal.invariant_of-self
-invariant_of-self g c = desk_kept c.self.inside.cell c.take_out.new.self c.self.inside.ends.items c.take_out.ensures.posts c.self.invariant

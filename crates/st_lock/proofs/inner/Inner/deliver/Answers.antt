@@ -1,0 +1,6 @@
+use Rattle.st_lock.proofs.InnerLemmas.{inner_kept}
+use Rattle.st_lock.proofs.inner.Inner.deliver.Goals as goal
+
+-- nothing was posted
+pub invariant_of-self : goal.invariant_of-self
+invariant_of-self g c = inner_kept c.self.inside.cell c.deliver.new.self c.self.inside.ends.items c.deliver.ensures.posts c.self.invariant

@@ -1,0 +1,77 @@
+use Rattle.std.proofs.Common.{◌≡◌, ◌+◌, ◌-◌, List, [], ◌∷◌, ◌++◌, length, ap, sym, ◌∙◌, subst, arith, length-append}
+use Rattle.st_cell.specs.declared.post.Post.{Post}
+use Rattle.st_cell.specs.Cell.{count_for}
+use Rattle.st_post_counter.specs.Seen.{whole, part, Begins}
+use Rattle.st_lock.specs.Inner.{InnerState, counters_of}
+use Rattle.st_lock.proofs.InnerLemmas.{found_at, count_posted, inner_posted, counters_set, same_before}
+use Rattle.st_lock.proofs.inner.Inner.post.Goals as goal
+
+-- the machine's endpoint has seen all posts
+pub add_post-requires-clause-whole : goal.add_post-requires-clause-whole
+add_post-requires-clause-whole g c =
+    let found = found_at c.args.self.now c.self.inside.cell c.self.inside.ends.items c.args.port c.args.counter.now c.index_mut-end.result.now c.self.view_is c.self.invariant
+    c.requires.open c.requires.end c.index_mut-end.ensures.value in
+    found.is_end.whole
+
+-- the cell counts one more than it has seen
+pub add_post-requires-clause-count : goal.add_post-requires-clause-count
+add_post-requires-clause-count g c =
+    let found = found_at c.args.self.now c.self.inside.cell c.self.inside.ends.items c.args.port c.args.counter.now c.index_mut-end.result.now c.self.view_is c.self.invariant
+    c.requires.open c.requires.end c.index_mut-end.ensures.value in
+    c.count_for-count.ensures
+    ∙ (count_posted c.self.inside.cell c.post.new.self c.args.port _ c.in-Ok.ensures.posted found.is_open ∙ ap (λ n. n + 1) (sym found.is_end.count))
+
+-- both endpoints are of the counter
+pub follow-requires-clause-counter : goal.follow-requires-clause-counter
+follow-requires-clause-counter g c =
+    let found = found_at c.args.self.now c.self.inside.cell c.self.inside.ends.items c.args.port c.args.counter.now c.index_mut-end.result.now c.self.view_is c.self.invariant
+    c.requires.open c.requires.end c.index_mut-end.ensures.value in
+    (ap (λ end. end.counter) c.add_post.ensures.added ∙ found.of_counter, c.requires.mine.0)
+
+-- the port's has seen one post less
+pub follow-requires-clause-behind : goal.follow-requires-clause-behind
+follow-requires-clause-behind g c =
+    let found = found_at c.args.self.now c.self.inside.cell c.self.inside.ends.items c.args.port c.args.counter.now c.index_mut-end.result.now c.self.view_is c.self.invariant
+    c.requires.open c.requires.end c.index_mut-end.ensures.value in
+    let mine : length c.args.mine.now.seen.posts ≡ length c.index_mut-end.result.now.seen.posts =
+    c.requires.count ∙ (ap (λ (inner : InnerState _ _ _ _). count_for c.args.port inner.cell) (sym c.self.view_is) ∙ sym found.is_end.count) in
+    let all : length c.add_post.new.end.seen.posts ≡ length c.index_mut-end.result.now.seen.posts + 1 =
+    ap (λ end. length end.seen.posts) c.add_post.ensures.added ∙ length-append c.index_mut-end.result.now.seen.posts _ in
+    omega (arith, mine, all)
+
+-- the machine's endpoint has seen the post too
+pub invariant_of-self : goal.invariant_of-self
+invariant_of-self g c =
+    let found = found_at c.args.self.now c.self.inside.cell c.self.inside.ends.items c.args.port c.args.counter.now c.index_mut-end.result.now c.self.view_is c.self.invariant
+    c.requires.open c.requires.end c.index_mut-end.ensures.value in
+    inner_posted c.self.inside.cell c.post.new.self c.self.inside.ends.items c.args.port _ c.index_mut-end.result.now c.follow.new.machine c.in-Ok.ensures.posted found.is_open c.self.invariant
+    found.there (c.follow.ensures.same ∙ (c.add_post.ensures.added
+    ∙ ap (λ (content : _). record {
+      counter = c.index_mut-end.result.now.counter;
+      seen = whole (c.index_mut-end.result.now.seen.posts ++ record { number = c.in-Ok.posted.number; entry = c.args.entry; content = content } ∷ []);
+    }) c.of-was.ensures))
+
+-- and so has the port's
+pub returns-in-Ok-clause-posted : goal.returns-in-Ok-clause-posted
+returns-in-Ok-clause-posted g c =
+    let found = found_at c.args.self.now c.self.inside.cell c.self.inside.ends.items c.args.port c.args.counter.now c.index_mut-end.result.now c.self.view_is c.self.invariant
+    c.requires.open c.requires.end c.index_mut-end.ensures.value in
+    let seen = c.index_mut-end.result.now.seen.posts in
+    let post : Post _ = record { number = c.in-Ok.posted.number; entry = c.args.entry; content = c.args.content } in
+    let mine : length c.args.mine.now.seen.posts ≡ length seen =
+    c.requires.count ∙ (ap (λ (inner : InnerState _ _ _ _). count_for c.args.port inner.cell) (sym c.self.view_is) ∙ sym found.is_end.count) in
+    let all : c.add_post.new.end.seen.posts ≡ seen ++ post ∷ [] = ap (λ end. end.seen.posts) c.add_post.ensures.added
+    ∙ ap (λ (content : _). seen ++ record { number = c.in-Ok.posted.number; entry = c.args.entry; content = content } ∷ []) c.of-was.ensures in
+    let same : c.args.mine.now.seen.posts ≡ seen =
+    same_before c.args.mine.now.seen.posts seen post (subst (λ (posts : List (Post _)). Begins c.args.mine.now.seen.posts posts) all c.follow.ensures.begins) mine in
+    c.follow.ensures.followed
+    ∙ ap (λ (posts : List (Post _)). record { counter = c.args.mine.now.counter; seen = part posts }) (all ∙ ap (λ posts. posts ++ post ∷ []) (sym same))
+
+-- the endpoints are of the same counters
+pub returns-in-Ok-clause-same : goal.returns-in-Ok-clause-same
+returns-in-Ok-clause-same g c =
+    let found = found_at c.args.self.now c.self.inside.cell c.self.inside.ends.items c.args.port c.args.counter.now c.index_mut-end.result.now c.self.view_is c.self.invariant
+    c.requires.open c.requires.end c.index_mut-end.ensures.value in
+    counters_set c.self.inside.ends.items (c.args.port - 1) c.index_mut-end.result.now c.follow.new.machine found.there
+    (ap (λ end. end.counter) c.follow.ensures.same ∙ ap (λ end. end.counter) c.add_post.ensures.added)
+    ∙ ap (λ (inner : InnerState _ _ _ _). counters_of inner.ends) c.self.view_is

@@ -1,0 +1,66 @@
+//! A vacant machine, which threads will share.
+ghost use Rattle.std.specs.Prelude.{◌≡◌, IfOk, IfErr};
+ghost use Rattle.std.specs.Arc.{arc_value};
+ghost use Rattle.st_events.specs.declared.refusal.Refusal.TheVariants.{NoMemory};
+ghost use Rattle.st_scheduled.specs.ScheduledMachine.{token_of};
+ghost use Rattle.st_cell.specs.Cell.{cell_at_first};
+ghost use Rattle.st_lock.specs.Machines.{id_of, id_for};
+
+use crate::Machine;
+use crate::machine::boxed;
+use st_cell::{Core, MachineId, Module, Refusal, Refused, Token};
+use std::alloc::Global;
+use std::sync::{Arc, Wait};
+
+/// The memory for a machine of one id, for whoever has to know that there is some before the machine starts: at a refusal a
+/// machine that has started gives its module back, but one that threads share has it under its lock.
+///
+/// Ours: docs/DECISIONS.md, Shared machines.
+#[derive(Drop)]
+pub struct VacantMachine<M: Module> {
+    machine: Arc<Machine<M>>,
+}
+
+impl<M: Module> VacantMachine<M> {
+    /// Gets the memory for a machine of this id.
+    ///
+    /// Refused with `NoMemory` where memory is wanted and there is none.
+    ///
+    /// Ours: docs/DECISIONS.md, Shared machines.
+    pub fn new(alloc: Global, id: MachineId) -> Result<VacantMachine<M>, Refusal>
+        ensures id { IfOk result (λ vacant. id_for vacant ≡ id) }
+
+        ensures refusals { IfErr result (λ refusal. refusal ≡ NoMemory) }
+    {
+        let machine = Machine::without_inner(alloc, id)?;
+        match Arc::new(alloc, machine) {
+            Ok(machine) => Ok(VacantMachine { machine }),
+            Err(_) => Err(Refusal::NoMemory),
+        }
+    }
+
+    /// Puts the machine of this id there, with an empty journal. If it has work, it is issued a token, whose wake number
+    /// is 0.
+    ///
+    /// Refused with `NoMemory` where memory is wanted and there is none; then the machine comes back, as it was.
+    ///
+    /// Ours: docs/DECISIONS.md, Shared machines, Tokens.
+    pub fn fill<R: Wait>(
+        self,
+        alloc: Global,
+        rt: &R,
+        core: Core<M>,
+    ) -> Result<(Arc<Machine<M>>, Option<Token>), Refused<Core<M>>>
+        requires { core.machine.id ≡ id_for self }
+        ensures id { IfOk result (λ made. id_of (arc_value made.0) ≡ core.machine.id) }
+        ensures token { IfOk result (λ made. made.1 ≡ token_of (cell_at_first core).scheduled) }
+
+        ensures refusals { IfErr result (λ refused. refused.refusal ≡ NoMemory) }
+        ensures returned { IfErr result (λ refused. refused.value ≡ core) }
+    {
+        let (inner, token) = boxed(alloc, core)?;
+        let VacantMachine { machine } = self;
+        machine.put(rt, inner);
+        Ok((machine, token))
+    }
+}

@@ -1,0 +1,2 @@
+-- Lemmas on replays.
+pub mod ReplayLemmas

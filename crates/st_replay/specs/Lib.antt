@@ -1,0 +1,2 @@
+-- Whether a journal is what a module does.
+pub mod Replay
