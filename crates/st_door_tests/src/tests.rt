@@ -12,7 +12,6 @@ mod moments;
 mod pool_faults;
 mod pool_long;
 mod pool_streams;
-mod pool_worked;
 mod pools;
 mod scripts;
 mod streams;

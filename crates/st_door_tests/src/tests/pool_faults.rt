@@ -1,7 +1,7 @@
 //! Reads, writes and allocations that fail.
 use super::host::Host;
 use super::pool_streams::{Way, by, ends};
-use super::pool_worked::ALL;
+use super::worked::ALL;
 use st_door::ScriptFault;
 use st_door_pool::Runtime;
 use std::process::Abort;

@@ -2,7 +2,7 @@
 use super::host::{Host, same};
 use super::pool_long::long_script;
 use super::pool_streams::{by, ends, run_once};
-use super::pool_worked::ALL;
+use super::worked::ALL;
 use st_door_pool::Runtime;
 use std::process::Abort;
 
