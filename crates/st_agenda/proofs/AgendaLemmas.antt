@@ -8,8 +8,8 @@ use Rattle.st_timeouts.specs.declared.running.Running.{Running}
 use Rattle.st_timeouts.specs.Running.{OneEach, running_of, runs_for}
 use Rattle.st_timeouts.specs.Timeouts.{Listed, all_of, live, with_this_number, without_listed, with_expired}
 use Rattle.st_timeouts.proofs.OrderLemmas.{one_each_without, all_of_more, one_each_more}
-use Rattle.st_agenda.specs.declared.slot.Slot.{Slot}
-use Rattle.st_agenda.specs.declared.slot.Slot.TheVariants as slot
+use Rattle.st_agenda.specs.declared.queued.Queued.{Queued}
+use Rattle.st_agenda.specs.declared.queued.Queued.TheVariants as queued
 use Rattle.st_agenda.specs.Items.{has, or_else}
 use Rattle.st_agenda.specs.Slots.{number_of}
 use Rattle.st_agenda.specs.Waiting.{Place, Seen, Unseen, Waiting, slot_of, place_numbers, slot_numbers, first_seen, first_unseen, with_unseen_seen, next_of, without_slot, put_in, Distinct, AreBelow, SeenFirst, IsOrdered}
@@ -21,89 +21,89 @@ use Rattle.st_agenda.proofs.AgreesLemmas.{has_step, true_not_false, below_member
 -- ---- received events, and how many expiries there are
 module _ {C : Type 0} where
   seen_event_by : (postponed : List ℕ) (event : Event C) (places : List (Place C)) (timer : Timer) (number : ℕ) (skip : Bool)
-      → (if skip then first_seen postponed places else Some (slot.Event event)) ≡ Some (slot.Expiry timer number)
-      → (first_seen postponed places ≡ Some (slot.Expiry timer number) → ⊥) → ⊥
+      → (if skip then first_seen postponed places else Some (queued.Event event)) ≡ Some (queued.Expiry timer number)
+      → (first_seen postponed places ≡ Some (queued.Expiry timer number) → ⊥) → ⊥
   seen_event_by postponed event places timer number true f k = k f
   seen_event_by postponed event places timer number false f k = cc
 
   -- where received ones are events, the first received one is none of a time-out
   seen_event : (postponed : List ℕ) (places : List (Place C)) (timer : Timer) (number : ℕ) → SeenEvents places
-      → first_seen postponed places ≡ Some (slot.Expiry timer number) → ⊥
+      → first_seen postponed places ≡ Some (queued.Expiry timer number) → ⊥
   seen_event postponed [] timer number s f = cc
-  seen_event postponed (Seen (slot.Event event) ∷ places) timer number s f =
+  seen_event postponed (Seen (queued.Event event) ∷ places) timer number s f =
       seen_event_by postponed event places timer number (has postponed event.number) f (seen_event postponed places timer number s)
-  seen_event postponed (Seen (slot.Expiry other own) ∷ places) timer number s f = s
+  seen_event postponed (Seen (queued.Expiry other own) ∷ places) timer number s f = s
   seen_event postponed (Unseen one ∷ places) timer number s f = seen_event postponed places timer number s f
 
-  unseen_by : {unseen : Option (Slot C)} {timer : Timer} {number : ℕ} (seen : Option (Slot C)) {first : Option (Slot C)} → first ≡ seen
-      → or_else seen unseen ≡ Some (slot.Expiry timer number) → (first ≡ Some (slot.Expiry timer number) → ⊥)
-      → (first ≡ None) × (unseen ≡ Some (slot.Expiry timer number))
+  unseen_by : {unseen : Option (Queued C)} {timer : Timer} {number : ℕ} (seen : Option (Queued C)) {first : Option (Queued C)} → first ≡ seen
+      → or_else seen unseen ≡ Some (queued.Expiry timer number) → (first ≡ Some (queued.Expiry timer number) → ⊥)
+      → (first ≡ None) × (unseen ≡ Some (queued.Expiry timer number))
   unseen_by (Some one) e n k = absurd (k (e ∙ n))
   unseen_by None e n k = (e, n)
 
   -- so the next slot, where it is an expiry, was not received
   pub unseen_expiry : (postponed : List ℕ) (places : List (Place C)) (timer : Timer) (number : ℕ) → SeenEvents places
-      → next_of postponed places ≡ Some (slot.Expiry timer number)
-      → (first_seen postponed places ≡ None) × (first_unseen places ≡ Some (slot.Expiry timer number))
+      → next_of postponed places ≡ Some (queued.Expiry timer number)
+      → (first_seen postponed places ≡ None) × (first_unseen places ≡ Some (queued.Expiry timer number))
   unseen_expiry postponed places timer number s n = unseen_by (first_seen postponed places) refl n (seen_event postponed places timer number s)
 
   seen_cut : (gone : ℕ) (event : Event C) (places : List (Place C)) (same : Bool) → SeenEvents (without_slot gone places)
-      → SeenEvents (if not same then Seen (slot.Event event) ∷ without_slot gone places else without_slot gone places)
+      → SeenEvents (if not same then Seen (queued.Event event) ∷ without_slot gone places else without_slot gone places)
   seen_cut gone event places true s = s
   seen_cut gone event places false s = s
 
-  unseen_cut : (gone : ℕ) (one : Slot C) (places : List (Place C)) (same : Bool) → SeenEvents (without_slot gone places)
+  unseen_cut : (gone : ℕ) (one : Queued C) (places : List (Place C)) (same : Bool) → SeenEvents (without_slot gone places)
       → SeenEvents (if not same then Unseen one ∷ without_slot gone places else without_slot gone places)
   unseen_cut gone one places true s = s
   unseen_cut gone one places false s = s
 
   pub events_without : (gone : ℕ) (places : List (Place C)) → SeenEvents places → SeenEvents (without_slot gone places)
   events_without gone [] s = tt
-  events_without gone (Seen (slot.Event event) ∷ places) s = seen_cut gone event places (gone == event.number) (events_without gone places s)
-  events_without gone (Seen (slot.Expiry timer number) ∷ places) s = absurd s
+  events_without gone (Seen (queued.Event event) ∷ places) s = seen_cut gone event places (gone == event.number) (events_without gone places s)
+  events_without gone (Seen (queued.Expiry timer number) ∷ places) s = absurd s
   events_without gone (Unseen one ∷ places) s = unseen_cut gone one places (gone == number_of one) (events_without gone places s)
 
   -- the first expiry that was not received leaves
   pub events_dropped : (timer : Timer) (number : ℕ) (places : List (Place C)) → Distinct (place_numbers places) → SeenEvents places
-      → first_unseen places ≡ Some (slot.Expiry timer number) → SeenEvents (without_slot number (with_unseen_seen places))
+      → first_unseen places ≡ Some (queued.Expiry timer number) → SeenEvents (without_slot number (with_unseen_seen places))
   events_dropped timer number [] d s u = tt
-  events_dropped timer number (Seen (slot.Event event) ∷ places) d s u =
+  events_dropped timer number (Seen (queued.Event event) ∷ places) d s u =
       seen_cut number event (with_unseen_seen places) (number == event.number) (events_dropped timer number places d.1 s u)
-  events_dropped timer number (Seen (slot.Expiry other own) ∷ places) d s u = absurd s
+  events_dropped timer number (Seen (queued.Expiry other own) ∷ places) d s u = absurd s
   events_dropped timer number (Unseen one ∷ places) d s u =
-      let equal : one ≡ slot.Expiry timer number = cc in
+      let equal : one ≡ queued.Expiry timer number = cc in
       let fresh : has (place_numbers places) number ≡ false = rw equal at d.0 in
       rw (equal, same_number number, slots_stay number places fresh) s
 
   counted_event : (gone : ℕ) (event : Event C) (places : List (Place C)) (same : Bool)
-      → expiries_in (if not same then Seen (slot.Event event) ∷ without_slot gone places else without_slot gone places) ≡ expiries_in (without_slot gone places)
+      → expiries_in (if not same then Seen (queued.Event event) ∷ without_slot gone places else without_slot gone places) ≡ expiries_in (without_slot gone places)
   counted_event gone event places true = refl
   counted_event gone event places false = refl
 
   pub counted_dropped : (timer : Timer) (number : ℕ) (places : List (Place C)) → Distinct (place_numbers places) → SeenEvents places
-      → first_unseen places ≡ Some (slot.Expiry timer number) → expiries_in (without_slot number (with_unseen_seen places)) + 1 ≡ expiries_in places
+      → first_unseen places ≡ Some (queued.Expiry timer number) → expiries_in (without_slot number (with_unseen_seen places)) + 1 ≡ expiries_in places
   counted_dropped timer number [] d s u = cc
-  counted_dropped timer number (Seen (slot.Event event) ∷ places) d s u =
+  counted_dropped timer number (Seen (queued.Event event) ∷ places) d s u =
       rw (counted_event number event (with_unseen_seen places) (number == event.number)) (counted_dropped timer number places d.1 s u)
-  counted_dropped timer number (Seen (slot.Expiry other own) ∷ places) d s u = absurd s
+  counted_dropped timer number (Seen (queued.Expiry other own) ∷ places) d s u = absurd s
   counted_dropped timer number (Unseen one ∷ places) d s u =
-      let equal : one ≡ slot.Expiry timer number = cc in
+      let equal : one ≡ queued.Expiry timer number = cc in
       let fresh : has (place_numbers places) number ≡ false = rw equal at d.0 in
       rw (equal, same_number number, slots_stay number places fresh) refl
 
   -- an event that was received leaves
-  unseen_stays : (gone : ℕ) (one : Slot C) (places : List (Place C)) → (gone == number_of one) ≡ false
+  unseen_stays : (gone : ℕ) (one : Queued C) (places : List (Place C)) → (gone == number_of one) ≡ false
       → expiries_in (without_slot gone (Unseen one ∷ places)) ≡ expiries_in (Unseen one ∷ without_slot gone places)
   unseen_stays gone one places e = rw e refl
 
-  count_more : (one : Slot C) (old new : List (Place C)) → expiries_in new ≡ expiries_in old → expiries_in (Unseen one ∷ new) ≡ expiries_in (Unseen one ∷ old)
-  count_more (slot.Event event) old new e = e
-  count_more (slot.Expiry timer number) old new e = ap (λ n. n + 1) e
+  count_more : (one : Queued C) (old new : List (Place C)) → expiries_in new ≡ expiries_in old → expiries_in (Unseen one ∷ new) ≡ expiries_in (Unseen one ∷ old)
+  count_more (queued.Event event) old new e = e
+  count_more (queued.Expiry timer number) old new e = ap (λ n. n + 1) e
 
   counted_seen_by : (postponed : List ℕ) (event other : Event C) (places : List (Place C)) (skip : Bool)
       → Distinct (other.number ∷ place_numbers places)
-      → (if skip then first_seen postponed places else Some (slot.Event other)) ≡ Some (slot.Event event)
-      → (first_seen postponed places ≡ Some (slot.Event event) → expiries_in (without_slot event.number places) ≡ expiries_in places)
+      → (if skip then first_seen postponed places else Some (queued.Event other)) ≡ Some (queued.Event event)
+      → (first_seen postponed places ≡ Some (queued.Event event) → expiries_in (without_slot event.number places) ≡ expiries_in places)
       → expiries_in (without_slot event.number places) ≡ expiries_in places
   counted_seen_by postponed event other places true d f k = k f
   counted_seen_by postponed event other places false d f k =
@@ -112,91 +112,91 @@ module _ {C : Type 0} where
       ap expiries_in (slots_stay event.number places fresh)
 
   pub counted_finished : (postponed : List ℕ) (event : Event C) (places : List (Place C)) → Distinct (place_numbers places) → SeenEvents places
-      → first_seen postponed places ≡ Some (slot.Event event) → expiries_in (without_slot event.number places) ≡ expiries_in places
+      → first_seen postponed places ≡ Some (queued.Event event) → expiries_in (without_slot event.number places) ≡ expiries_in places
   counted_finished postponed event [] d s f = refl
-  counted_finished postponed event (Seen (slot.Event other) ∷ places) d s f =
+  counted_finished postponed event (Seen (queued.Event other) ∷ places) d s f =
       rw (counted_event event.number other places (event.number == other.number)) (counted_seen_by postponed event other places (has postponed other.number) d f (counted_finished postponed event places d.1 s))
-  counted_finished postponed event (Seen (slot.Expiry timer number) ∷ places) d s f = absurd s
+  counted_finished postponed event (Seen (queued.Expiry timer number) ∷ places) d s f = absurd s
   counted_finished postponed event (Unseen one ∷ places) d s f =
       let other : (event.number == number_of one) ≡ false = eq_flips _ _ (differ_from (number_of one) event.number (place_numbers places) (seen_number postponed event places f) d.0) in
       unseen_stays event.number one places other ∙ count_more one places (without_slot event.number places) (counted_finished postponed event places d.1 s f)
 
   -- ---- events come in
-  events_both : (new : List (Event C)) (places : List (Place C)) → SeenEvents places → SeenEvents (map Seen (map slot.Event new) ++ places)
+  events_both : (new : List (Event C)) (places : List (Place C)) → SeenEvents places → SeenEvents (map Seen (map queued.Event new) ++ places)
   events_both [] places s = s
   events_both (event ∷ new) places s = events_both new places s
 
-  counted_both : (new : List (Event C)) (places : List (Place C)) → expiries_in (map Seen (map slot.Event new) ++ places) ≡ expiries_in places
+  counted_both : (new : List (Event C)) (places : List (Place C)) → expiries_in (map Seen (map queued.Event new) ++ places) ≡ expiries_in places
   counted_both [] places = refl
   counted_both (event ∷ new) places = counted_both new places
 
-  events_alone : (new : List (Event C)) → SeenEvents (map Seen (map slot.Event new))
+  events_alone : (new : List (Event C)) → SeenEvents (map Seen (map queued.Event new))
   events_alone [] = tt
   events_alone (event ∷ new) = events_alone new
 
-  counted_alone : (new : List (Event C)) → expiries_in (map Seen (map slot.Event new)) ≡ 0
+  counted_alone : (new : List (Event C)) → expiries_in (map Seen (map queued.Event new)) ≡ 0
   counted_alone [] = refl
   counted_alone (event ∷ new) = counted_alone new
 
   place_events : (place : Place C) (old new : List (Place C)) → SeenEvents (place ∷ old) → (SeenEvents old → SeenEvents new) → SeenEvents (place ∷ new)
-  place_events (Seen (slot.Event event)) old new s f = f s
-  place_events (Seen (slot.Expiry timer number)) old new s f = s
+  place_events (Seen (queued.Event event)) old new s f = f s
+  place_events (Seen (queued.Expiry timer number)) old new s f = s
   place_events (Unseen one) old new s f = f s
 
   place_counted : (place : Place C) (old new : List (Place C)) → expiries_in new ≡ expiries_in old → expiries_in (place ∷ new) ≡ expiries_in (place ∷ old)
-  place_counted (Seen (slot.Event event)) old new e = e
-  place_counted (Seen (slot.Expiry timer number)) old new e = ap (λ n. n + 1) e
-  place_counted (Unseen (slot.Event event)) old new e = e
-  place_counted (Unseen (slot.Expiry timer number)) old new e = ap (λ n. n + 1) e
+  place_counted (Seen (queued.Event event)) old new e = e
+  place_counted (Seen (queued.Expiry timer number)) old new e = ap (λ n. n + 1) e
+  place_counted (Unseen (queued.Event event)) old new e = e
+  place_counted (Unseen (queued.Expiry timer number)) old new e = ap (λ n. n + 1) e
 
   events_put_by : (postponed : List ℕ) (new : List (Event C)) (place : Place C) (places : List (Place C)) (skip : Bool) → SeenEvents (place ∷ places)
-      → (SeenEvents places → SeenEvents (put_in postponed (map Seen (map slot.Event new)) places))
-      → SeenEvents (if skip then place ∷ put_in postponed (map Seen (map slot.Event new)) places else map Seen (map slot.Event new) ++ place ∷ places)
+      → (SeenEvents places → SeenEvents (put_in postponed (map Seen (map queued.Event new)) places))
+      → SeenEvents (if skip then place ∷ put_in postponed (map Seen (map queued.Event new)) places else map Seen (map queued.Event new) ++ place ∷ places)
   events_put_by postponed new place places true s f = place_events place places _ s f
   events_put_by postponed new place places false s f = events_both new (place ∷ places) s
 
   pub events_put_in : (postponed : List ℕ) (new : List (Event C)) (places : List (Place C)) → SeenEvents places
-      → SeenEvents (put_in postponed (map Seen (map slot.Event new)) places)
+      → SeenEvents (put_in postponed (map Seen (map queued.Event new)) places)
   events_put_in postponed new [] s = events_alone new
   events_put_in postponed new (place ∷ places) s =
       events_put_by postponed new place places (has postponed (number_of (slot_of place))) s (events_put_in postponed new places)
 
   counted_put_by : (postponed : List ℕ) (new : List (Event C)) (place : Place C) (places : List (Place C)) (skip : Bool)
-      → expiries_in (put_in postponed (map Seen (map slot.Event new)) places) ≡ expiries_in places
-      → expiries_in (if skip then place ∷ put_in postponed (map Seen (map slot.Event new)) places else map Seen (map slot.Event new) ++ place ∷ places) ≡ expiries_in (place ∷ places)
+      → expiries_in (put_in postponed (map Seen (map queued.Event new)) places) ≡ expiries_in places
+      → expiries_in (if skip then place ∷ put_in postponed (map Seen (map queued.Event new)) places else map Seen (map queued.Event new) ++ place ∷ places) ≡ expiries_in (place ∷ places)
   counted_put_by postponed new place places true e = place_counted place places _ e
   counted_put_by postponed new place places false e = counted_both new (place ∷ places)
 
   pub counted_put_in : (postponed : List ℕ) (new : List (Event C)) (places : List (Place C))
-      → expiries_in (put_in postponed (map Seen (map slot.Event new)) places) ≡ expiries_in places
+      → expiries_in (put_in postponed (map Seen (map queued.Event new)) places) ≡ expiries_in places
   counted_put_in postponed new [] = counted_alone new
   counted_put_in postponed new (place ∷ places) =
       counted_put_by postponed new place places (has postponed (number_of (slot_of place))) (counted_put_in postponed new places)
 
   -- ---- a posted event is received
-  pub events_arrived : (event : Event C) (places : List (Place C)) → SeenEvents places → first_unseen places ≡ Some (slot.Event event) → SeenEvents (with_unseen_seen places)
+  pub events_arrived : (event : Event C) (places : List (Place C)) → SeenEvents places → first_unseen places ≡ Some (queued.Event event) → SeenEvents (with_unseen_seen places)
   events_arrived event [] s u = tt
-  events_arrived event (Seen (slot.Event other) ∷ places) s u = events_arrived event places s u
-  events_arrived event (Seen (slot.Expiry timer number) ∷ places) s u = absurd s
-  events_arrived event (Unseen one ∷ places) s u = let equal : one ≡ slot.Event event = cc in rw equal s
+  events_arrived event (Seen (queued.Event other) ∷ places) s u = events_arrived event places s u
+  events_arrived event (Seen (queued.Expiry timer number) ∷ places) s u = absurd s
+  events_arrived event (Unseen one ∷ places) s u = let equal : one ≡ queued.Event event = cc in rw equal s
 
-  pub counted_arrived : (event : Event C) (places : List (Place C)) → first_unseen places ≡ Some (slot.Event event) → expiries_in (with_unseen_seen places) ≡ expiries_in places
+  pub counted_arrived : (event : Event C) (places : List (Place C)) → first_unseen places ≡ Some (queued.Event event) → expiries_in (with_unseen_seen places) ≡ expiries_in places
   counted_arrived event [] u = refl
-  counted_arrived event (Seen (slot.Event other) ∷ places) u = counted_arrived event places u
-  counted_arrived event (Seen (slot.Expiry timer number) ∷ places) u = ap (λ n. n + 1) (counted_arrived event places u)
-  counted_arrived event (Unseen one ∷ places) u = let equal : one ≡ slot.Event event = cc in rw equal refl
+  counted_arrived event (Seen (queued.Event other) ∷ places) u = counted_arrived event places u
+  counted_arrived event (Seen (queued.Expiry timer number) ∷ places) u = ap (λ n. n + 1) (counted_arrived event places u)
+  counted_arrived event (Unseen one ∷ places) u = let equal : one ≡ queued.Event event = cc in rw equal refl
 
   -- ---- one more at the end
-  pub events_behind : (places : List (Place C)) (one : Slot C) → SeenEvents places → SeenEvents (places ++ Unseen one ∷ [])
+  pub events_behind : (places : List (Place C)) (one : Queued C) → SeenEvents places → SeenEvents (places ++ Unseen one ∷ [])
   events_behind [] one s = tt
   events_behind (place ∷ places) one s = place_events place places _ s (events_behind places one)
 
-  pub counted_behind : (places : List (Place C)) (one : Slot C) → expiries_in (places ++ Unseen one ∷ []) ≡ expiries_in places + expiries_in (Unseen one ∷ [])
+  pub counted_behind : (places : List (Place C)) (one : Queued C) → expiries_in (places ++ Unseen one ∷ []) ≡ expiries_in places + expiries_in (Unseen one ∷ [])
   counted_behind [] one = omega arith
-  counted_behind (Seen (slot.Event event) ∷ places) one = counted_behind places one
-  counted_behind (Seen (slot.Expiry timer number) ∷ places) one = omega (arith, counted_behind places one)
-  counted_behind (Unseen (slot.Event event) ∷ places) one = counted_behind places one
-  counted_behind (Unseen (slot.Expiry timer number) ∷ places) one = omega (arith, counted_behind places one)
+  counted_behind (Seen (queued.Event event) ∷ places) one = counted_behind places one
+  counted_behind (Seen (queued.Expiry timer number) ∷ places) one = omega (arith, counted_behind places one)
+  counted_behind (Unseen (queued.Event event) ∷ places) one = counted_behind places one
+  counted_behind (Unseen (queued.Expiry timer number) ∷ places) one = omega (arith, counted_behind places one)
 
   -- ---- the numbers of time-outs
   numbers_cut : (timer : Timer) (one : Listed C) (listed : List (Listed C)) (number : ℕ) (same : Bool)
@@ -252,18 +252,18 @@ module _ {C : Type 0} where
   below_begun bound (other ∷ listed) one h b = (b.0, below_begun bound listed one h b.1)
 
   -- ---- a dead expiry: its number is that of no time-out that runs
-  pub unseen_number : (one : Slot C) (places : List (Place C)) → first_unseen places ≡ Some one → has (place_numbers places) (number_of one) ≡ true
+  pub unseen_number : (one : Queued C) (places : List (Place C)) → first_unseen places ≡ Some one → has (place_numbers places) (number_of one) ≡ true
   unseen_number one [] u = cc
   unseen_number one (Seen other ∷ places) u = has_step (number_of other == number_of one) (unseen_number one places u)
   unseen_number one (Unseen other ∷ places) u = let equal : other ≡ one = cc in rw (equal, same_number (number_of one)) refl
 
-  same_expiry : (timer second : Timer) (number : ℕ) (places : List (Place C)) → Distinct (place_numbers places) → first_unseen places ≡ Some (slot.Expiry timer number)
+  same_expiry : (timer second : Timer) (number : ℕ) (places : List (Place C)) → Distinct (place_numbers places) → first_unseen places ≡ Some (queued.Expiry timer number)
       → HasExpiry second number places → second ≡ timer
   same_expiry timer second number [] d u h = absurd h
   same_expiry timer second number (Seen one ∷ places) d u h = same_expiry timer second number places d.1 u h
-  same_expiry timer second number (Unseen one ∷ places) d u (inl same) = let equal : one ≡ slot.Expiry timer number = cc in cc
+  same_expiry timer second number (Unseen one ∷ places) d u (inl same) = let equal : one ≡ queued.Expiry timer number = cc in cc
   same_expiry timer second number (Unseen one ∷ places) d u (inr h) =
-      let equal : one ≡ slot.Expiry timer number = cc in
+      let equal : one ≡ queued.Expiry timer number = cc in
       let fresh : has (place_numbers places) number ≡ false = rw equal at d.0 in
       absurd (true_not_false (sym (expiry_number second number places h) ∙ fresh))
 
@@ -272,24 +272,24 @@ module _ {C : Type 0} where
 
   dead_one_by : (all : List (Listed C)) (one : Listed C) (timer : Timer) (places : List (Place C)) (mark : Bool) → IsMarked one places mark
       → running_of one.running.timer (all_of all) ≡ Some one.running → Distinct (place_numbers places)
-      → first_unseen places ≡ Some (slot.Expiry timer one.running.number) → is_some (live timer one.running.number all) ≡ false → ⊥
+      → first_unseen places ≡ Some (queued.Expiry timer one.running.number) → is_some (live timer one.running.number all) ≡ false → ⊥
   dead_one_by all one timer places true m f d u l =
       let same : one.running.timer ≡ timer = same_expiry timer one.running.timer one.running.number places d u m.0 in
       let found : is_some (live timer one.running.number all) ≡ true = rw (← same) (live_found (all_of all) one.running f) in
       true_not_false (sym found ∙ l)
   dead_one_by all one timer places false m f d u l =
-      true_not_false (sym (unseen_number (slot.Expiry timer one.running.number) places u) ∙ m)
+      true_not_false (sym (unseen_number (queued.Expiry timer one.running.number) places u) ∙ m)
 
   dead_one : (all : List (Listed C)) (one : Listed C) (timer : Timer) (number : ℕ) (places : List (Place C)) (same : Bool) → (one.running.number == number) ≡ same
       → IsMarked one places one.expired → running_of one.running.timer (all_of all) ≡ Some one.running → Distinct (place_numbers places)
-      → first_unseen places ≡ Some (slot.Expiry timer number) → is_some (live timer number all) ≡ false → same ≡ false
+      → first_unseen places ≡ Some (queued.Expiry timer number) → is_some (live timer number all) ≡ false → same ≡ false
   dead_one all one timer number places false e m f d u l = refl
   dead_one all one timer number places true e m f d u l =
       let equal : number ≡ one.running.number = grind (arith, e) in
       absurd (dead_one_by all one timer places one.expired m f d (rw equal at u) (rw equal at l))
 
   dead_among : (all listed : List (Listed C)) (timer : Timer) (number : ℕ) (places : List (Place C)) → AllFound (all_of all) listed → AreMarked listed places
-      → Distinct (place_numbers places) → first_unseen places ≡ Some (slot.Expiry timer number) → is_some (live timer number all) ≡ false
+      → Distinct (place_numbers places) → first_unseen places ≡ Some (queued.Expiry timer number) → is_some (live timer number all) ≡ false
       → has (timeout_numbers listed) number ≡ false
   dead_among all [] timer number places f m d u l = refl
   dead_among all (one ∷ listed) timer number places f m d u l =
@@ -297,7 +297,7 @@ module _ {C : Type 0} where
       (dead_among all listed timer number places f.1 m.1 d u l)
 
   pub dead_free : (listed : List (Listed C)) (timer : Timer) (number : ℕ) (places : List (Place C)) → OneEach (all_of listed) → AreMarked listed places
-      → Distinct (place_numbers places) → first_unseen places ≡ Some (slot.Expiry timer number) → is_some (live timer number listed) ≡ false
+      → Distinct (place_numbers places) → first_unseen places ≡ Some (queued.Expiry timer number) → is_some (live timer number listed) ≡ false
       → has (timeout_numbers listed) number ≡ false
   dead_free listed timer number places o m d u l = dead_among listed listed timer number places (all_found listed o) m d u l
 
@@ -314,19 +314,19 @@ module _ {C : Type 0} where
 -- ---- queue and time-outs agree
 module _ {C : Type 0} (old after : Waiting C) (listed : List (Listed C)) (expiries : ℕ) (a : Agrees old listed expiries) (o : IsOrdered after) where
   -- a posted event came
-  pub agrees_pushed : (event : Event C) → after.items ≡ old.items ++ Unseen (slot.Event event) ∷ [] → old.next_number ≤ after.next_number → event.number ≡ old.next_number
+  pub agrees_pushed : (event : Event C) → after.items ≡ old.items ++ Unseen (queued.Event event) ∷ [] → old.next_number ≤ after.next_number → event.number ≡ old.next_number
       → Agrees after listed expiries
   agrees_pushed event same more number_is = record {
     ordered = o;
-    events = rw same (events_behind old.items (slot.Event event) a.events);
+    events = rw same (events_behind old.items (queued.Event event) a.events);
     one_each = a.one_each;
     distinct = a.distinct;
     below = below_more old.next_number after.next_number (timeout_numbers listed) more a.below;
     marked = rw same (marked_after listed old.items _
         (λ number h k. let less = below_member old.next_number number (timeout_numbers listed) a.below h in
-        has_behind number old.items (slot.Event event) k (let other : (event.number == number) ≡ false = grind (arith, less, number_is) in other))
+        has_behind number old.items (queued.Event event) k (let other : (event.number == number) ≡ false = grind (arith, less, number_is) in other))
         (λ timer number h k. expiry_before timer number old.items _ k) a.marked);
-    counted = rw same (a.counted ∙ (let zero : expiries_in old.items ≡ expiries_in old.items + 0 = omega arith in zero) ∙ sym (counted_behind old.items (slot.Event event)));
+    counted = rw same (a.counted ∙ (let zero : expiries_in old.items ≡ expiries_in old.items + 0 = omega arith in zero) ∙ sym (counted_behind old.items (queued.Event event)));
   }
 
   -- nothing came or left
@@ -343,7 +343,7 @@ module _ {C : Type 0} (old after : Waiting C) (listed : List (Listed C)) (expiri
 
   -- an expiry left whose time-out runs no more
   pub agrees_dropped : (timer : Timer) (number left : ℕ) → after.items ≡ without_slot number (with_unseen_seen old.items) → old.next_number ≤ after.next_number
-      → first_unseen old.items ≡ Some (slot.Expiry timer number) → is_some (live timer number listed) ≡ false → left + 1 ≡ expiries → Agrees after listed left
+      → first_unseen old.items ≡ Some (queued.Expiry timer number) → is_some (live timer number listed) ≡ false → left + 1 ≡ expiries → Agrees after listed left
   agrees_dropped timer number left same more u l c =
       let free = dead_free listed timer number old.items a.one_each a.marked a.ordered.distinct u l in
       record {
@@ -355,13 +355,13 @@ module _ {C : Type 0} (old after : Waiting C) (listed : List (Listed C)) (expiri
         marked = rw same (marked_after listed old.items _
             (λ other h k. has_without other number (with_unseen_seen old.items) (rw (numbers_seen old.items) k))
             (λ second other h k. expiry_kept second other number (with_unseen_seen old.items) (differ_from number other (timeout_numbers listed) h free)
-            (expiry_unseen second other (slot.Expiry timer number) old.items u (differ_from number other (timeout_numbers listed) h free) k)) a.marked);
+            (expiry_unseen second other (queued.Expiry timer number) old.items u (differ_from number other (timeout_numbers listed) h free) k)) a.marked);
         counted = rw same (omega (arith, c, a.counted, counted_dropped timer number old.items a.ordered.distinct a.events u));
       }
 
   -- a received event left
   pub agrees_finished : (postponed : List ℕ) (event : Event C) → after.items ≡ without_slot event.number old.items → old.next_number ≤ after.next_number
-      → first_seen postponed old.items ≡ Some (slot.Event event) → Agrees after listed expiries
+      → first_seen postponed old.items ≡ Some (queued.Event event) → Agrees after listed expiries
   agrees_finished postponed event same more f = record {
     ordered = o;
     events = rw same (events_without event.number old.items a.events);
@@ -375,8 +375,8 @@ module _ {C : Type 0} (old after : Waiting C) (listed : List (Listed C)) (expiri
   }
 
   -- events came in whose numbers no time-out has
-  pub agrees_put : (postponed : List ℕ) (new : List (Event C)) → after.items ≡ put_in postponed (map Seen (map slot.Event new)) old.items → old.next_number ≤ after.next_number
-      → ((number : ℕ) → has (timeout_numbers listed) number ≡ true → has (slot_numbers (map slot.Event new)) number ≡ false) → Agrees after listed expiries
+  pub agrees_put : (postponed : List ℕ) (new : List (Event C)) → after.items ≡ put_in postponed (map Seen (map queued.Event new)) old.items → old.next_number ≤ after.next_number
+      → ((number : ℕ) → has (timeout_numbers listed) number ≡ true → has (slot_numbers (map queued.Event new)) number ≡ false) → Agrees after listed expiries
   agrees_put postponed new same more free = record {
     ordered = o;
     events = rw same (events_put_in postponed new old.items a.events);
@@ -384,13 +384,13 @@ module _ {C : Type 0} (old after : Waiting C) (listed : List (Listed C)) (expiri
     distinct = a.distinct;
     below = below_more old.next_number after.next_number (timeout_numbers listed) more a.below;
     marked = rw same (marked_after listed old.items _
-        (λ number h k. has_put_in number postponed (map slot.Event new) old.items (free number h) k)
-        (λ timer number h k. expiry_put_in timer number postponed (map slot.Event new) old.items k) a.marked);
+        (λ number h k. has_put_in number postponed (map queued.Event new) old.items (free number h) k)
+        (λ timer number h k. expiry_put_in timer number postponed (map queued.Event new) old.items k) a.marked);
     counted = rw same (a.counted ∙ sym (counted_put_in postponed new old.items));
   }
 
   -- a posted event was received
-  pub agrees_arrived : (event : Event C) → after.items ≡ with_unseen_seen old.items → old.next_number ≤ after.next_number → first_unseen old.items ≡ Some (slot.Event event)
+  pub agrees_arrived : (event : Event C) → after.items ≡ with_unseen_seen old.items → old.next_number ≤ after.next_number → first_unseen old.items ≡ Some (queued.Event event)
       → Agrees after listed expiries
   agrees_arrived event same more u = record {
     ordered = o;
@@ -438,15 +438,15 @@ module _ {C : Type 0} where
   -- events that come in stand first, or nothing does
   first_put_by : (postponed : List ℕ) (new : List (Event C)) (event : Event C) (place : Place C) (places : List (Place C)) (skip : Bool)
       → has postponed (number_of (slot_of place)) ≡ skip → has postponed event.number ≡ false
-      → first_seen postponed (put_in postponed (map Seen (map slot.Event (event ∷ new))) places) ≡ Some (slot.Event event)
-      → first_seen postponed (if skip then place ∷ put_in postponed (map Seen (map slot.Event (event ∷ new))) places else map Seen (map slot.Event (event ∷ new)) ++ place ∷ places)
-      ≡ Some (slot.Event event)
+      → first_seen postponed (put_in postponed (map Seen (map queued.Event (event ∷ new))) places) ≡ Some (queued.Event event)
+      → first_seen postponed (if skip then place ∷ put_in postponed (map Seen (map queued.Event (event ∷ new))) places else map Seen (map queued.Event (event ∷ new)) ++ place ∷ places)
+      ≡ Some (queued.Event event)
   first_put_by postponed new event (Seen one) places true e h k = rw e k
   first_put_by postponed new event (Unseen one) places true e h k = k
   first_put_by postponed new event place places false e h k = rw h refl
 
   pub first_put_in : (postponed : List ℕ) (new : List (Event C)) (event : Event C) (places : List (Place C)) → has postponed event.number ≡ false
-      → first_seen postponed (put_in postponed (map Seen (map slot.Event (event ∷ new))) places) ≡ Some (slot.Event event)
+      → first_seen postponed (put_in postponed (map Seen (map queued.Event (event ∷ new))) places) ≡ Some (queued.Event event)
   first_put_in postponed new event [] h = rw h refl
   first_put_in postponed new event (place ∷ places) h =
       first_put_by postponed new event place places (has postponed (number_of (slot_of place))) refl h (first_put_in postponed new event places h)
@@ -460,44 +460,44 @@ module _ {C : Type 0} where
   none_put_in postponed [] = refl
   none_put_in postponed (place ∷ places) = none_put_by postponed place places (has postponed (number_of (slot_of place))) (none_put_in postponed places)
 
-  pub alive_first : (listed : List (Listed C)) (event : Event C) {first : Option (Slot C)} (second : Option (Slot C)) → first ≡ Some (slot.Event event) → IsAlive listed (or_else first second)
+  pub alive_first : (listed : List (Listed C)) (event : Event C) {first : Option (Queued C)} (second : Option (Queued C)) → first ≡ Some (queued.Event event) → IsAlive listed (or_else first second)
   alive_first listed event second e = rw e tt
 
   pub alive_put_in : (listed : List (Listed C)) (postponed : List ℕ) (new : List (Event C)) (places : List (Place C))
       → ((event : Event C) → (rest : List (Event C)) → new ≡ event ∷ rest → has postponed event.number ≡ false) → IsAlive listed (next_of postponed places)
-      → IsAlive listed (next_of postponed (put_in postponed (map Seen (map slot.Event new)) places))
+      → IsAlive listed (next_of postponed (put_in postponed (map Seen (map queued.Event new)) places))
   alive_put_in listed postponed [] places f k = rw (none_put_in postponed places) k
   alive_put_in listed postponed (event ∷ new) places f k = alive_first listed event _ (first_put_in postponed new event places (f event new refl))
 
-  first_arrived_by : (postponed : List ℕ) (event : Event C) (one : Slot C) (places : List (Place C)) (skip : Bool)
+  first_arrived_by : (postponed : List ℕ) (event : Event C) (one : Queued C) (places : List (Place C)) (skip : Bool)
       → (if skip then first_seen postponed places else Some one) ≡ None
-      → (first_seen postponed places ≡ None → first_seen postponed (with_unseen_seen places) ≡ Some (slot.Event event))
-      → (if skip then first_seen postponed (with_unseen_seen places) else Some one) ≡ Some (slot.Event event)
+      → (first_seen postponed places ≡ None → first_seen postponed (with_unseen_seen places) ≡ Some (queued.Event event))
+      → (if skip then first_seen postponed (with_unseen_seen places) else Some one) ≡ Some (queued.Event event)
   first_arrived_by postponed event one places true n k = k n
   first_arrived_by postponed event one places false n k = cc
 
   -- a posted event that is received is the next
-  pub first_arrived : (postponed : List ℕ) (event : Event C) (places : List (Place C)) → first_seen postponed places ≡ None → first_unseen places ≡ Some (slot.Event event)
-      → SeenFirst postponed places → first_seen postponed (with_unseen_seen places) ≡ Some (slot.Event event)
+  pub first_arrived : (postponed : List ℕ) (event : Event C) (places : List (Place C)) → first_seen postponed places ≡ None → first_unseen places ≡ Some (queued.Event event)
+      → SeenFirst postponed places → first_seen postponed (with_unseen_seen places) ≡ Some (queued.Event event)
   first_arrived postponed event [] n u s = cc
   first_arrived postponed event (Seen one ∷ places) n u s = first_arrived_by postponed event one places (has postponed (number_of one)) n (λ k. first_arrived postponed event places k u s)
   first_arrived postponed event (Unseen one ∷ places) n u s =
-      let equal : one ≡ slot.Event event = cc in
+      let equal : one ≡ queued.Event event = cc in
       let free : has postponed event.number ≡ false = rw equal at s.0 in rw (equal, free) refl
 
   pub alive_arrived : (listed : List (Listed C)) (postponed : List ℕ) (event : Event C) (places : List (Place C)) → first_seen postponed places ≡ None
-      → first_unseen places ≡ Some (slot.Event event) → SeenFirst postponed places → IsAlive listed (next_of postponed (with_unseen_seen places))
+      → first_unseen places ≡ Some (queued.Event event) → SeenFirst postponed places → IsAlive listed (next_of postponed (with_unseen_seen places))
   alive_arrived listed postponed event places n u s = alive_first listed event _ (first_arrived postponed event places n u s)
 
   -- where none is postponed any more, the next slot is an event, or the one that it was
-  first_any : (places : List (Place C)) → SeenEvents places → ((event : Event C) × (first_seen [] places ≡ Some (slot.Event event))) ⊎ ((first_seen [] places ≡ None) × ((postponed : List ℕ) → first_seen postponed places ≡ None))
+  first_any : (places : List (Place C)) → SeenEvents places → ((event : Event C) × (first_seen [] places ≡ Some (queued.Event event))) ⊎ ((first_seen [] places ≡ None) × ((postponed : List ℕ) → first_seen postponed places ≡ None))
   first_any [] s = inr (refl, λ postponed. refl)
-  first_any (Seen (slot.Event event) ∷ places) s = inl (event, refl)
-  first_any (Seen (slot.Expiry timer number) ∷ places) s = absurd s
+  first_any (Seen (queued.Event event) ∷ places) s = inl (event, refl)
+  first_any (Seen (queued.Expiry timer number) ∷ places) s = absurd s
   first_any (Unseen one ∷ places) s = first_any places s
 
   alive_retried_by : (listed : List (Listed C)) (postponed : List ℕ) (places : List (Place C)) → IsAlive listed (next_of postponed places)
-      → ((event : Event C) × (first_seen [] places ≡ Some (slot.Event event))) ⊎ ((first_seen [] places ≡ None) × ((postponed : List ℕ) → first_seen postponed places ≡ None))
+      → ((event : Event C) × (first_seen [] places ≡ Some (queued.Event event))) ⊎ ((first_seen [] places ≡ None) × ((postponed : List ℕ) → first_seen postponed places ≡ None))
       → IsAlive listed (next_of [] places)
   alive_retried_by listed postponed places k (inl found) = alive_first listed found.0 _ found.1
   alive_retried_by listed postponed places k (inr none) = let was : IsAlive listed (first_unseen places) = rw (none.1 postponed) at k in rw none.0 was
@@ -507,29 +507,29 @@ module _ {C : Type 0} where
   alive_retried listed postponed places s k = alive_retried_by listed postponed places k (first_any places s)
 
   -- a posted event came: the next slot is the one that it was, or that event
-  first_behind : (postponed : List ℕ) (places : List (Place C)) (one : Slot C) → first_seen postponed (places ++ Unseen one ∷ []) ≡ first_seen postponed places
+  first_behind : (postponed : List ℕ) (places : List (Place C)) (one : Queued C) → first_seen postponed (places ++ Unseen one ∷ []) ≡ first_seen postponed places
   first_behind postponed [] one = refl
   first_behind postponed (Seen other ∷ places) one = rw (first_behind postponed places one) refl
   first_behind postponed (Unseen other ∷ places) one = first_behind postponed places one
 
-  unseen_behind : (places : List (Place C)) (one : Slot C) → first_unseen (places ++ Unseen one ∷ []) ≡ or_else (first_unseen places) (Some one)
+  unseen_behind : (places : List (Place C)) (one : Queued C) → first_unseen (places ++ Unseen one ∷ []) ≡ or_else (first_unseen places) (Some one)
   unseen_behind [] one = refl
   unseen_behind (Seen other ∷ places) one = unseen_behind places one
   unseen_behind (Unseen other ∷ places) one = refl
 
-  alive_behind_by : (listed : List (Listed C)) (one : Slot C) (seen unseen : Option (Slot C)) → IsAlive listed (Some one) → IsAlive listed (or_else seen unseen)
+  alive_behind_by : (listed : List (Listed C)) (one : Queued C) (seen unseen : Option (Queued C)) → IsAlive listed (Some one) → IsAlive listed (or_else seen unseen)
       → IsAlive listed (or_else seen (or_else unseen (Some one)))
   alive_behind_by listed one (Some other) unseen k h = h
   alive_behind_by listed one None (Some other) k h = h
   alive_behind_by listed one None None k h = k
 
-  pub alive_behind : (listed : List (Listed C)) (postponed : List ℕ) (places : List (Place C)) (one : Slot C) → IsAlive listed (Some one) → IsAlive listed (next_of postponed places)
+  pub alive_behind : (listed : List (Listed C)) (postponed : List ℕ) (places : List (Place C)) (one : Queued C) → IsAlive listed (Some one) → IsAlive listed (next_of postponed places)
       → IsAlive listed (next_of postponed (places ++ Unseen one ∷ []))
   alive_behind listed postponed places one k h =
       rw (first_behind postponed places one, unseen_behind places one) (alive_behind_by listed one (first_seen postponed places) (first_unseen places) k h)
 
   -- only what runs counts
-  pub alive_same : (listed other : List (Listed C)) (next : Option (Slot C)) → all_of other ≡ all_of listed → IsAlive listed next → IsAlive other next
+  pub alive_same : (listed other : List (Listed C)) (next : Option (Queued C)) → all_of other ≡ all_of listed → IsAlive listed next → IsAlive other next
   alive_same listed other None e k = tt
-  alive_same listed other (Some (slot.Event event)) e k = tt
-  alive_same listed other (Some (slot.Expiry timer number)) e k = rw e k
+  alive_same listed other (Some (queued.Event event)) e k = tt
+  alive_same listed other (Some (queued.Expiry timer number)) e k = rw e k

@@ -15,7 +15,7 @@ use Rattle.st_timeouts.specs.Timeouts.{Timeouts, Listed, all_of, live, name_of, 
 use Rattle.st_timeouts.proofs.OrderLemmas.{expiring_after, all_of_more, all_of_with_expired, all_of_without_listed, gone}
 use Rattle.st_timeouts.specs.Waiting.{waiting_of}
 use Rattle.st_timeouts.proofs.HandedLemmas.{due_name, due_expired}
-use Rattle.st_agenda.specs.declared.slot.Slot.TheVariants as slot
+use Rattle.st_agenda.specs.declared.queued.Queued.TheVariants as queued
 use Rattle.st_agenda.specs.Items.{has}
 use Rattle.st_agenda.specs.Timing.{expiring_by, next_due_among, without_expiry}
 use Rattle.st_agenda.specs.Waiting.{Place, Unseen, Waiting, place_numbers, AreBelow, IsOrdered}
@@ -118,14 +118,14 @@ module _ {C : Type 0} where
 
   -- ---- the mark of a time-out that expires
   marked_still : (timer : Timer) (number : ℕ) (one : Listed C) (places : List (Place C)) (mark : Bool) → (number == one.running.number) ≡ false → IsMarked one places mark
-      → IsMarked (record one { expired = mark }) (places ++ Unseen (slot.Expiry timer number) ∷ []) mark
+      → IsMarked (record one { expired = mark }) (places ++ Unseen (queued.Expiry timer number) ∷ []) mark
   marked_still timer number one places true d m = (expiry_before one.running.timer one.running.number places _ m.0, m.1)
-  marked_still timer number one places false d m = has_behind one.running.number places (slot.Expiry timer number) m d
+  marked_still timer number one places false d m = has_behind one.running.number places (queued.Expiry timer number) m d
 
   marked_as : (timer : Timer) (running : Running C) (one : Listed C) (places : List (Place C)) (same : Bool) → same_timer timer one.running.timer ≡ same
       → timer ≡ running.timer → is_zero running.due ≡ false → (same ≡ true → one.running ≡ running)
       → (same ≡ false → (running.number == one.running.number) ≡ false) → IsMarked one places one.expired
-      → IsMarked (record one { expired = if same then true else one.expired }) (places ++ Unseen (slot.Expiry timer running.number) ∷ []) (if same then true else one.expired)
+      → IsMarked (record one { expired = if same then true else one.expired }) (places ++ Unseen (queued.Expiry timer running.number) ∷ []) (if same then true else one.expired)
   marked_as timer running one places true e t z f d m =
       let equal = f refl in
       let same : one.running.timer ≡ timer = sym (timers_same timer one.running.timer e) in
@@ -156,7 +156,7 @@ module _ {C : Type 0} where
 
   marked_all : (all listed : List (Listed C)) (timer : Timer) (running : Running C) (places : List (Place C)) → timer ≡ running.timer → is_zero running.due ≡ false
       → running_of timer (all_of all) ≡ Some running → AllFound (all_of all) listed → has (timeout_numbers (without_listed timer listed)) running.number ≡ false
-      → AreMarked listed places → AreMarked (with_expired timer listed) (places ++ Unseen (slot.Expiry timer running.number) ∷ [])
+      → AreMarked listed places → AreMarked (with_expired timer listed) (places ++ Unseen (queued.Expiry timer running.number) ∷ [])
   marked_all all [] timer running places t z r f h m = tt
   marked_all all (one ∷ listed) timer running places t z r f h m = (
     marked_as timer running one places (same_timer timer one.running.timer) refl t z
@@ -191,8 +191,8 @@ module _ {C : Type 0} (waiting : Waiting C) (listed : List (Listed C)) (expiries
     first_live = rw (first_can.found, same_number first.number) refl
 
     module _ (after : Waiting C) (o : IsOrdered after)
-        (same : after ≡ record waiting { items = waiting.items ++ Unseen (slot.Expiry first.timer first.number) ∷ []; staged = waiting.staged - 1 }) where
-      after_items : after.items ≡ waiting.items ++ Unseen (slot.Expiry first.timer first.number) ∷ []
+        (same : after ≡ record waiting { items = waiting.items ++ Unseen (queued.Expiry first.timer first.number) ∷ []; staged = waiting.staged - 1 }) where
+      after_items : after.items ≡ waiting.items ++ Unseen (queued.Expiry first.timer first.number) ∷ []
       after_items = ap (λ (w : Waiting C). w.items) same
 
       pub expiring_kept : IsKept after (with_expired first.timer listed) (expiries + 1)
@@ -201,16 +201,16 @@ module _ {C : Type 0} (waiting : Waiting C) (listed : List (Listed C)) (expiries
           record {
             agrees = record {
               ordered = o;
-              events = rw after_items (events_behind waiting.items (slot.Expiry first.timer first.number) k.agrees.events);
+              events = rw after_items (events_behind waiting.items (queued.Expiry first.timer first.number) k.agrees.events);
               one_each = rw (all_of_with_expired first.timer listed) k.agrees.one_each;
               distinct = rw (numbers_marked first.timer listed) k.agrees.distinct;
               below = rw (numbers_marked first.timer listed) (below_more waiting.next_number after.next_number (timeout_numbers listed) next k.agrees.below);
               marked = rw after_items (marked_all listed listed first.timer first waiting.items refl first_can.waits first_can.found (all_found listed k.agrees.one_each)
                   (number_no_more first.timer first listed k.agrees.distinct first_can.found) k.agrees.marked);
-              counted = rw after_items (omega (arith, k.agrees.counted, counted_behind waiting.items (slot.Expiry first.timer first.number)));
+              counted = rw after_items (omega (arith, k.agrees.counted, counted_behind waiting.items (queued.Expiry first.timer first.number)));
             };
             alive = rw same (alive_same listed (with_expired first.timer listed) _ (all_of_with_expired first.timer listed)
-                (alive_behind listed waiting.postponed waiting.items (slot.Expiry first.timer first.number) first_live k.alive));
+                (alive_behind listed waiting.postponed waiting.items (queued.Expiry first.timer first.number) first_live k.alive));
           }
 
       pub expiring_schedule : schedule_of after (with_expired first.timer listed) ≡ with_all_expired (first ∷ []) (schedule_of waiting listed)
@@ -218,7 +218,7 @@ module _ {C : Type 0} (waiting : Waiting C) (listed : List (Listed C)) (expiries
           rw (
             same,
             all_of_with_expired first.timer listed,
-            items_same listed (with_expired first.timer listed) (waiting.items ++ Unseen (slot.Expiry first.timer first.number) ∷ []) (all_of_with_expired first.timer listed),
+            items_same listed (with_expired first.timer listed) (waiting.items ++ Unseen (queued.Expiry first.timer first.number) ∷ []) (all_of_with_expired first.timer listed),
             items_expiry_more listed first.timer first.number waiting.items first_live,
           ) refl
 
@@ -265,16 +265,16 @@ module _ {C : Type 0} where
   taken_out now old new some h = h ∙ due_expired now old.listed old some
 
   pub pushed_named : (old new : Waiting C) (first : Running C) (timer : Timer) (number : ℕ) → timer ≡ first.timer → number ≡ first.number
-      → new ≡ record old { items = old.items ++ Unseen (slot.Expiry timer number) ∷ []; staged = old.staged - 1 }
-      → new ≡ record old { items = old.items ++ Unseen (slot.Expiry first.timer first.number) ∷ []; staged = old.staged - 1 }
+      → new ≡ record old { items = old.items ++ Unseen (queued.Expiry timer number) ∷ []; staged = old.staged - 1 }
+      → new ≡ record old { items = old.items ++ Unseen (queued.Expiry first.timer first.number) ∷ []; staged = old.staged - 1 }
   pushed_named old new first timer number t n e = rw (← t, ← n) e
 
   -- the expiries can be counted
   pub slots_more : (old new : Waiting C) (listed : List (Listed C)) (expiries : ℕ) → Agrees old listed expiries → (first : Running C)
-      → new ≡ record old { items = old.items ++ Unseen (slot.Expiry first.timer first.number) ∷ []; staged = old.staged - 1 } → length new.items ≤ expiries → ⊥
+      → new ≡ record old { items = old.items ++ Unseen (queued.Expiry first.timer first.number) ∷ []; staged = old.staged - 1 } → length new.items ≤ expiries → ⊥
   slots_more old new listed expiries a first e h =
       let counted = slots_counted listed old.items a.events in
-      let more : length new.items ≡ length old.items + 1 = rw e (length-append old.items (Unseen (slot.Expiry first.timer first.number) ∷ [])) in
+      let more : length new.items ≡ length old.items + 1 = rw e (length-append old.items (Unseen (queued.Expiry first.timer first.number) ∷ [])) in
       absurd (omega (arith, counted, more, h, a.counted))
 
   -- the first of those that expire

@@ -11,8 +11,8 @@ use Rattle.st_timeouts.specs.declared.running.Running.{Running}
 use Rattle.st_timeouts.specs.Running.{running_of, without_running, first_zero_of, is_zero}
 use Rattle.st_timeouts.specs.Timeouts.{Timeouts, Listed, all_of, live, name_of, without_listed, with_cancelled, with_taken}
 use Rattle.st_timeouts.proofs.OrderLemmas.{all_of_without_listed}
-use Rattle.st_agenda.specs.declared.slot.Slot.{Slot}
-use Rattle.st_agenda.specs.declared.slot.Slot.TheVariants as slot
+use Rattle.st_agenda.specs.declared.queued.Queued.{Queued}
+use Rattle.st_agenda.specs.declared.queued.Queued.TheVariants as queued
 use Rattle.st_agenda.specs.Items.{has, first_received, received_first, received_last}
 use Rattle.st_agenda.specs.Slots.{number_of}
 use Rattle.st_agenda.specs.Choice.{Arrived, Expired, timeout_event, event_of, first_unreceived, items_with}
@@ -38,7 +38,7 @@ module _ {C : Type 0} where
   slot_gone number (place ∷ places) = gone_by number place places (number == number_of (slot_of place)) refl (slot_gone number places)
 
   -- what was not received is not postponed
-  pub unseen_free : (postponed : List ℕ) (one : Slot C) (places : List (Place C)) → SeenFirst postponed places → first_unseen places ≡ Some one
+  pub unseen_free : (postponed : List ℕ) (one : Queued C) (places : List (Place C)) → SeenFirst postponed places → first_unseen places ≡ Some one
       → has postponed (number_of one) ≡ false
   unseen_free postponed one [] s u = cc
   unseen_free postponed one (Seen other ∷ places) s u = unseen_free postponed one places s u
@@ -91,7 +91,7 @@ module _ {C : Type 0} where
   number_no_more timer running (one ∷ listed) d f =
       number_cut timer running one listed (same_timer timer one.running.timer) d f (number_no_more timer running listed d.1)
 
-  one_number : (number other : ℕ) (event : Event C) → event.number ≡ number → (number == other) ≡ false → has (slot_numbers (map slot.Event (event ∷ []))) other ≡ false
+  one_number : (number other : ℕ) (event : Event C) → event.number ≡ number → (number == other) ≡ false → has (slot_numbers (map queued.Event (event ∷ []))) other ≡ false
   one_number number other event e d = rw (e, d) refl
 
   named_live : (listed : List (Listed C)) (timer : Timer) (number : ℕ) (running : Running C) → timer ≡ running.timer → number ≡ running.number
@@ -115,14 +115,14 @@ module _ {C : Type 0} where
   some_same : {one other : C} → ◌≡◌ {A = Option C} (Some one) (Some other) → one ≡ other
   some_same e = cc
 
-  pub unseen_event : (postponed : List ℕ) (places : List (Place C)) {event : Event C} → first_seen postponed places ≡ None → next_of postponed places ≡ Some (slot.Event event)
-      → first_unseen places ≡ Some (slot.Event event)
+  pub unseen_event : (postponed : List ℕ) (places : List (Place C)) {event : Event C} → first_seen postponed places ≡ None → next_of postponed places ≡ Some (queued.Event event)
+      → first_unseen places ≡ Some (queued.Event event)
   unseen_event postponed places f n = rw f at n
 
   pub unseen_nothing : (postponed : List ℕ) (places : List (Place C)) → first_seen postponed places ≡ None → next_of postponed places ≡ None → first_unseen places ≡ None
   unseen_nothing postponed places f n = rw f at n
 
-  pub not_some : (found : Option (Slot C)) → is_some found ≡ false → found ≡ None
+  pub not_some : (found : Option (Queued C)) → is_some found ≡ false → found ≡ None
   not_some (Some one) e = cc
   not_some None e = refl
 
@@ -149,11 +149,11 @@ module _ {C : Type 0} where
 
 -- ---- the four cases
 module _ {C : Type 0} (waiting : Waiting C) (listed : List (Listed C)) (expiries : ℕ) (k : IsKept waiting listed expiries) where
-  resumed_by : (seen : Option (Slot C)) → first_seen waiting.postponed waiting.items ≡ seen → is_some seen ≡ true → schedule_of waiting listed ≡ received_in (schedule_of waiting listed)
+  resumed_by : (seen : Option (Queued C)) → first_seen waiting.postponed waiting.items ≡ seen → is_some seen ≡ true → schedule_of waiting listed ≡ received_in (schedule_of waiting listed)
   resumed_by None e r = cc
   resumed_by (Some one) e r = rw ((choice_resumed waiting listed k.agrees.events one e).2) refl
 
-  resumed_first_by : (seen : Option (Slot C)) → first_seen waiting.postponed waiting.items ≡ seen → is_some seen ≡ true
+  resumed_first_by : (seen : Option (Queued C)) → first_seen waiting.postponed waiting.items ≡ seen → is_some seen ≡ true
       → option_map (λ (event : Event C). event.number) (first_received waiting.postponed (items_in listed waiting.items))
       ≡ option_map (λ (event : Event C). event.number) (next_in (schedule_of waiting listed))
   resumed_first_by None e r = cc
@@ -189,7 +189,7 @@ module _ {C : Type 0} (waiting : Waiting C) (listed : List (Listed C)) (expiries
       lapsed_below = rw lapsed_running.3 (below_member waiting.next_number lapsed_running.0.number (timeout_numbers listed) k.agrees.below (among timer lapsed_running.0 listed lapsed_found))
 
       module _ (after : Waiting C) (event : Event C) (o : IsOrdered after) (e : event ≡ timeout_event lapsed_running.0)
-          (same : after ≡ record waiting { items = put_in waiting.postponed (Seen (slot.Event event) ∷ []) waiting.items; staged = waiting.staged - 1 }) where
+          (same : after ≡ record waiting { items = put_in waiting.postponed (Seen (queued.Event event) ∷ []) waiting.items; staged = waiting.staged - 1 }) where
         own_number : event.number ≡ number
         own_number = ap (λ (one : Event C). one.number) e ∙ sym lapsed_running.3
 
@@ -198,7 +198,7 @@ module _ {C : Type 0} (waiting : Waiting C) (listed : List (Listed C)) (expiries
 
         pub lapsed_kept : IsKept after (without_listed timer listed) expiries
         lapsed_kept =
-            let items : after.items ≡ put_in waiting.postponed (map Seen (map slot.Event (event ∷ []))) waiting.items = ap (λ (w : Waiting C). w.items) same in
+            let items : after.items ≡ put_in waiting.postponed (map Seen (map queued.Event (event ∷ []))) waiting.items = ap (λ (w : Waiting C). w.items) same in
             let next : waiting.next_number ≤ after.next_number = rw (ap (λ (w : Waiting C). w.next_number) same) (let self : waiting.next_number ≤ waiting.next_number = omega arith in self) in
             let no_more : has (timeout_numbers (without_listed timer listed)) number ≡ false =
             rw lapsed_running.3 (number_no_more timer lapsed_running.0 listed k.agrees.distinct lapsed_found) in
@@ -210,7 +210,7 @@ module _ {C : Type 0} (waiting : Waiting C) (listed : List (Listed C)) (expiries
 
         pub lapsed_is : schedule_of after (without_listed timer listed) ≡ received_in (schedule_of waiting listed)
         lapsed_is =
-            let items : items_in (without_listed timer listed) (put_in waiting.postponed (Seen (slot.Event event) ∷ []) waiting.items) ≡ received_last (timeout_event lapsed_running.0) (items_in listed waiting.items) =
+            let items : items_in (without_listed timer listed) (put_in waiting.postponed (Seen (queued.Event event) ∷ []) waiting.items) ≡ received_last (timeout_event lapsed_running.0) (items_in listed waiting.items) =
             items_last (without_listed timer listed) waiting.postponed event waiting.items k.agrees.events k.agrees.ordered.seen_first f
             ∙ ap (λ items. received_last event items) (items_cancelled listed timer waiting.items ∙ items_unmarked listed timer lapsed_running.0 waiting.items lapsed_found (rw (← lapsed_running.3) lapsed_free))
             ∙ ap (λ (one : Event C). received_last one (items_in listed waiting.items)) e in
@@ -233,7 +233,7 @@ module _ {C : Type 0} (waiting : Waiting C) (listed : List (Listed C)) (expiries
 
     module _ (z : first_zero_of (all_of listed) ≡ None) where
       -- a posted event
-      module _ (event : Event C) (u : first_unseen waiting.items ≡ Some (slot.Event event)) (after : Waiting C) (o : IsOrdered after)
+      module _ (event : Event C) (u : first_unseen waiting.items ≡ Some (queued.Event event)) (after : Waiting C) (o : IsOrdered after)
           (same : after ≡ record waiting { items = with_next_seen waiting.postponed waiting.items }) where
         now_seen : with_next_seen waiting.postponed waiting.items ≡ with_unseen_seen waiting.items
         now_seen = rw f refl
@@ -254,7 +254,7 @@ module _ {C : Type 0} (waiting : Waiting C) (listed : List (Listed C)) (expiries
         pub arrived_first : option_map (λ (one : Event C). one.number) (first_received after.postponed (items_in listed after.items))
             ≡ option_map (λ (one : Event C). one.number) (next_in (schedule_of waiting listed))
         arrived_first =
-            let free = unseen_free waiting.postponed (slot.Event event) waiting.items k.agrees.ordered.seen_first u in
+            let free = unseen_free waiting.postponed (queued.Event event) waiting.items k.agrees.ordered.seen_first u in
             let first = first_is_first waiting.postponed event (all_of listed) (items_in listed waiting.items) (Arrived event) free
             (none_first waiting listed k.agrees.events f) (unreceived_event (all_of listed) listed event waiting.items u) in
             rw (same, now_seen, items_arrived listed event waiting.items u, first, choice_arrived waiting listed k.agrees.events f z event u) refl
@@ -269,7 +269,7 @@ module _ {C : Type 0} (waiting : Waiting C) (listed : List (Listed C)) (expiries
       nothing_first u = rw (choice_none waiting listed k.agrees.events f z u, none_first waiting listed k.agrees.events f) refl
 
       -- an expiry
-      module _ (timer : Timer) (number : ℕ) (u : first_unseen waiting.items ≡ Some (slot.Expiry timer number)) where
+      module _ (timer : Timer) (number : ℕ) (u : first_unseen waiting.items ≡ Some (queued.Expiry timer number)) where
         expired_alive : is_some (live timer number listed) ≡ true
         expired_alive = rw (f, u) at k.alive
 
@@ -286,11 +286,11 @@ module _ {C : Type 0} (waiting : Waiting C) (listed : List (Listed C)) (expiries
         expired_gone = slot_gone number (with_next_seen waiting.postponed waiting.items)
 
         pub expired_below : number < waiting.next_number
-        expired_below = below_member waiting.next_number number (place_numbers waiting.items) k.agrees.ordered.below (unseen_number (slot.Expiry timer number) waiting.items u)
+        expired_below = below_member waiting.next_number number (place_numbers waiting.items) k.agrees.ordered.below (unseen_number (queued.Expiry timer number) waiting.items u)
 
         module _ (middle after : Waiting C) (event : Event C) (p : IsOrdered middle) (o : IsOrdered after) (e : event ≡ timeout_event expired_running.0)
             (left : middle ≡ record waiting { items = without_slot number (with_next_seen waiting.postponed waiting.items) })
-            (same : after ≡ record middle { items = put_in middle.postponed (Seen (slot.Event event) ∷ []) middle.items; staged = middle.staged - 1 }) where
+            (same : after ≡ record middle { items = put_in middle.postponed (Seen (queued.Event event) ∷ []) middle.items; staged = middle.staged - 1 }) where
           middle_items : middle.items ≡ without_slot number (with_unseen_seen waiting.items)
           middle_items = ap (λ (w : Waiting C). w.items) left ∙ (rw f refl)
 
@@ -308,7 +308,7 @@ module _ {C : Type 0} (waiting : Waiting C) (listed : List (Listed C)) (expiries
 
           pub expired_kept : IsKept after (without_listed timer listed) (expiries - 1)
           expired_kept =
-              let items : after.items ≡ put_in middle.postponed (map Seen (map slot.Event (event ∷ []))) middle.items = ap (λ (w : Waiting C). w.items) same in
+              let items : after.items ≡ put_in middle.postponed (map Seen (map queued.Event (event ∷ []))) middle.items = ap (λ (w : Waiting C). w.items) same in
               let next : middle.next_number ≤ after.next_number = rw (ap (λ (w : Waiting C). w.next_number) same) (let self : middle.next_number ≤ middle.next_number = omega arith in self) in
               let no_more : has (timeout_numbers (without_listed timer listed)) number ≡ false =
               rw (← expired_found.1) (number_no_more timer expired_running.0 listed k.agrees.distinct expired_found.0) in
@@ -325,7 +325,7 @@ module _ {C : Type 0} (waiting : Waiting C) (listed : List (Listed C)) (expiries
           expired_items : items_in (without_listed timer listed) after.items ≡ received_first (timeout_event expired_running.0) (items_in listed waiting.items)
           expired_items =
               let postponed : middle.postponed ≡ waiting.postponed = ap (λ (w : Waiting C). w.postponed) left in
-              let items : after.items ≡ put_in waiting.postponed (Seen (slot.Event event) ∷ []) (without_slot number (with_unseen_seen waiting.items)) =
+              let items : after.items ≡ put_in waiting.postponed (Seen (queued.Event event) ∷ []) (without_slot number (with_unseen_seen waiting.items)) =
               ap (λ (w : Waiting C). w.items) same ∙ (rw (postponed, middle_items) refl) in
               rw items (items_expired listed waiting.postponed event timer number expired_running.0 waiting.items k.agrees.ordered.distinct k.agrees.events k.agrees.ordered.seen_first f u expired_running.1
               ∙ ap (λ (one : Event C). received_first one (items_in listed waiting.items)) e)
@@ -342,7 +342,7 @@ module _ {C : Type 0} (waiting : Waiting C) (listed : List (Listed C)) (expiries
               ≡ option_map (λ (one : Event C). one.number) (next_in (schedule_of waiting listed))
           expired_first =
               let postponed : after.postponed ≡ waiting.postponed = ap (λ (w : Waiting C). w.postponed) same ∙ ap (λ (w : Waiting C). w.postponed) left in
-              let unseen = unseen_free waiting.postponed (slot.Expiry timer number) waiting.items k.agrees.ordered.seen_first u in
+              let unseen = unseen_free waiting.postponed (queued.Expiry timer number) waiting.items k.agrees.ordered.seen_first u in
               let free : has waiting.postponed (timeout_event expired_running.0).number ≡ false = rw expired_found.1 unseen in
               let unreceived : first_unreceived (all_of listed) (items_in listed waiting.items) ≡ Some (Expired expired_running.0) =
               unreceived_expiry (all_of listed) listed timer number waiting.items u expired_alive ∙ ap (λ o. option_map Expired o) expired_found.0 in

@@ -8,8 +8,8 @@ use Rattle.st_events.specs.declared.timer.Timer.{Timer}
 use Rattle.st_events.specs.declared.timer.Timer.TheVariants as timer
 use Rattle.st_timeouts.specs.Timeouts.{Listed, Timeouts, all_of, live, without_listed, with_cancelled}
 use Rattle.st_timeouts.proofs.OrderLemmas.{all_of_without_listed}
-use Rattle.st_agenda.specs.declared.slot.Slot.{Slot}
-use Rattle.st_agenda.specs.declared.slot.Slot.TheVariants as slot
+use Rattle.st_agenda.specs.declared.queued.Queued.{Queued}
+use Rattle.st_agenda.specs.declared.queued.Queued.TheVariants as queued
 use Rattle.st_agenda.specs.declared.item.Item.{Item}
 use Rattle.st_agenda.specs.declared.item.Item.TheVariants.{Posted}
 use Rattle.st_agenda.specs.Items.{has, first_received, with_number, kept, numbered, placed, is_postponed}
@@ -37,11 +37,11 @@ module _ {C : Type 0} where
   dead_by listed timer own number false e d = let same : own ≡ number = cc in (rw (← same) e, same)
 
   -- it is the expiry of a time-out that runs no more
-  pub dead_is : (listed : List (Listed C)) (next : Option (Slot C)) (number : ℕ) → dead_at listed next ≡ Some number
-      → (timer : Timer) × (next ≡ Some (slot.Expiry timer number)) × (is_some (live timer number listed) ≡ false)
+  pub dead_is : (listed : List (Listed C)) (next : Option (Queued C)) (number : ℕ) → dead_at listed next ≡ Some number
+      → (timer : Timer) × (next ≡ Some (queued.Expiry timer number)) × (is_some (live timer number listed) ≡ false)
   dead_is listed None number d = cc
-  dead_is listed (Some (slot.Event event)) number d = cc
-  dead_is listed (Some (slot.Expiry timer own)) number d =
+  dead_is listed (Some (queued.Event event)) number d = cc
+  dead_is listed (Some (queued.Expiry timer own)) number d =
       let found = dead_by listed timer own number (is_some (live timer own listed)) refl d in
       (timer, rw found.1 refl, found.0)
 
@@ -53,7 +53,7 @@ module _ {C : Type 0} where
 
   module _ (listed : List (Listed C)) (old now : Waiting C) (left number : ℕ) (s : Swept listed old now left)
       (d : dead_at listed (next_of now.postponed now.items) ≡ Some number) where
-    unseen_dead : (timer : Timer) × (first_seen now.postponed now.items ≡ None) × (first_unseen now.items ≡ Some (slot.Expiry timer number))
+    unseen_dead : (timer : Timer) × (first_seen now.postponed now.items ≡ None) × (first_unseen now.items ≡ Some (queued.Expiry timer number))
         × (is_some (live timer number listed) ≡ false)
     unseen_dead =
         let dead = dead_is listed (next_of now.postponed now.items) number d in
@@ -80,10 +80,10 @@ module _ {C : Type 0} where
         }
 
   -- ---- where no expiry stands in the queue, the next slot is alive
-  alive_at : (listed : List (Listed C)) (next : Option (Slot C)) → dead_at listed next ≡ None → IsAlive listed next
+  alive_at : (listed : List (Listed C)) (next : Option (Queued C)) → dead_at listed next ≡ None → IsAlive listed next
   alive_at listed None d = tt
-  alive_at listed (Some (slot.Event event)) d = tt
-  alive_at listed (Some (slot.Expiry timer number)) d = alive_by (is_some (live timer number listed)) number d
+  alive_at listed (Some (queued.Event event)) d = tt
+  alive_at listed (Some (queued.Expiry timer number)) d = alive_by (is_some (live timer number listed)) number d
 
   none_dead_by : (listed : List (Listed C)) (now : Waiting C) → Agrees now listed 0 → (dead : Option ℕ) → dead_at listed (next_of now.postponed now.items) ≡ dead
       → IsAlive listed (next_of now.postponed now.items)
@@ -119,9 +119,9 @@ module _ {C : Type 0} where
       (ap (λ t. t.reserved) e)
 
   -- ---- the next event, which was received, is postponed or leaves
-  number_by : (received : Option (Event C)) (seen : Option (Slot C)) (number : ℕ) → option_map slot.Event received ≡ seen
+  number_by : (received : Option (Event C)) (seen : Option (Queued C)) (number : ℕ) → option_map queued.Event received ≡ seen
       → option_map (λ (event : Event C). event.number) received ≡ Some number
-      → (event : Event C) × (seen ≡ Some (slot.Event event)) × (event.number ≡ number)
+      → (event : Event C) × (seen ≡ Some (queued.Event event)) × (event.number ≡ number)
   number_by None seen number e n = cc
   number_by (Some event) seen number e n = (event, sym e, let same : event.number ≡ number = cc in same)
 
@@ -133,7 +133,7 @@ module _ {C : Type 0} where
 
   module _ (old : Waiting C) (listed : List (Listed C)) (expiries number : ℕ) (a : Agrees old listed expiries)
       (n : option_map (λ (event : Event C). event.number) (first_received old.postponed (items_in listed old.items)) ≡ Some number) where
-    first_with_number : (event : Event C) × (first_seen old.postponed old.items ≡ Some (slot.Event event)) × (event.number ≡ number)
+    first_with_number : (event : Event C) × (first_seen old.postponed old.items ≡ Some (queued.Event event)) × (event.number ≡ number)
     first_with_number = number_by _ (first_seen old.postponed old.items) number (received_is listed old.postponed old.items a.events) n
 
     pub number_is_next : next_number_of old.postponed old.items ≡ Some number
@@ -181,13 +181,13 @@ module _ {C : Type 0} where
   }
 
   -- ---- events come in before the first that is not postponed
-  slots_numbered : (number : ℕ) (inserts : List (Insert C)) → inserted_slots number inserts ≡ map slot.Event (numbered number inserts)
+  slots_numbered : (number : ℕ) (inserts : List (Insert C)) → inserted_slots number inserts ≡ map queued.Event (numbered number inserts)
   slots_numbered number [] = refl
   slots_numbered number (insert ∷ inserts) =
-      ap (λ slots. slot.Event (record { number = number; kind = insert.kind; content = insert.content }) ∷ slots) (slots_numbered (number + 1) inserts)
+      ap (λ slots. queued.Event (record { number = number; kind = insert.kind; content = insert.content }) ∷ slots) (slots_numbered (number + 1) inserts)
 
   -- a number below theirs is none of them
-  numbered_free : (number first : ℕ) (inserts : List (Insert C)) → number < first → has (slot_numbers (map slot.Event (numbered first inserts))) number ≡ false
+  numbered_free : (number first : ℕ) (inserts : List (Insert C)) → number < first → has (slot_numbers (map queued.Event (numbered first inserts))) number ≡ false
   numbered_free number first [] h = refl
   numbered_free number first (insert ∷ inserts) h =
       let other : (first == number) ≡ false = grind (arith, h) in rw other (numbered_free number (first + 1) inserts (omega (arith, h)))
@@ -203,7 +203,7 @@ module _ {C : Type 0} where
       next_number = old.next_number + length inserts;
       staged = old.staged - length inserts;
     }) where
-      put_numbered : after.items ≡ put_in old.postponed (map Seen (map slot.Event (numbered old.next_number inserts))) old.items
+      put_numbered : after.items ≡ put_in old.postponed (map Seen (map queued.Event (numbered old.next_number inserts))) old.items
       put_numbered = ap (λ w. w.items) e ∙ ap (λ slots. put_in old.postponed (map Seen slots) old.items) (slots_numbered old.next_number inserts)
 
       next_free : has old.postponed old.next_number ≡ false
@@ -229,12 +229,12 @@ module _ {C : Type 0} where
     -- ---- a posted event comes
     module _ (event : Event C) (number_is : event.number ≡ old.next_number) where
       abbrev pub pushed : Waiting C
-      pushed = record old { items = old.items ++ Unseen (slot.Event event) ∷ []; next_number = old.next_number + 1 }
+      pushed = record old { items = old.items ++ Unseen (queued.Event event) ∷ []; next_number = old.next_number + 1 }
 
       kept_posted : IsOrdered after → after ≡ pushed → IsKept after listed expiries
       kept_posted o e = record {
         agrees = agrees_pushed old after listed expiries k.agrees o event (ap (λ w. w.items) e) (rw e (omega arith)) number_is;
-        alive = rw e (alive_behind listed old.postponed old.items (slot.Event event) tt k.alive);
+        alive = rw e (alive_behind listed old.postponed old.items (queued.Event event) tt k.alive);
       }
 
       pub kept_pushed : {R E : Type 0} (result : Result R E) → OnOk result (after ≡ pushed) → OnErr result (after ≡ old) → IsOrdered after

@@ -16,8 +16,8 @@ use Rattle.st_timeouts.proofs.OrderLemmas.{gone, renewed, updated_listed, all_of
 use Rattle.st_actions.specs.Counted.{starts_in}
 use Rattle.st_actions.specs.Taking.{all_settings_of}
 use Rattle.st_agenda.specs.declared.schedule.Schedule.{Schedule}
-use Rattle.st_agenda.specs.declared.slot.Slot.{Slot}
-use Rattle.st_agenda.specs.declared.slot.Slot.TheVariants as slot
+use Rattle.st_agenda.specs.declared.queued.Queued.{Queued}
+use Rattle.st_agenda.specs.declared.queued.Queued.TheVariants as queued
 use Rattle.st_agenda.specs.Choice.{Choice, Resumed, Lapsed, Arrived, Expired, running_with, timer_taken}
 use Rattle.st_agenda.specs.Timing.{is_taken, is_cancelled, begins_anew, numbers_taken}
 use Rattle.st_agenda.specs.Waiting.{Place, Seen, Unseen, Waiting}
@@ -51,16 +51,16 @@ module _ {C : Type 0} (timer : Timer) (content : C) where
   -- so the same waits
   items_updated : (listed : List (Listed C)) (places : List (Place C)) → items_in (updated_listed timer content listed) places ≡ items_in listed places
   items_updated listed [] = refl
-  items_updated listed (Seen (slot.Event event) ∷ places) = rw (items_updated listed places) refl
-  items_updated listed (Seen (slot.Expiry other number) ∷ places) = items_updated listed places
-  items_updated listed (Unseen (slot.Event event) ∷ places) = rw (items_updated listed places) refl
-  items_updated listed (Unseen (slot.Expiry other number) ∷ places) = rw (live_updated listed other number, items_updated listed places) refl
+  items_updated listed (Seen (queued.Event event) ∷ places) = rw (items_updated listed places) refl
+  items_updated listed (Seen (queued.Expiry other number) ∷ places) = items_updated listed places
+  items_updated listed (Unseen (queued.Event event) ∷ places) = rw (items_updated listed places) refl
+  items_updated listed (Unseen (queued.Expiry other number) ∷ places) = rw (live_updated listed other number, items_updated listed places) refl
 
   -- and the next slot is alive as it was
-  alive_updated : (listed : List (Listed C)) (next : Option (Slot C)) → IsAlive listed next → IsAlive (updated_listed timer content listed) next
+  alive_updated : (listed : List (Listed C)) (next : Option (Queued C)) → IsAlive listed next → IsAlive (updated_listed timer content listed) next
   alive_updated listed None alive = tt
-  alive_updated listed (Some (slot.Event event)) alive = tt
-  alive_updated listed (Some (slot.Expiry other number)) alive = live_updated listed other number ∙ alive
+  alive_updated listed (Some (queued.Event event)) alive = tt
+  alive_updated listed (Some (queued.Expiry other number)) alive = live_updated listed other number ∙ alive
 
   -- the numbers are the same
   numbers_by : (same : Bool) (one : Listed C) (rest others : List (Listed C)) → timeout_numbers rest ≡ timeout_numbers others

@@ -15,8 +15,8 @@ use Rattle.st_timeouts.specs.declared.running.Running.{Running}
 use Rattle.st_timeouts.specs.Running.{OneEach, due_after, is_zero, running_of, without_running, with_content, first_zero_of}
 use Rattle.st_timeouts.specs.Timeouts.{Listed, all_of, live}
 use Rattle.st_agenda.specs.declared.schedule.Schedule.{Schedule}
-use Rattle.st_agenda.specs.declared.slot.Slot.{Slot}
-use Rattle.st_agenda.specs.declared.slot.Slot.TheVariants as slot
+use Rattle.st_agenda.specs.declared.queued.Queued.{Queued}
+use Rattle.st_agenda.specs.declared.queued.Queued.TheVariants as queued
 use Rattle.st_agenda.specs.declared.item.Item.{Item}
 use Rattle.st_agenda.specs.declared.item.Item.TheVariants.{Received, Posted, Expiry}
 use Rattle.st_agenda.specs.Items.{has, first_received, kept, with_number, placed, numbered}
@@ -43,18 +43,18 @@ module _ {C : Type 0} where
   -- what waits: an expiry whose time-out runs no more is none
   abbrev pub items_in : List (Listed C) → List (Place C) → List (Item C)
   items_in listed [] = []
-  items_in listed (Seen (slot.Event event) ∷ places) = Received event ∷ items_in listed places
-  items_in listed (Seen (slot.Expiry timer number) ∷ places) = items_in listed places
-  items_in listed (Unseen (slot.Event event) ∷ places) = Posted event ∷ items_in listed places
-  items_in listed (Unseen (slot.Expiry timer number) ∷ places) =
+  items_in listed (Seen (queued.Event event) ∷ places) = Received event ∷ items_in listed places
+  items_in listed (Seen (queued.Expiry timer number) ∷ places) = items_in listed places
+  items_in listed (Unseen (queued.Event event) ∷ places) = Posted event ∷ items_in listed places
+  items_in listed (Unseen (queued.Expiry timer number) ∷ places) =
       with_live (is_some (live timer number listed)) timer (items_in listed places)
 
   -- what a slot is read as: an expiry that was received, or whose time-out runs no more, is none
-  abbrev pub item_of : List (Listed C) → Bool → Slot C → Option (Item C)
-  item_of listed true (slot.Event event) = Some (Received event)
-  item_of listed true (slot.Expiry timer number) = None
-  item_of listed false (slot.Event event) = Some (Posted event)
-  item_of listed false (slot.Expiry timer number) = if is_some (live timer number listed) then Some (Expiry timer) else None
+  abbrev pub item_of : List (Listed C) → Bool → Queued C → Option (Item C)
+  item_of listed true (queued.Event event) = Some (Received event)
+  item_of listed true (queued.Expiry timer number) = None
+  item_of listed false (queued.Event event) = Some (Posted event)
+  item_of listed false (queued.Expiry timer number) = if is_some (live timer number listed) then Some (Expiry timer) else None
 
   -- the schedule of a queue and of running time-outs
   abbrev pub schedule_of : Waiting C → List (Listed C) → Schedule C
@@ -73,22 +73,22 @@ module _ {C : Type 0} where
   abbrev pub HasExpiry : Timer → ℕ → List (Place C) → Type 0
   HasExpiry timer number [] = ⊥
   HasExpiry timer number (Seen one ∷ places) = HasExpiry timer number places
-  HasExpiry timer number (Unseen one ∷ places) = (one ≡ slot.Expiry timer number) ⊎ HasExpiry timer number places
+  HasExpiry timer number (Unseen one ∷ places) = (one ≡ queued.Expiry timer number) ⊎ HasExpiry timer number places
 
   -- what was received is an event
   abbrev pub SeenEvents : List (Place C) → Type 0
   SeenEvents [] = Unit {0}
-  SeenEvents (Seen (slot.Event event) ∷ places) = SeenEvents places
-  SeenEvents (Seen (slot.Expiry timer number) ∷ places) = ⊥
+  SeenEvents (Seen (queued.Event event) ∷ places) = SeenEvents places
+  SeenEvents (Seen (queued.Expiry timer number) ∷ places) = ⊥
   SeenEvents (Unseen one ∷ places) = SeenEvents places
 
   -- how many expiries stand in the queue
   abbrev pub expiries_in : List (Place C) → ℕ
   expiries_in [] = 0
-  expiries_in (Seen (slot.Event event) ∷ places) = expiries_in places
-  expiries_in (Seen (slot.Expiry timer number) ∷ places) = expiries_in places + 1
-  expiries_in (Unseen (slot.Event event) ∷ places) = expiries_in places
-  expiries_in (Unseen (slot.Expiry timer number) ∷ places) = expiries_in places + 1
+  expiries_in (Seen (queued.Event event) ∷ places) = expiries_in places
+  expiries_in (Seen (queued.Expiry timer number) ∷ places) = expiries_in places + 1
+  expiries_in (Unseen (queued.Event event) ∷ places) = expiries_in places
+  expiries_in (Unseen (queued.Expiry timer number) ∷ places) = expiries_in places + 1
 
   -- a time-out is marked where its expiry stands in the queue; else no slot has its number
   abbrev pub IsMarked : Listed C → List (Place C) → Bool → Type 0
@@ -101,10 +101,10 @@ module _ {C : Type 0} where
   AreMarked (one ∷ listed) places = IsMarked one places one.expired × AreMarked listed places
 
   -- the next slot is no expiry of a time-out that runs no more
-  abbrev pub IsAlive : List (Listed C) → Option (Slot C) → Type 0
+  abbrev pub IsAlive : List (Listed C) → Option (Queued C) → Type 0
   IsAlive listed None = Unit {0}
-  IsAlive listed (Some (slot.Event event)) = Unit {0}
-  IsAlive listed (Some (slot.Expiry timer number)) = is_some (live timer number listed) ≡ true
+  IsAlive listed (Some (queued.Event event)) = Unit {0}
+  IsAlive listed (Some (queued.Expiry timer number)) = is_some (live timer number listed) ≡ true
 
   -- queue and time-outs agree
   pub record Agrees (waiting : Waiting C) (listed : List (Listed C)) (expiries : ℕ) : Type 0 where
@@ -122,10 +122,10 @@ module _ {C : Type 0} where
     pub alive : IsAlive listed (next_of waiting.postponed waiting.items)
 
   -- the number of the next slot, where it is an expiry of a time-out that runs no more
-  abbrev pub dead_at : List (Listed C) → Option (Slot C) → Option ℕ
+  abbrev pub dead_at : List (Listed C) → Option (Queued C) → Option ℕ
   dead_at listed None = None
-  dead_at listed (Some (slot.Event event)) = None
-  dead_at listed (Some (slot.Expiry timer number)) = if is_some (live timer number listed) then None else Some number
+  dead_at listed (Some (queued.Event event)) = None
+  dead_at listed (Some (queued.Expiry timer number)) = if is_some (live timer number listed) then None else Some number
 
   -- what a turn takes up
   abbrev pub choice_in : Schedule C → Option (Choice C)

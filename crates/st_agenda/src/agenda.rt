@@ -21,7 +21,7 @@ ghost use Rattle.st_agenda.specs.Agenda.{Agrees, IsAlive, items_in, choice_in, n
 
 use crate::Schedule;
 use crate::pending::Pending;
-use crate::slot::Slot;
+use crate::queued::Queued;
 use st_actions::take_setting;
 use st_events::{
     Action, Actions, Asked, CopyContent, Event, Kind, PlainList, Setting, Time, Timer,
@@ -88,8 +88,8 @@ impl<C> Agenda<C> {
         }
         match self.pending.peek() {
             None => None,
-            Some(Slot::Event(event)) => Some((event.number, event.kind, &event.content)),
-            Some(Slot::Expiry(timer, number)) => seen_timeout(&self.timeouts, *timer, *number),
+            Some(Queued::Event(event)) => Some((event.number, event.kind, &event.content)),
+            Some(Queued::Expiry(timer, number)) => seen_timeout(&self.timeouts, *timer, *number),
         }
     }
 
@@ -104,8 +104,8 @@ impl<C> Agenda<C> {
         }
         match self.pending.peek() {
             None => false,
-            Some(Slot::Event(_)) => true,
-            Some(Slot::Expiry(_, _)) => true,
+            Some(Queued::Event(_)) => true,
+            Some(Queued::Expiry(_, _)) => true,
         }
     }
 
@@ -195,8 +195,8 @@ impl<C> Agenda<C> {
         }
         match self.pending.peek() {
             None => None,
-            Some(Slot::Event(_)) => None,
-            Some(Slot::Expiry(timer, _)) => Some(*timer),
+            Some(Queued::Event(_)) => None,
+            Some(Queued::Expiry(timer, _)) => Some(*timer),
         }
     }
 
@@ -382,12 +382,12 @@ impl<C: Drop> Agenda<C> {
         }
         match self.pending.peek() {
             None => {}
-            Some(Slot::Event(event)) => {
+            Some(Queued::Event(event)) => {
                 let number = event.number;
                 self.pending.receive(number);
                 self.pending.in_order();
             }
-            Some(Slot::Expiry(timer, number)) => {
+            Some(Queued::Expiry(timer, number)) => {
                 let (timer, number) = (*timer, *number);
                 let Some(content) = self.timeouts.take(timer, number) else {
                     unreachable!()
@@ -600,8 +600,8 @@ fn dead_number<C>(pending: &Pending<C>, timeouts: &Timeouts<C>) -> Option<u64>
     ensures { result ≡ dead_at timeouts.now.listed (next_of pending.now.postponed pending.now.items) }
 {
     match pending.peek() {
-        None | Some(Slot::Event(_)) => None,
-        Some(Slot::Expiry(timer, number)) => {
+        None | Some(Queued::Event(_)) => None,
+        Some(Queued::Expiry(timer, number)) => {
             if timeouts.is_live(*timer, *number) {
                 None
             } else {

@@ -6,7 +6,7 @@ ghost use Rattle.st_agenda.specs.Slots.{number_of};
 ghost use Rattle.st_agenda.specs.Waiting.{places_of, postponed_of, slot_numbers};
 
 use crate::Item;
-use crate::slot::Slot;
+use crate::queued::Queued;
 use crate::uncounted_queue::UncountedQueue;
 use st_events::{CopyContent, Event, PlainList};
 use st_timeouts::Timeouts;
@@ -15,7 +15,7 @@ use std::alloc::{AllocError, Global};
 /// Copies of what waits in a queue of which the first so many slots were received, and the numbers of those before
 /// its cursor, which are postponed. The cursor walks over all and comes back, also where no memory is found.
 pub(crate) fn copy_queue<C: Drop, K: CopyContent<C>>(
-    queue: &mut UncountedQueue<Slot<C>>,
+    queue: &mut UncountedQueue<Queued<C>>,
     received: usize,
     timeouts: &Timeouts<C>,
     alloc: Global,
@@ -36,7 +36,7 @@ pub(crate) fn copy_queue<C: Drop, K: CopyContent<C>>(
 
 /// Copies of what waits, from the start of the queue to its end, where the cursor stands then.
 fn copy_items<C: Drop, K: CopyContent<C>>(
-    queue: &mut UncountedQueue<Slot<C>>,
+    queue: &mut UncountedQueue<Queued<C>>,
     received: usize,
     timeouts: &Timeouts<C>,
     alloc: Global,
@@ -70,7 +70,7 @@ fn push_any<T: Drop>(item: Option<T>, items: &mut Vec<T>)
 
 /// A copy of what a slot is read as: an expiry whose time-out runs no more is nothing.
 fn copy_slot<C, K: CopyContent<C>>(
-    slot: &Slot<C>,
+    slot: &Queued<C>,
     was_received: bool,
     timeouts: &Timeouts<C>,
     alloc: Global,
@@ -79,7 +79,7 @@ fn copy_slot<C, K: CopyContent<C>>(
     ensures { IfOk result (λ item. item ≡ item_of timeouts.now.listed was_received slot.now) }
 {
     match slot {
-        Slot::Event(event) => {
+        Queued::Event(event) => {
             let event = copy_event(event, alloc, copier)?;
             if was_received {
                 Ok(Some(Item::Received(event)))
@@ -87,7 +87,7 @@ fn copy_slot<C, K: CopyContent<C>>(
                 Ok(Some(Item::Posted(event)))
             }
         }
-        Slot::Expiry(timer, number) => {
+        Queued::Expiry(timer, number) => {
             if !was_received && timeouts.is_live(*timer, *number) {
                 Ok(Some(Item::Expiry(*timer)))
             } else {
@@ -114,7 +114,7 @@ fn copy_event<C, K: CopyContent<C>>(
 }
 
 /// Moves the cursor from the start past so many slots, and lists their numbers, in memory that was reserved.
-fn pass<C>(queue: &mut UncountedQueue<Slot<C>>, count: usize, numbers: &mut Vec<u64>)
+fn pass<C>(queue: &mut UncountedQueue<Queued<C>>, count: usize, numbers: &mut Vec<u64>)
     requires start { queue.old.cursor ≡ 0 }
     requires within { count ≤ length queue.old.items }
     requires reserved { length numbers.old.items + count ≤ vec_capacity numbers.old }
@@ -131,11 +131,11 @@ fn pass<C>(queue: &mut UncountedQueue<Slot<C>>, count: usize, numbers: &mut Vec<
 }
 
 /// The number of an event, or of the event that an expiry will be.
-fn number_of<C>(slot: &Slot<C>) -> u64
+fn number_of<C>(slot: &Queued<C>) -> u64
     ensures { result ≡ number_of slot.now }
 {
     match slot {
-        Slot::Event(event) => event.number,
-        Slot::Expiry(_, number) => *number,
+        Queued::Event(event) => event.number,
+        Queued::Expiry(_, number) => *number,
     }
 }

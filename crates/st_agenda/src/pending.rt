@@ -2,7 +2,7 @@
 ghost use Rattle.std.specs.Prelude.{◌≡◌, ◌+◌, ◌-◌, ◌<◌, ◌≤◌, ◌^◌, true, false, [], ◌∷◌, ◌++◌, Some, IfOk, IfErr, OnOk, OnErr, is_some, length, map, max, option_copied};
 ghost use Rattle.st_actions.specs.Plan.{inserts_of, sends_of};
 ghost use Rattle.st_actions.specs.Taking.{all_settings_of};
-ghost use Rattle.st_agenda.specs.declared.slot.Slot.TheVariants as slot;
+ghost use Rattle.st_agenda.specs.declared.queued.Queued.TheVariants as queued;
 ghost use Rattle.st_agenda.specs.Agenda.{items_in};
 ghost use Rattle.st_agenda.specs.Items.{has};
 ghost use Rattle.st_agenda.specs.Slots.{inserted_slots, is_event, content_in};
@@ -10,7 +10,7 @@ ghost use Rattle.st_agenda.specs.Waiting.{Seen, Unseen, IsOrdered, first_seen, n
 
 use crate::Item;
 use crate::copying::copy_queue;
-use crate::slot::Slot;
+use crate::queued::Queued;
 use crate::uncounted_queue::UncountedQueue;
 use st_actions::take_insert;
 use st_events::{Actions, CopyContent, Event, Insert, Kind, PlainList, Timer};
@@ -22,7 +22,7 @@ use std::marker::Model;
 /// were received. Numbers are given here.
 #[derive(Drop)]
 pub(crate) struct Pending<C> {
-    queue: UncountedQueue<Slot<C>>,
+    queue: UncountedQueue<Queued<C>>,
     // How many slots were received. The cursor stands among them or behind the last one.
     received: usize,
     // The number that the next event gets.
@@ -58,7 +58,7 @@ impl<C> Pending<C> {
     }
 
     /// The next slot: an event, or an expiry.
-    pub(crate) fn peek(&self) -> Option<&Slot<C>>
+    pub(crate) fn peek(&self) -> Option<&Queued<C>>
         ensures { option_copied result ≡ next_of self.now.postponed self.now.items }
     {
         self.queue.peek()
@@ -145,7 +145,7 @@ impl<C: Drop> Pending<C> {
         requires { self.old.next_number < 2 ^ 63 }
         ensures number { IfOk result (λ number. number ≡ self.old.next_number) }
         ensures pushed { OnOk result (self.new ≡ record self.old {
-          items = self.old.items ++ Unseen (slot.Event (record { number = self.old.next_number; kind = kind; content = content })) ∷ [];
+          items = self.old.items ++ Unseen (queued.Event (record { number = self.old.next_number; kind = kind; content = content })) ∷ [];
           next_number = self.old.next_number + 1;
         }) }
 
@@ -158,7 +158,7 @@ impl<C: Drop> Pending<C> {
             kind,
             content,
         };
-        match self.queue.push_back(Slot::Event(event)) {
+        match self.queue.push_back(Queued::Event(event)) {
             Ok(()) => {
                 self.next_number += 1;
                 Ok(number)
@@ -206,11 +206,11 @@ impl<C: Drop> Pending<C> {
         requires free { has (place_numbers self.old.items) event.number ≡ false }
         requires below { event.number < self.old.next_number }
         ensures { self.new ≡ record self.old {
-          items = put_in self.old.postponed (Seen (slot.Event event) ∷ []) self.old.items;
+          items = put_in self.old.postponed (Seen (queued.Event event) ∷ []) self.old.items;
           staged = self.old.staged - 1;
         } }
     {
-        self.queue.insert_staged(Slot::Event(event));
+        self.queue.insert_staged(Queued::Event(event));
         prove!(self.received < self.queue.len());
         self.received += 1;
     }
@@ -221,11 +221,11 @@ impl<C: Drop> Pending<C> {
         requires free { has (place_numbers self.old.items) number ≡ false }
         requires below { number < self.old.next_number }
         ensures { self.new ≡ record self.old {
-          items = self.old.items ++ Unseen (slot.Expiry timer number) ∷ [];
+          items = self.old.items ++ Unseen (queued.Expiry timer number) ∷ [];
           staged = self.old.staged - 1;
         } }
     {
-        self.queue.push_staged(Slot::Expiry(timer, number));
+        self.queue.push_staged(Queued::Expiry(timer, number));
     }
 
     /// The next slot is received, and its event postponed.
@@ -255,7 +255,7 @@ impl<C: Drop> Pending<C> {
 /// Takes the events to be inserted, of which there are so many, out of a list of actions, from its end on, and puts them
 /// in at the cursor, in order, with numbers from this one on. No action before the first of them is looked at.
 fn insert_at_cursor<C: Drop>(
-    queue: &mut UncountedQueue<Slot<C>>,
+    queue: &mut UncountedQueue<Queued<C>>,
     count: usize,
     actions: &mut Actions<C>,
     first: u64,
@@ -278,7 +278,7 @@ fn insert_at_cursor<C: Drop>(
         if let Some(insert) = take_insert(actions, index) {
             left -= 1;
             let Insert { kind, content } = insert;
-            queue.insert_staged(Slot::Event(Event {
+            queue.insert_staged(Queued::Event(Event {
                 number: first + left as u64,
                 kind,
                 content,
@@ -288,12 +288,12 @@ fn insert_at_cursor<C: Drop>(
 }
 
 /// The content of an event that could not be kept.
-fn content_of<C: Drop>(kept: Slot<C>) -> C
+fn content_of<C: Drop>(kept: Queued<C>) -> C
     requires { is_event kept ≡ true }
     ensures { Some result ≡ content_in kept }
 {
     match kept {
-        Slot::Event(event) => {
+        Queued::Event(event) => {
             let Event {
                 number: _,
                 kind: _,
@@ -301,6 +301,6 @@ fn content_of<C: Drop>(kept: Slot<C>) -> C
             } = event;
             content
         }
-        Slot::Expiry(..) => unreachable!(),
+        Queued::Expiry(..) => unreachable!(),
     }
 }

@@ -44,17 +44,17 @@ others_differ one other differs = elim (cases_Bool (same_id one other)) [
   | inr apart ↦ apart
 ]
 
-later_than : (at place : ℕ) → place ≤ at → (at == place) ≡ false → place + 1 ≤ at
-later_than at place below differs = grind arith
+later_than : (at vacancy : ℕ) → vacancy ≤ at → (at == vacancy) ≡ false → vacancy + 1 ≤ at
+later_than at vacancy below differs = grind arith
 
 -- where one is another, and all later ones are, all from it on are
-pub others_from : (ids : List MachineId) (id first : MachineId) (place : ℕ) → slice_get ids place ≡ Some first → same_id id first ≡ false
-    → ((at : ℕ) (other : MachineId) → place + 1 ≤ at → slice_get ids at ≡ Some other → same_id id other ≡ false)
-    → (at : ℕ) (other : MachineId) → place ≤ at → slice_get ids at ≡ Some other → same_id id other ≡ false
-others_from ids id first place here differs later at other below there = elim (cases_Bool (at == place)) [
+pub others_from : (ids : List MachineId) (id first : MachineId) (vacancy : ℕ) → slice_get ids vacancy ≡ Some first → same_id id first ≡ false
+    → ((at : ℕ) (other : MachineId) → vacancy + 1 ≤ at → slice_get ids at ≡ Some other → same_id id other ≡ false)
+    → (at : ℕ) (other : MachineId) → vacancy ≤ at → slice_get ids at ≡ Some other → same_id id other ≡ false
+others_from ids id first vacancy here differs later at other below there = elim (cases_Bool (at == vacancy)) [
   | inl same ↦
-      let found : Some other ≡ Some first = sym there ∙ (ap (slice_get ids) (eqb-true at place same) ∙ here) in
+      let found : Some other ≡ Some first = sym there ∙ (ap (slice_get ids) (eqb-true at vacancy same) ∙ here) in
       let is : other ≡ first = cc in
       ap (same_id id) is ∙ differs
-  | inr apart ↦ later at other (later_than at place below apart) there
+  | inr apart ↦ later at other (later_than at vacancy below apart) there
 ]

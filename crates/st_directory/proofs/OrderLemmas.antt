@@ -4,7 +4,7 @@ use Rattle.std.proofs.lemmas.Bool.{cases_Bool, ltb-true}
 use Rattle.std.proofs.lemmas.List.Elements.{All-cons, All-nil, All-append}
 use Rattle.st_events.specs.declared.machine_id.MachineId.{MachineId}
 use Rattle.st_events.specs.declared.refusal.Refusal.{Refusal}
-use Rattle.st_directory.specs.DirectoryState.{DirectoryState, PlaceState, found, id_of_name, id_in, with_name, with_value, state_of, inserted, unregistered, removed}
+use Rattle.st_directory.specs.DirectoryState.{DirectoryState, VacancyState, found, id_of_name, id_in, with_name, with_value, state_of, inserted, unregistered, removed}
 use Rattle.st_directory.specs.Admission.{Admits, first_due, taken_by, name_refusal, value_refusal, is_bad_name, bytes_at_most, values_at_most}
 use Rattle.st_directory.specs.InOrder.{IsDirectory, StandsElsewhere, HasFairLength, NamesStandOnce, IdsNamedOnce, NamesOneOf, WasGiven}
 use Rattle.st_directory.proofs.IdLemmas.{others_differ}
@@ -121,12 +121,12 @@ module _ {T : Type 0} where
 
   -- ---- what is found of a value that was put in
   -- its id names it
-  pub inserted_found : (place : PlaceState) (value : T) (d : DirectoryState T) → place.id.serial ≡ d.begun + 1 → IsDirectory d → found place.id (inserted place value d) ≡ Some value
+  pub inserted_found : (place : VacancyState) (value : T) (d : DirectoryState T) → place.id.serial ≡ d.begun + 1 → IsDirectory d → found place.id (inserted place value d) ≡ Some value
   inserted_found place value d serial order =
       value_in-with place.id value d.values (value_in-new place.id d.begun (omega (arith, serial)) d.values order.serials_given)
 
   -- and so does its name
-  pub inserted_named : (place : PlaceState) (value : T) (d : DirectoryState T) (name : List ℕ) → Admits d place.name → place.name ≡ Some name
+  pub inserted_named : (place : VacancyState) (value : T) (d : DirectoryState T) (name : List ℕ) → Admits d place.name → place.name ≡ Some name
       → id_of_name name (inserted place value d) ≡ Some place.id
   inserted_named place value d name admitted is =
       let due = both_none (name_refusal place.name d) (value_refusal d) admitted in
@@ -134,5 +134,5 @@ module _ {T : Type 0} where
       rw is (id_in-new name place.id d.names free.1)
 
   -- and the others name what they named
-  pub inserted_others : (place : PlaceState) (value : T) (d : DirectoryState T) (other : MachineId) → other ≢ place.id → found other (inserted place value d) ≡ found other d
+  pub inserted_others : (place : VacancyState) (value : T) (d : DirectoryState T) (other : MachineId) → other ≢ place.id → found other (inserted place value d) ≡ found other d
   inserted_others place value d other differs = value_in-with_other place.id other value d.values (others_differ other place.id differs)

@@ -3,7 +3,7 @@ use Rattle.std.specs.Prelude.{◌≡◌, ℕ, ◌+◌, ◌<◌, ◌≤◌, ◌^�
 use Rattle.st_events.specs.declared.machine_id.MachineId.{MachineId}
 use Rattle.st_events.specs.declared.refusal.Refusal.{Refusal}
 use Rattle.st_events.specs.declared.refusal.Refusal.TheVariants.{NoMemory, Exhausted, AlreadyStarted, Full, BadName}
-use Rattle.st_directory.specs.DirectoryState.{DirectoryState, DirectoryView, PlaceState, Room, id_of_name}
+use Rattle.st_directory.specs.DirectoryState.{DirectoryState, DirectoryView, VacancyState, Room, id_of_name}
 
 -- how many values a directory may have
 abbrev pub values_at_most : ℕ
@@ -45,21 +45,21 @@ module _ {T : Type 0} where
   abbrev pub Admits : DirectoryState T → Option (List ℕ) → Type 0
   Admits d name = admission_refusal name d ≡ None
 
-  -- why no place is prepared where there is memory: 2^63 - 1 values were put in already
+  -- why no vacancy is prepared where there is memory: 2^63 - 1 values were put in already
   abbrev pub place_refusal : DirectoryState T → Option Refusal
   place_refusal d = if nat_lt (d.begun + 1) (2 ^ 63) then None else Some Exhausted
 
-  -- the place of the next value: the next vacant slot, and a serial that no value had
-  abbrev pub next_place : Option (List ℕ) → DirectoryView T → PlaceState
-  next_place name d = record { id = record { slot = d.room.slot; serial = d.state.begun + 1 }; name = name }
+  -- the vacancy of the next value: the next vacant slot, and a serial that no value had
+  abbrev pub next_vacancy : Option (List ℕ) → DirectoryView T → VacancyState
+  next_vacancy name d = record { id = record { slot = d.room.slot; serial = d.state.begun + 1 }; name = name }
 
-  -- the place is the next one, and a value fits there, with its name, and needs no memory
-  pub record HasRoomFor (d : DirectoryView T) (place : PlaceState) : Type 0 where
-    pub next : place ≡ next_place place.name d
-    pub admits : Admits d.state place.name
+  -- the vacancy is the next one, and a value fits there, with its name, and needs no memory
+  pub record HasRoomFor (d : DirectoryView T) (vacancy : VacancyState) : Type 0 where
+    pub next : vacancy ≡ next_vacancy vacancy.name d
+    pub admits : Admits d.state vacancy.name
     pub numbers_left : d.state.begun + 1 < 2 ^ 63
     pub fits : 0 < d.room.value_places
-    pub name_fits : IsSome place.name → 0 < d.room.name_places
+    pub name_fits : IsSome vacancy.name → 0 < d.room.name_places
 
 -- the next value goes to the same slot, and as many more values and names fit
 pub record KeepsRoom (old new : Room) : Type 0 where

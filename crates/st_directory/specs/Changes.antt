@@ -1,13 +1,13 @@
 -- What becomes of a directory, change by change.
 use Rattle.std.specs.Prelude.{◌≡◌, ℕ, ◌+◌, ◌≤◌, ◌⊎◌, None, List, [], ◌∷◌}
 use Rattle.st_events.specs.declared.machine_id.MachineId.{MachineId}
-use Rattle.st_directory.specs.DirectoryState.{DirectoryState, PlaceState, inserted, unregistered, removed, found}
+use Rattle.st_directory.specs.DirectoryState.{DirectoryState, VacancyState, inserted, unregistered, removed, found}
 
 module _ {T : Type 0} where
   -- one change: a value is put in under a new serial, a name is unregistered, or a value is removed
   abbrev pub Changes : DirectoryState T → DirectoryState T → Type 0
   Changes old new =
-      ((place : PlaceState) × (value : T) × (place.id.serial ≡ old.begun + 1) × (new ≡ inserted place value old))
+      ((vacancy : VacancyState) × (value : T) × (vacancy.id.serial ≡ old.begun + 1) × (new ≡ inserted vacancy value old))
       ⊎ (((name : List ℕ) × (new ≡ unregistered name old))
       ⊎ ((id : MachineId) × (new ≡ removed id old)))
 

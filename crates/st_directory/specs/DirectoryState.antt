@@ -24,7 +24,7 @@ pub record DirectoryView (T : Type 0) : Type 0 where
   pub room : Room
 
 -- where a value goes: its id, and the name that is registered with it, if one is
-pub record PlaceState : Type 0 where
+pub record VacancyState : Type 0 where
   pub id : MachineId
   pub name : Option (List ℕ)
 
@@ -80,11 +80,11 @@ module _ {T : Type 0} where
   abbrev pub id_of_name : List ℕ → DirectoryState T → Option MachineId
   id_of_name name d = id_in name d.names
 
-  -- a value more, under the id of its place; its name, if it has one, is registered last
-  abbrev pub inserted : PlaceState → T → DirectoryState T → DirectoryState T
-  inserted place value d = record {
-    names = with_name place.name place.id d.names;
-    values = with_value place.id value d.values;
+  -- a value more, under the id of its vacancy; its name, if it has one, is registered last
+  abbrev pub inserted : VacancyState → T → DirectoryState T → DirectoryState T
+  inserted vacancy value d = record {
+    names = with_name vacancy.name vacancy.id d.names;
+    values = with_value vacancy.id value d.values;
     begun = d.begun + 1;
   }
 

@@ -2,14 +2,14 @@
 ghost use Rattle.std.specs.Prelude.{◌≡◌, ◌==◌, String, [], length, None, Some, IfOk, IfErr, OnOk, OnErr, option_copied};
 ghost use Rattle.std.specs.Map.Iter.{ShowsInOrder, deref_pair};
 ghost use Rattle.st_events.specs.declared.refusal.Refusal.TheVariants.{NoSuchName, NoSuchMachine};
-ghost use Rattle.st_directory.specs.Admission.{Admits, HasRoomFor, KeepsRoom, RefusesOnly, admission_refusal, name_refusal, place_refusal, next_place};
+ghost use Rattle.st_directory.specs.Admission.{Admits, HasRoomFor, KeepsRoom, RefusesOnly, admission_refusal, name_refusal, place_refusal, next_vacancy};
 ghost use Rattle.st_directory.specs.DirectoryState.{found, id_of_name, inserted, state_of, unregistered, removed};
 ghost use Rattle.st_directory.specs.Entries.{names_of_entries};
 ghost use Rattle.st_directory.specs.Slots.{ids_of};
 
 use crate::names::Names;
 use crate::values::Values;
-use crate::{LONGEST_NAME, MOST, Place};
+use crate::{LONGEST_NAME, MOST, Vacancy};
 use indexmap::map::Iter;
 use st_events::{MachineId, NUMBER_LIMIT, Refusal};
 use std::alloc::{AllocError, Global};
@@ -171,9 +171,9 @@ impl<T> Directory<T> {
     /// there is none. Whatever the answer is, values and names stay as they are.
     ///
     /// Ours: docs/DECISIONS.md, Directories.
-    pub fn prepare(&mut self, name: Option<&str>) -> Result<Place, Refusal>
+    pub fn prepare(&mut self, name: Option<&str>) -> Result<Vacancy, Refusal>
         requires { Admits self.old.state (option_copied name) }
-        ensures place { IfOk result (λ place. place ≡ next_place (option_copied name.entry) self.old) }
+        ensures vacancy { IfOk result (λ vacancy. vacancy ≡ next_vacancy (option_copied name.entry) self.old) }
         ensures room { IfOk result (HasRoomFor self.new) }
 
         ensures refusals { RefusesOnly (place_refusal self.old.state) result }
@@ -195,17 +195,17 @@ impl<T> Directory<T> {
             slot: self.values.next_slot(),
             serial: self.begun + 1,
         };
-        Ok(Place { id, name })
+        Ok(Vacancy { id, name })
     }
 
-    /// Puts a value in at its place, under the id of the place. Its name, if it has one, is registered last.
+    /// Puts a value in at its vacancy, under the id of the vacancy. Its name, if it has one, is registered last.
     ///
     /// Ours: docs/DECISIONS.md, Directories.
-    pub fn insert(&mut self, place: Place, value: T)
-        requires { HasRoomFor self.old place }
-        ensures { self.new.state ≡ inserted place value self.old.state }
+    pub fn insert(&mut self, vacancy: Vacancy, value: T)
+        requires { HasRoomFor self.old vacancy }
+        ensures { self.new.state ≡ inserted vacancy value self.old.state }
     {
-        let Place { id, name } = place;
+        let Vacancy { id, name } = vacancy;
         self.values.insert(id.serial, value);
         self.names.insert(name, id);
         self.begun = id.serial;

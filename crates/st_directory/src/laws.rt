@@ -6,7 +6,7 @@ ghost use Rattle.st_directory.specs.Changes.{IsGone, LeadTo};
 ghost use Rattle.st_directory.specs.DirectoryState.{DirectoryState, found, id_of_name, inserted, removed};
 ghost use Rattle.st_directory.specs.InOrder.{IsDirectory};
 
-use crate::{Directory, Place};
+use crate::{Directory, Vacancy};
 
 /// In each directory a name stands once and names a value that is there, no two names name one value, no two values have
 /// one slot or one serial, and there are 65,536 values at most.
@@ -22,10 +22,10 @@ pub fn a_directory_is_in_order<T>(directory: &Directory<T>)
 /// none of those that are gone.
 ///
 /// Ours: docs/DECISIONS.md, Directories.
-pub fn a_new_id_was_no_id_before<T>(directory: &Directory<T>, place: &Place)
-    requires { HasRoomFor directory.now place.now }
-    ensures values { All (λ (value : MachineId × T). value.0.serial < place.now.id.serial) directory.now.state.values }
-    ensures gone { (id : MachineId) → IsGone id directory.now.state → id ≢ place.now.id }
+pub fn a_new_id_was_no_id_before<T>(directory: &Directory<T>, vacancy: &Vacancy)
+    requires { HasRoomFor directory.now vacancy.now }
+    ensures values { All (λ (value : MachineId × T). value.0.serial < vacancy.now.id.serial) directory.now.state.values }
+    ensures gone { (id : MachineId) → IsGone id directory.now.state → id ≢ vacancy.now.id }
 {
     let _ = &directory.begun;
 }
@@ -33,11 +33,11 @@ pub fn a_new_id_was_no_id_before<T>(directory: &Directory<T>, place: &Place)
 /// A value that is put in is found under its id, and under its name, if it has one; each other id names what it named.
 ///
 /// Ours: docs/DECISIONS.md, Directories.
-pub fn an_inserted_value_is_found<T>(directory: &Directory<T>, place: &Place)
-    requires { HasRoomFor directory.now place.now }
-    ensures id { (value : T) → found place.now.id (inserted place.now value directory.now.state) ≡ Some value }
-    ensures name { (value : T) (name : List ℕ) → place.now.name ≡ Some name → id_of_name name (inserted place.now value directory.now.state) ≡ Some place.now.id }
-    ensures others { (value : T) (other : MachineId) → other ≢ place.now.id → found other (inserted place.now value directory.now.state) ≡ found other directory.now.state }
+pub fn an_inserted_value_is_found<T>(directory: &Directory<T>, vacancy: &Vacancy)
+    requires { HasRoomFor directory.now vacancy.now }
+    ensures id { (value : T) → found vacancy.now.id (inserted vacancy.now value directory.now.state) ≡ Some value }
+    ensures name { (value : T) (name : List ℕ) → vacancy.now.name ≡ Some name → id_of_name name (inserted vacancy.now value directory.now.state) ≡ Some vacancy.now.id }
+    ensures others { (value : T) (other : MachineId) → other ≢ vacancy.now.id → found other (inserted vacancy.now value directory.now.state) ≡ found other directory.now.state }
 {
     let _ = &directory.begun;
 }

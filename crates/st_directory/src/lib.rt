@@ -8,7 +8,7 @@ mod keyed;
 mod laws;
 mod limits;
 mod names;
-mod place;
+mod vacancy;
 mod values;
 
 pub use directory::Directory;
@@ -17,5 +17,5 @@ pub use laws::{
     an_inserted_value_is_found,
 };
 pub use limits::{LONGEST_NAME, MOST};
-pub use place::Place;
 pub use st_events::{MachineId, Refusal};
+pub use vacancy::Vacancy;

@@ -13,10 +13,10 @@ ghost use Rattle.st_door.specs.declared.line.Line.TheVariants as line;
 use crate::answers::{DoorAnswer, length_in, refusal_in};
 use crate::door_cell::DoorCell;
 use crate::effect::Effect;
+use crate::free_slots::FreeSlots;
 use crate::late_doors::LateDoors;
 use crate::line::Line;
 use crate::printing::{code_length, expired, removed};
-use crate::slots::Slots;
 use crate::until_idle::run_until_idle;
 use crate::{Digits, Door, DoorContent, Mode, ScriptFault, Sink};
 use st_core::{Answer, Command, Core, Entry, MOMENT_LIMIT, Start};
@@ -35,7 +35,7 @@ pub(crate) struct Script {
     alloc: Global,
     traced: bool,
     doors: LateDoors,
-    slots: Slots,
+    slots: FreeSlots,
     moment: u64,
     started: u64,
     from: usize,
@@ -62,7 +62,7 @@ impl Script {
             alloc,
             traced: is_traced(mode),
             doors: LateDoors::new(alloc),
-            slots: Slots::new(alloc),
+            slots: FreeSlots::new(alloc),
             moment: 0,
             started: 0,
             from: 0,

@@ -1,4 +1,4 @@
 -- What is known of a registry that threads share, which tokens are kept, and how many messages were lost.
 pub mod Hall
-pub mod Kept
+pub mod Outstanding
 pub mod Undelivered

@@ -7,10 +7,10 @@ ghost use Rattle.st_core.specs.Start.{start_of};
 ghost use Rattle.st_lock.specs.Machines.{id_of};
 ghost use Rattle.st_directory.specs.Entries.{names_of_entries};
 ghost use Rattle.st_hall.specs.Hall.{StartsSomewhere, IsNamedSomewhere, AreNamesSomewhere, AreIdsSomewhere};
-ghost use Rattle.st_hall.specs.Kept.{is_kept};
+ghost use Rattle.st_hall.specs.Outstanding.{is_outstanding};
 
 use crate::copies::copied;
-use crate::kept::{delivered, served, unserved};
+use crate::outstanding::{delivered, served, unserved};
 use crate::{Served, Undelivered};
 use st_lock::Service;
 use st_pool::{Hand, Message};
@@ -206,7 +206,7 @@ impl<M: Module, R: Wait + Drop> Hall<M, R> {
         ensures carrying { IsSome hand.new.message → result.token ≡ Some token }
         ensures carried { IfSome hand.old.message (λ message. (hand.new.message ≡ None) ⊎ (hand.new.message ≡ Some message)) }
 
-        ensures kept { IfSome result.refusal (λ refusal. result.token ≡ (if is_kept refusal then Some token else None)) }
+        ensures outstanding { IfSome result.refusal (λ refusal. result.token ≡ (if is_outstanding refusal then Some token else None)) }
     {
         if let Some(message) = hand.message.take() {
             return self.deliver(token, message, hand);

@@ -4,8 +4,8 @@
 
 mod copies;
 mod hall;
-mod kept;
 mod machines;
+mod outstanding;
 mod served;
 mod undelivered;
 

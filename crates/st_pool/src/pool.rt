@@ -199,7 +199,7 @@ impl<R: Runtime, C: Drop + Send + 'static> Pool<R, C> {
         for worker in self.ended.iter_mut() {
             for _ in rt.forever() {
                 self.left.reserve(1)?;
-                if !worker.look(&rt) {
+                if !worker.acquire(&rt) {
                     break;
                 }
                 if let Some(token) = worker.hand.take() {

@@ -42,7 +42,7 @@ pub fn work<R: Runtime, M: Machines, G: Gate>(
         if state.is_closing() {
             break;
         }
-        if !look(rt, &mut worker, state, requeued) {
+        if !acquire(rt, &mut worker, state, requeued) {
             requeued = false;
             pause(rt, &mut worker, &parker, state, &mut search);
             continue;
@@ -110,7 +110,7 @@ fn give_woken<R: Runtime, C>(rt: &R, worker: &mut Worker<C>, state: &PoolState) 
 }
 
 /// Takes a token, where the worker has none, and tells the others what that leaves them. `false`: there was none.
-fn look<R: Runtime, C>(rt: &R, worker: &mut Worker<C>, state: &PoolState, requeued: bool) -> bool
+fn acquire<R: Runtime, C>(rt: &R, worker: &mut Worker<C>, state: &PoolState, requeued: bool) -> bool
     ensures put { put_of worker.new.lane ≡ put_of worker.old.lane }
     ensures found { result ≡ true → Holds worker.old worker.new }
 
@@ -145,7 +145,7 @@ fn sleep<R: Runtime, C>(rt: &R, worker: &mut Worker<C>, parker: &Parker, state: 
         return false;
     };
     sleeper.announce();
-    if look(rt, worker, state, false) {
+    if acquire(rt, worker, state, false) {
         // Whoever took the announcement back meant it for another token than the one found.
         if !sleeper.recall() {
             state.wake_one();

@@ -68,7 +68,7 @@ impl<C> Worker<C> {
     /// one that is in the midst of a step on the shared run queue.
     ///
     /// Ours: docs/DECISIONS.md, Workers.
-    pub fn look<R: Wait>(&mut self, rt: &R) -> bool
+    pub fn acquire<R: Wait>(&mut self, rt: &R) -> bool
         ensures same { HasSameQueues self.old self.new × (put_of self.new.lane ≡ put_of self.old.lane) }
         ensures found { result ≡ true → Holds self.old self.new }
 
@@ -96,7 +96,7 @@ impl<C> Worker<C> {
         }
     }
 
-    /// Serves the token that it has, or else one that it takes as `look` does. `false`: there was none. The caller sees to
+    /// Serves the token that it has, or else one that it takes as `acquire` does. `false`: there was none. The caller sees to
     /// it that no woken token is in the worker's hand.
     ///
     /// A token that is to be served again goes on its own run queue. It stays with the worker, which serves it next, where

@@ -16,7 +16,7 @@ use Rattle.st_core.specs.MachineState as machine_state
 use Rattle.st_scheduled.specs.ScheduledMachine.{token_of}
 use Rattle.st_cell.specs.Cell.{cell_at_first}
 use Rattle.st_directory.specs.Admission.{admission_refusal, first_due, place_refusal}
-use Rattle.st_directory.specs.DirectoryState.{DirectoryState, PlaceState, inserted, found}
+use Rattle.st_directory.specs.DirectoryState.{DirectoryState, VacancyState, inserted, found}
 use Rattle.st_lock.specs.declared.machine.Machine.{Machine}
 use Rattle.st_lock.specs.Machines.{id_of}
 use Rattle.st_registry.specs.declared.started.Started.{Started}
@@ -43,39 +43,39 @@ module _ {M S D C A : Type 0} where
   abbrev pub start_due : Option (List ℕ) → ℕ → RegistryState M S D C A → Option Refusal
   start_due name now registry = first_due (admission_refusal name registry) (first_due (moment_refusal now) (place_refusal registry))
 
-  -- the machine that a start made is kept at its place, and its token is handed out, if it has one
-  pub record Keeps (core : machine_state.Machine M S D C) (place : PlaceState) (old : RegistryState M S D C A) (id : MachineId) (wake : Option Token) (new : RegistryState M S D C A) : Type 0 where
+  -- the machine that a start made is kept at its vacancy, and its token is handed out, if it has one
+  pub record Keeps (core : machine_state.Machine M S D C) (vacancy : VacancyState) (old : RegistryState M S D C A) (id : MachineId) (wake : Option Token) (new : RegistryState M S D C A) : Type 0 where
     pub machine : Shared M S D C A
-    pub under : id ≡ place.id
+    pub under : id ≡ vacancy.id
     pub issued : wake ≡ token_of (cell_at_first core).scheduled
     pub identified : id_of (arc_value machine) ≡ id
-    pub kept : new ≡ inserted place machine old
+    pub kept : new ≡ inserted vacancy machine old
 
   -- and so it is answered
-  abbrev pub KeepsAs : machine_state.Machine M S D C → PlaceState → RegistryState M S D C A → Started → RegistryState M S D C A → Type 0
-  KeepsAs core place old (Running id wake) new = Keeps core place old id wake new
-  KeepsAs core place old Ignored new = ⊥
-  KeepsAs core place old (Stopped reason) new = ⊥
+  abbrev pub KeepsAs : machine_state.Machine M S D C → VacancyState → RegistryState M S D C A → Started → RegistryState M S D C A → Type 0
+  KeepsAs core vacancy old (Running id wake) new = Keeps core vacancy old id wake new
+  KeepsAs core vacancy old Ignored new = ⊥
+  KeepsAs core vacancy old (Stopped reason) new = ⊥
 
-  -- what a start at a place answers and leaves, whose machine's own start is this: its machine is kept; or there is none; or it is
+  -- what a start at a vacancy answers and leaves, whose machine's own start is this: its machine is kept; or there is none; or it is
   -- refused as its own start is, or for want of memory, and the module comes back
-  abbrev pub StartsAs : M → Result (Start M S D C A) (Refused M) → PlaceState → RegistryState M S D C A → Result Started (Refused M) → RegistryState M S D C A → Type 0
-  StartsAs module_ own place old (Ok (Running id wake)) new =
-      (core : machine_state.Machine M S D C) × (report : Report S) × (own ≡ Ok (start.Running core report)) × Keeps core place old id wake new
-  StartsAs module_ own place old (Ok Ignored) new = (own ≡ Ok start.Ignored) × (new ≡ old)
-  StartsAs module_ own place old (Ok (Stopped reason)) new = (own ≡ Ok (start.Stopped reason)) × (new ≡ old)
-  StartsAs module_ own place old (Err refused) new =
+  abbrev pub StartsAs : M → Result (Start M S D C A) (Refused M) → VacancyState → RegistryState M S D C A → Result Started (Refused M) → RegistryState M S D C A → Type 0
+  StartsAs module_ own vacancy old (Ok (Running id wake)) new =
+      (core : machine_state.Machine M S D C) × (report : Report S) × (own ≡ Ok (start.Running core report)) × Keeps core vacancy old id wake new
+  StartsAs module_ own vacancy old (Ok Ignored) new = (own ≡ Ok start.Ignored) × (new ≡ old)
+  StartsAs module_ own vacancy old (Ok (Stopped reason)) new = (own ≡ Ok (start.Stopped reason)) × (new ≡ old)
+  StartsAs module_ own vacancy old (Err refused) new =
       ((own ≡ Err refused) ⊎ (refused.refusal ≡ NoMemory)) × (refused.value ≡ module_) × (new ≡ old)
 
-  -- the place of a machine that starts: its serial is that of no machine before
-  abbrev pub start_place : ℕ → Option (List ℕ) → RegistryState M S D C A → PlaceState
-  start_place slot name old = record { id = record { slot = slot; serial = old.begun + 1 }; name = name }
+  -- the vacancy of a machine that starts: its serial is that of no machine before
+  abbrev pub start_vacancy : ℕ → Option (List ℕ) → RegistryState M S D C A → VacancyState
+  start_vacancy slot name old = record { id = record { slot = slot; serial = old.begun + 1 }; name = name }
 
-  -- what a start under a name answers and leaves: what is due refuses it; else it is the machine's own start, at a new place
+  -- what a start under a name answers and leaves: what is due refuses it; else it is the machine's own start, at a new vacancy
   abbrev pub StartsUnder : M → (MachineId → Result (Start M S D C A) (Refused M)) → Option Refusal → Option (List ℕ) → RegistryState M S D C A → Result Started (Refused M) → RegistryState M S D C A → Type 0
   StartsUnder module_ own (Some refusal) name old answer new = (answer ≡ Err (record { refusal = refusal; value = module_ })) × (new ≡ old)
   StartsUnder module_ own None name old answer new =
-      (slot : ℕ) × StartsAs module_ (own (start_place slot name old).id) (start_place slot name old) old answer new
+      (slot : ℕ) × StartsAs module_ (own (start_vacancy slot name old).id) (start_vacancy slot name old) old answer new
 
   -- this is the machine of an id, and that is its own
   abbrev pub IsMachineAt : MachineId → RegistryState M S D C A → Machine M S D C A → Type 0

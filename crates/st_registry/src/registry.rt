@@ -84,7 +84,15 @@ impl<M: Module> Registry<M> {
             return Err(Refused::new(Refusal::Moment, module));
         }
         match self.directory.prepare(name) {
-            Ok(place) => start_at(self.alloc, rt, &mut self.directory, place, module, arg, now),
+            Ok(vacancy) => start_at(
+                self.alloc,
+                rt,
+                &mut self.directory,
+                vacancy,
+                module,
+                arg,
+                now,
+            ),
             Err(refusal) => Err(Refused::new(refusal, module)),
         }
     }

@@ -1,6 +1,6 @@
 //! The hall of a service, as its workers serve it.
 ghost use Rattle.std.specs.Prelude.{◌≡◌, ◌⊎◌, if◌then◌else◌, Some, None, IsSome, IfSome};
-ghost use Rattle.st_hall.specs.Kept.{is_kept};
+ghost use Rattle.st_hall.specs.Outstanding.{is_outstanding};
 
 use crate::closing::Closing;
 use crate::link::gives_up;
@@ -53,7 +53,7 @@ impl<M: Module, R: Wait + Clock + Drop, O: Observer<M> + Drop> ServedHall<M, R, 
         ensures carrying { IsSome hand.new.message → result.token ≡ Some token }
         ensures carried { IfSome hand.old.message (λ message. (hand.new.message ≡ None) ⊎ (hand.new.message ≡ Some message)) }
 
-        ensures kept { IfSome result.refusal (λ refusal. result.token ≡ (if is_kept refusal then Some token else None)) }
+        ensures outstanding { IfSome result.refusal (λ refusal. result.token ≡ (if is_outstanding refusal then Some token else None)) }
     {
         let served = self.hall.serve(token, now, hand);
         self.after(token.machine, served.token.is_none());

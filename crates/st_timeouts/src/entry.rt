@@ -4,7 +4,7 @@ ghost use Rattle.st_timeouts.specs.Entries.{running};
 
 use crate::{Due, Running};
 use st_events::{CopyContent, Timer};
-use st_timer_map::Kept;
+use st_timer_map::Mark;
 use std::alloc::{AllocError, Global};
 
 /// What is kept of the time-out of a timer that runs, and whether its expiry was handed out.
@@ -16,7 +16,7 @@ pub(crate) struct Entry<C> {
     pub(crate) expired: bool,
 }
 
-impl<C> Kept for Entry<C> {
+impl<C> Mark for Entry<C> {
     type Row = (Timer, u64, Due);
 
     ghost row_of = { λ timer entry. (timer, entry.number, entry.due) };

@@ -4,15 +4,15 @@ use Rattle.std.specs.Prelude.{Option, Some, None, is_some, IfSome}
 use Rattle.std.specs.HashMap.{HashMap, spare}
 use Rattle.st_events.specs.declared.timer.Timer.{Timer}
 use Rattle.st_timer_map.specs.declared.index.Index.{Index}
-use Rattle.st_timer_map.specs.declared.slot.Slot.{Slot}
+use Rattle.st_timer_map.specs.declared.bucket.Bucket.{Bucket}
 use Rattle.st_timer_map.specs.Rows.{value_of}
 use Rattle.st_timer_map.specs.Slots.{rows_of}
-use Rattle.st_timer_map.specs.Index.{HasRoom, IsTied, Tells}
+use Rattle.st_timer_map.specs.Index.{HasRoom, IsTied, HasPlace}
 use Rattle.st_timer_map.proofs.SlotLemmas.{known}
 
 -- of a timer that has a value it tells the place
-pub tells : {V : Type 0} (index : Index) (slots : List (Option (Slot V))) (timer : Timer) → IsTied index slots
-    → is_some (value_of timer (rows_of slots)) ≡ true → Tells index timer
+pub tells : {V : Type 0} (index : Index) (slots : List (Option (Bucket V))) (timer : Timer) → IsTied index slots
+    → is_some (value_of timer (rows_of slots)) ≡ true → HasPlace index timer
 tells index slots timer tied h = λ knows. ap is_some (tied timer knows) ∙ (known timer slots ∙ h)
 
 less_by : {S : Type 0} (named : Option (HashMap ℕ ℕ S)) (n m : ℕ) → n ≤ m → IfSome named (λ map. m ≤ spare map) → IfSome named (λ map. n ≤ spare map)

@@ -3,13 +3,13 @@ ghost use Rattle.std.specs.Prelude.{◌≡◌, ◌+◌, ◌<◌, ◌≤◌, ◌=
 ghost use Rattle.st_events.specs.declared.timer.Timer.{Timer};
 ghost use Rattle.st_events.specs.Timers.{same_timer};
 ghost use Rattle.std.specs.HashMap.{get, spare};
-ghost use Rattle.st_timer_map.specs.Index.{knows, told, HasRoom, Tells};
+ghost use Rattle.st_timer_map.specs.Index.{knows, place_in, HasRoom, HasPlace};
 
 use st_events::Timer;
 use std::alloc::AllocError;
 use std::collections::HashMap;
 
-/// The places of timers. Those of the names are told only once a map for them is given.
+/// The places of timers. Those of the names are place_in only once a map for them is given.
 #[derive(Drop)]
 pub(crate) struct Index {
     event: Option<usize>,
@@ -48,7 +48,7 @@ impl Index {
 
     /// The place that it tells of a timer.
     pub(crate) fn place(&self, timer: Timer) -> Option<usize>
-        ensures { result ≡ told self.now timer }
+        ensures { result ≡ place_in self.now timer }
     {
         match timer {
             Timer::Event => self.event,
@@ -60,12 +60,12 @@ impl Index {
         }
     }
 
-    /// Writes the place of a timer. Where it told of this timer, the place is written over and no room is taken.
+    /// Writes the place of a timer. Where it place_in of this timer, the place is written over and no room is taken.
     pub(crate) fn write(&mut self, timer: Timer, place: usize)
-        requires { Tells self.old timer ⊎ HasRoom self.old 1 }
+        requires { HasPlace self.old timer ⊎ HasRoom self.old 1 }
         ensures knows { (other : Timer) → knows self.new other ≡ knows self.old other }
-        ensures told { (other : Timer) → knows self.old other ≡ true → told self.new other ≡ (if same_timer timer other then Some place else told self.old other) }
-        ensures again { Tells self.old timer → (count : ℕ) → HasRoom self.old count → HasRoom self.new count }
+        ensures places { (other : Timer) → knows self.old other ≡ true → place_in self.new other ≡ (if same_timer timer other then Some place else place_in self.old other) }
+        ensures again { HasPlace self.old timer → (count : ℕ) → HasRoom self.old count → HasRoom self.new count }
         ensures room { (count : ℕ) → HasRoom self.old (count + 1) → HasRoom self.new count }
     {
         match timer {
@@ -79,10 +79,10 @@ impl Index {
         }
     }
 
-    /// Tells of this timer no more. The room stays.
+    /// HasPlace of this timer no more. The room stays.
     pub(crate) fn forget(&mut self, timer: Timer)
         ensures knows { (other : Timer) → knows self.new other ≡ knows self.old other }
-        ensures told { (other : Timer) → told self.new other ≡ (if same_timer timer other then None else told self.old other) }
+        ensures places { (other : Timer) → place_in self.new other ≡ (if same_timer timer other then None else place_in self.old other) }
         ensures room { (count : ℕ) → HasRoom self.old count → HasRoom self.new count }
     {
         match timer {
@@ -99,7 +99,7 @@ impl Index {
     /// Makes room for so many names more, where there is a map for them.
     pub(crate) fn reserve(&mut self, count: usize) -> Result<(), AllocError>
         ensures knows { (other : Timer) → knows self.new other ≡ knows self.old other }
-        ensures told { (other : Timer) → told self.new other ≡ told self.old other }
+        ensures places { (other : Timer) → place_in self.new other ≡ place_in self.old other }
         ensures kept { (count : ℕ) → HasRoom self.old count → HasRoom self.new count }
         ensures room { OnOk result (HasRoom self.new count) }
     {
@@ -120,7 +120,7 @@ impl Index {
 /// Writes the place of a name.
 fn write_name(map: &mut HashMap<u32, usize>, name: u32, place: usize)
     requires { (is_some (get nat_eq map.old name) ≡ true) ⊎ (0 < spare map.old) }
-    ensures told { (other : ℕ) → get nat_eq map.new other ≡ (if name == other then Some place else get nat_eq map.old other) }
+    ensures places { (other : ℕ) → get nat_eq map.new other ≡ (if name == other then Some place else get nat_eq map.old other) }
     ensures again { is_some (get nat_eq map.old name) ≡ true → spare map.new ≡ spare map.old }
     ensures room { spare map.old ≤ spare map.new + 1 }
 {

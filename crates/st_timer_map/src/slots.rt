@@ -8,11 +8,11 @@ ghost use Rattle.st_events.specs.declared.timer.Timer.TheVariants.{Named};
 ghost use Rattle.st_events.specs.Timers.{same_timer};
 ghost use Rattle.st_timer_map.specs.Rows.{OnceEach, value_of, without_timer};
 ghost use Rattle.st_timer_map.specs.Slots.{is_for, rows_of, place_of, with_hole, slot_at, value_in, marked_at};
-ghost use Rattle.st_timer_map.specs.Index.{knows, told, HasRoom, IsTied};
+ghost use Rattle.st_timer_map.specs.Index.{knows, place_in, HasRoom, IsTied};
 
-use crate::Kept;
+use crate::Mark;
+use crate::bucket::Bucket;
 use crate::index::Index;
-use crate::slot::Slot;
 use st_events::Timer;
 use std::alloc::{AllocError, Global};
 use std::collections::HashMap;
@@ -25,7 +25,7 @@ const WALKED: usize = 16;
 const LEAST: usize = 4;
 
 /// The place of a timer's slot.
-pub(crate) fn place_of<V>(index: &Index, slots: &[Option<Slot<V>>], timer: Timer) -> Option<usize>
+pub(crate) fn place_of<V>(index: &Index, slots: &[Option<Bucket<V>>], timer: Timer) -> Option<usize>
     requires { IsTied index.now slots.now }
     ensures { result ≡ place_of timer slots.now }
 {
@@ -37,14 +37,14 @@ pub(crate) fn place_of<V>(index: &Index, slots: &[Option<Slot<V>>], timer: Timer
 }
 
 /// The place of a timer's slot, by a walk over all of them.
-fn walk<V>(slots: &[Option<Slot<V>>], timer: Timer) -> Option<usize>
+fn walk<V>(slots: &[Option<Bucket<V>>], timer: Timer) -> Option<usize>
     ensures { result ≡ position (is_for timer) slots.now }
 {
     slots.iter().position(|slot| is_for(slot, timer))
 }
 
 /// Says whether it is the slot of this timer.
-fn is_for<V>(slot: &Option<Slot<V>>, timer: Timer) -> bool
+fn is_for<V>(slot: &Option<Bucket<V>>, timer: Timer) -> bool
     ensures { result ≡ is_for timer slot.now }
 {
     match slot {
@@ -54,26 +54,26 @@ fn is_for<V>(slot: &Option<Slot<V>>, timer: Timer) -> bool
 }
 
 /// The slot at a place, if one is there.
-pub(crate) fn slot_at<V>(slots: &[Option<Slot<V>>], place: Option<usize>) -> Option<&Slot<V>>
+pub(crate) fn slot_at<V>(slots: &[Option<Bucket<V>>], place: Option<usize>) -> Option<&Bucket<V>>
     ensures { option_copied result ≡ slot_at slots.now place }
 {
     slots.get(place?)?.as_ref()
 }
 
 /// Takes the value at a place out, and leaves a hole there.
-fn take_at<V>(slots: &mut Vec<Option<Slot<V>>>, place: Option<usize>) -> Option<V>
+fn take_at<V>(slots: &mut Vec<Option<Bucket<V>>>, place: Option<usize>) -> Option<V>
     requires { IfSome place (λ place. place < vec_len slots.old) }
     ensures items { slots.new.items ≡ with_hole slots.old.items place }
     ensures value { result ≡ value_in (slot_at slots.old.items place) }
     ensures capacity { vec_capacity slots.new ≡ vec_capacity slots.old }
 {
-    let Slot { timer: _, value } = slots[place?].take()?;
+    let Bucket { timer: _, value } = slots[place?].take()?;
     Some(value)
 }
 
 /// Puts a value for a timer behind all others, and hands its old value over. The old slot becomes a hole.
 pub(crate) fn put_last<V>(
-    slots: &mut Vec<Option<Slot<V>>>,
+    slots: &mut Vec<Option<Bucket<V>>>,
     index: &mut Index,
     timer: Timer,
     value: V,
@@ -92,14 +92,14 @@ pub(crate) fn put_last<V>(
     let place = place_of(index, slots, timer);
     let old = take_at(slots, place);
     let last = slots.len();
-    slots.push_reserved(Some(Slot { timer, value }));
+    slots.push_reserved(Some(Bucket { timer, value }));
     index.write(timer, last);
     old
 }
 
 /// Takes the value of a timer out, if it has one. Its slot becomes a hole.
 pub(crate) fn take_out<V>(
-    slots: &mut Vec<Option<Slot<V>>>,
+    slots: &mut Vec<Option<Bucket<V>>>,
     index: &mut Index,
     timer: Timer,
 ) -> Option<V>
@@ -118,7 +118,7 @@ pub(crate) fn take_out<V>(
 }
 
 /// Makes room for a slot at the end: where there is none, the holes are closed.
-pub(crate) fn make_room<V: Drop>(slots: &mut Vec<Option<Slot<V>>>, index: &mut Index)
+pub(crate) fn make_room<V: Drop>(slots: &mut Vec<Option<Bucket<V>>>, index: &mut Index)
     requires once_each { OnceEach (rows_of slots.old.items) }
     requires tied { IsTied index.old slots.old.items }
     requires fits { length (rows_of slots.old.items) < vec_capacity slots.old }
@@ -135,7 +135,7 @@ pub(crate) fn make_room<V: Drop>(slots: &mut Vec<Option<Slot<V>>>, index: &mut I
 }
 
 /// Closes the holes. The others keep their order, and the index tells their places.
-fn close_holes<V: Drop>(slots: &mut Vec<Option<Slot<V>>>, index: &mut Index)
+fn close_holes<V: Drop>(slots: &mut Vec<Option<Bucket<V>>>, index: &mut Index)
     requires once_each { OnceEach (rows_of slots.old.items) }
     requires tied { IsTied index.old slots.old.items }
     ensures items { slots.new.items ≡ filter is_some slots.old.items }
@@ -148,9 +148,9 @@ fn close_holes<V: Drop>(slots: &mut Vec<Option<Slot<V>>>, index: &mut Index)
 }
 
 /// Writes the places of all timers anew.
-fn write_places<V>(slots: &[Option<Slot<V>>], index: &mut Index)
+fn write_places<V>(slots: &[Option<Bucket<V>>], index: &mut Index)
     requires once_each { OnceEach (rows_of slots.now) }
-    requires told { (timer : Timer) → knows index.old timer ≡ true → is_some (told index.old timer) ≡ is_some (place_of timer slots.now) }
+    requires places { (timer : Timer) → knows index.old timer ≡ true → is_some (place_in index.old timer) ≡ is_some (place_of timer slots.now) }
     ensures tied { IsTied index.new slots.now }
     ensures room { (count : ℕ) → HasRoom index.old count → HasRoom index.new count }
 {
@@ -164,7 +164,7 @@ fn write_places<V>(slots: &[Option<Slot<V>>], index: &mut Index)
 /// Makes room in the index for so many timers more. Where the slots are to be more than are walked over and the
 /// index has no map for names, it gets one.
 pub(crate) fn reserve_places<V>(
-    slots: &[Option<Slot<V>>],
+    slots: &[Option<Bucket<V>>],
     index: &mut Index,
     alloc: Global,
     capacity: usize,
@@ -185,7 +185,7 @@ pub(crate) fn reserve_places<V>(
 
 /// The places of all names, with room for so many more.
 fn places_by_name<V>(
-    slots: &[Option<Slot<V>>],
+    slots: &[Option<Bucket<V>>],
     alloc: Global,
     count: usize,
 ) -> Result<HashMap<u32, usize>, AllocError>
@@ -231,7 +231,7 @@ pub(crate) fn room_for(capacity: usize, live: usize, count: usize) -> Result<usi
 }
 
 /// Marks the value at a place.
-pub(crate) fn mark_at<V: Kept>(slots: &mut Vec<Option<Slot<V>>>, place: Option<usize>)
+pub(crate) fn mark_at<V: Mark>(slots: &mut Vec<Option<Bucket<V>>>, place: Option<usize>)
     requires { IfSome place (λ place. place < vec_len slots.old) }
     ensures items { slots.new.items ≡ marked_at V.marked slots.old.items place }
     ensures capacity { vec_capacity slots.new ≡ vec_capacity slots.old }
@@ -245,7 +245,7 @@ pub(crate) fn mark_at<V: Kept>(slots: &mut Vec<Option<Slot<V>>>, place: Option<u
 
 /// Puts a value in the place of another, which comes back. A hole stays one.
 pub(crate) fn replace_at<V: Drop>(
-    slots: &mut Vec<Option<Slot<V>>>,
+    slots: &mut Vec<Option<Bucket<V>>>,
     place: Option<usize>,
     value: V,
 ) -> Option<V>
@@ -262,8 +262,8 @@ pub(crate) fn replace_at<V: Drop>(
 }
 
 /// What is listed of all values, in their order. There are so many.
-pub(crate) fn list_rows<V: Kept>(
-    slots: &[Option<Slot<V>>],
+pub(crate) fn list_rows<V: Mark>(
+    slots: &[Option<Bucket<V>>],
     alloc: Global,
     live: usize,
 ) -> Result<Vec<V::Row>, AllocError>

@@ -2,9 +2,9 @@
 ghost use Rattle.std.specs.Prelude.{◌≡◌, ◌+◌, ◌*◌, ◌<◌, ◌≤◌, ◌⊎◌, true, [], length, map, max, is_some, option_copied, IsOk, IfOk, OnOk, OnErr};
 ghost use Rattle.st_timer_map.specs.Rows.{value_of, with_put, with_removed, with_marked};
 
-use crate::Kept;
+use crate::Mark;
+use crate::bucket::Bucket;
 use crate::index::Index;
-use crate::slot::Slot;
 use crate::slots::{
     list_rows, make_room, mark_at, place_of, put_last, replace_at, reserve_places, room_for,
     slot_at, take_out,
@@ -20,7 +20,7 @@ use std::marker::Model;
 #[derive(Drop)]
 pub struct TimerMap<V> {
     // A removed value leaves a hole, and one that is put goes to the end.
-    slots: Vec<Option<Slot<V>>>,
+    slots: Vec<Option<Bucket<V>>>,
     index: Index,
     // How many slots are filled.
     live: usize,
@@ -141,7 +141,7 @@ impl<V: Drop> TimerMap<V> {
     }
 }
 
-impl<V: Kept> TimerMap<V> {
+impl<V: Mark> TimerMap<V> {
     /// Marks the value of a timer, if it has one. It takes a few steps.
     pub fn mark(&mut self, timer: Timer)
         ensures { self.new ≡ with_marked V.marked self.old timer }

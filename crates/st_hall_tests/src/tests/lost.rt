@@ -126,8 +126,8 @@ fn is_removed_without_messages<R: Wait + Drop>(
     let machine = hall.machine(sender).expect(rt, "it is there");
     holds(rt, "it ends", machine.stop(threads, 3) == Ok(7));
     let early = hall.remove_stopped(sender);
-    let is_kept = early == Err(Refusal::NotStopped);
-    holds(rt, "a message is left", is_kept);
+    let is_outstanding = early == Err(Refusal::NotStopped);
+    holds(rt, "a message is left", is_outstanding);
     let taken = machine.take_out(threads, token);
     let is_taken = matches!(taken, Ok(Some(_)));
     holds(rt, "it is taken out", is_taken);

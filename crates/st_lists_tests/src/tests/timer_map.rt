@@ -2,7 +2,7 @@
 ghost use Rattle.std.specs.Prelude.{◌≤◌, true};
 
 use super::host::{Host, got, holds, same};
-use st_timer_map::{Kept, Timer, TimerMap};
+use st_timer_map::{Mark, Timer, TimerMap};
 use std::process::Abort;
 
 /// A letter that can be marked.
@@ -15,7 +15,7 @@ struct Letter {
 /// A letter's timer, the letter, and whether it is marked.
 type Row = (Timer, char, bool);
 
-impl Kept for Letter {
+impl Mark for Letter {
     type Row = (Timer, char, bool);
 
     ghost row_of = { λ timer letter. (timer, letter.letter, letter.marked) };

@@ -315,7 +315,7 @@ fn a_token_stays_with_the_worker_that_carries(rt: HostRuntime) {
     );
     holds(&rt, "it carries it", own.transit.message.is_some());
     same(&rt, "and has the token", &own.hand, &Some(token(0)));
-    holds(&rt, "which nobody steals", !other.look(&wait));
+    holds(&rt, "which nobody steals", !other.acquire(&wait));
     holds(
         &rt,
         "its message is delivered",
@@ -329,7 +329,7 @@ fn a_token_stays_with_the_worker_that_carries(rt: HostRuntime) {
         &Some(token(1)),
     );
     same(&rt, "and has the token", &own.hand, &Some(token(0)));
-    holds(&rt, "which nobody steals", !other.look(&wait));
+    holds(&rt, "which nobody steals", !other.acquire(&wait));
     holds(
         &rt,
         "the sender rests",

@@ -104,7 +104,7 @@ fn a_round_serves_a_token_of_another_worker(rt: HostRuntime) {
         &other.lane.take_local(),
         &None,
     );
-    holds(&rt, "it came back to its robber", own.look(&wait));
+    holds(&rt, "it came back to its robber", own.acquire(&wait));
     same(&rt, "and is in its hand", &own.hand, &Some(token(0)));
     holds(
         &rt,

@@ -1,7 +1,7 @@
 use Rattle.std.proofs.Common.{sym, ◌∙◌}
 use Rattle.st_registry.proofs.starts.keep.Goals as goal
 
--- the machine is kept at its place, under its own id
+-- the machine is kept at its vacancy, under its own id
 pub returns-in-Ok-clause-keeps : goal.returns-in-Ok-clause-keeps
 returns-in-Ok-clause-keeps g c = record {
   machine = c.in-Ok.machine;

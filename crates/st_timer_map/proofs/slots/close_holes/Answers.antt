@@ -10,8 +10,8 @@ write_places-requires-clause-once_each g c =
     let items : c.retain.new.self.items ≡ filter is_some c.args.slots.now.items = filter_same _ _ _ (λ x b f' k. search rules) _ _ c.retain.ensures.filtered in
     rw (c.deref.ensures.value, items, rows_closed c.args.slots.now.items) c.requires.once_each
 
-pub write_places-requires-clause-told : goal.write_places-requires-clause-told
-write_places-requires-clause-told g c = λ timer knows.
+pub write_places-requires-clause-places : goal.write_places-requires-clause-places
+write_places-requires-clause-places g c = λ timer knows.
     let items : c.retain.new.self.items ≡ filter is_some c.args.slots.now.items = filter_same _ _ _ (λ x b f' k. search rules) _ _ c.retain.ensures.filtered in
     rw (c.deref.ensures.value, items) (ap is_some (c.requires.tied timer knows) ∙ known_closed timer c.args.slots.now.items)
 

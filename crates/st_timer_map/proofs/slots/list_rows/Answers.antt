@@ -21,7 +21,7 @@ loop-slot-preserved g c =
           (let more = rows_further slots place item w.in-Some.slot c.loop-slot-test.true c.slot-item.is w.in-Some.is in
           rw (w.rows-is, more) (record {
             items = rw (w.push_reserved.ensures.items, so_far.items, w.row.ensures)
-                (sym (map-append (λ row. g.V.Kept.row_of row.0 row.1) (rows_of (take place slots)) (row_of w.in-Some.slot ∷ [])));
+                (sym (map-append (λ row. g.V.Mark.row_of row.0 row.1) (rows_of (take place slots)) (row_of w.in-Some.slot ∷ [])));
             listed = omega (arith, w.push_reserved.ensures.len, so_far.listed, length-append (rows_of (take place slots)) (row_of w.in-Some.slot ∷ []));
             room = omega (arith, w.push_reserved.ensures.capacity, so_far.room);
           }))
@@ -34,4 +34,4 @@ pub returns : goal.returns
 returns g c =
     let slots = c.args.slots.now in
     let past : length slots ≤ c.loop-slot.slot-index = omega arith in
-    c.loop-slot.invariant.items ∙ ap (λ some. map (λ row. g.V.Kept.row_of row.0 row.1) (rows_of some)) (take_all c.loop-slot.slot-index slots past)
+    c.loop-slot.invariant.items ∙ ap (λ some. map (λ row. g.V.Mark.row_of row.0 row.1) (rows_of some)) (take_all c.loop-slot.slot-index slots past)

@@ -41,7 +41,7 @@ returns-clause-tied g c = λ other known.
     let knew = sym (c.write.ensures.knows other) ∙ known in
     let long = ap length c.take_at-old.ensures.items ∙ length_hole slots c.place_of-place.result in
     let last : c.len-last.result ≡ length slots = c.len-last.ensures ∙ (c.take_at-old.new.slots.ok.0 ∙ long) in
-    c.write.ensures.told other knew
+    c.write.ensures.places other knew
     ∙ (rw (last, c.requires.tied other knew, c.push_reserved.ensures.items, c.take_at-old.ensures.items, place)
     (sym (places_put c.args.timer other c.args.value slots c.requires.once_each)))
 

@@ -28,6 +28,6 @@ returns-clause-tied g c = λ other known.
     let place = c.place_of-place.ensures ∙ ap (place_of c.args.timer) c.deref.ensures.value in
     let items = c.take_at-old.ensures.items ∙ ap (with_hole slots) place in
     let knew = sym (c.forget.ensures.knows other) ∙ known in
-    c.forget.ensures.told other
+    c.forget.ensures.places other
     ∙ (ap (λ here. if same_timer c.args.timer other then None else here) (c.requires.tied other knew)
     ∙ sym (ap (place_of other) items ∙ places_left c.args.timer other slots c.requires.once_each))

@@ -13,7 +13,7 @@ pub invariant_of-self : goal.invariant_of-self
 invariant_of-self g c =
     let slots = c.self.inside.slots.items in
     let old = c.self.invariant in
-    let marked = g.V.Kept.marked in
+    let marked = g.V.Mark.marked in
     let place = c.place_of-place.ensures ∙ ap (place_of c.args.timer) c.deref.ensures.value in
     let rows = ap rows_of (c.mark_at.ensures.items ∙ ap (marked_at marked slots) place) ∙ rows_marked marked c.args.timer slots old.once_each in
     record {
@@ -27,7 +27,7 @@ invariant_of-self g c =
 pub returns : goal.returns
 returns g c =
     let slots = c.self.inside.slots.items in
-    let marked = g.V.Kept.marked in
+    let marked = g.V.Mark.marked in
     let place = c.place_of-place.ensures ∙ ap (place_of c.args.timer) c.deref.ensures.value in
     let rows = ap rows_of (c.mark_at.ensures.items ∙ ap (marked_at marked slots) place) ∙ rows_marked marked c.args.timer slots c.self.invariant.once_each in
     rw (← c.self.view_is, rows) refl

@@ -1,6 +1,6 @@
 use Rattle.std.proofs.Common.{◌≡◌, ℕ, ◌-◌, ◌<◌, ◌≤◌, true, length}
 use Rattle.st_door.specs.Slots.{is_marked}
-use Rattle.st_door.proofs.slots.Slots.least_free.Given as goal
+use Rattle.st_door.proofs.free_slots.FreeSlots.least_free.Given as goal
 
 abbrev pub invariant-loop-self : goal.invariant-loop-self
 invariant-loop-self l = record {

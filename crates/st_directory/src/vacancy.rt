@@ -10,22 +10,22 @@ use std::marker::Model;
 ///
 /// Ours: docs/DECISIONS.md, Directories.
 #[derive(Drop)]
-pub struct Place {
+pub struct Vacancy {
     pub(crate) id: MachineId,
     pub(crate) name: Option<String>,
 }
 
-impl Model for Place {
+impl Model for Vacancy {
     ghost use Rattle.std.specs.Prelude.{string_bytes};
     ghost use Rattle.std.specs.Option.{option_map};
-    ghost use Rattle.st_directory.specs.DirectoryState.{PlaceState};
+    ghost use Rattle.st_directory.specs.DirectoryState.{VacancyState};
 
-    ghost Value = { PlaceState };
+    ghost Value = { VacancyState };
 
-    ghost view = { λ place. record { id = place.id; name = option_map string_bytes place.name } };
+    ghost view = { λ vacancy. record { id = vacancy.id; name = option_map string_bytes vacancy.name } };
 }
 
-impl Place {
+impl Vacancy {
     /// The id that the value gets.
     ///
     /// Ours: docs/DECISIONS.md, Directories.

@@ -8,12 +8,12 @@ use std::marker::Model;
 /// Which places in the table are taken: one mark for each, of which there are as many as doors stood there at once. No
 /// place below `least` is free. Contracts see the marks.
 #[derive(Drop)]
-pub(crate) struct Slots {
+pub(crate) struct FreeSlots {
     marks: Vec<bool>,
     least: usize,
 }
 
-impl Model for Slots {
+impl Model for FreeSlots {
     ghost use Rattle.std.specs.Prelude.{◌≡◌, ◌<◌, ◌≤◌, ℕ, Bool, true, List, length};
     ghost use Rattle.st_door.specs.Slots.{is_marked};
 
@@ -24,12 +24,12 @@ impl Model for Slots {
     ghost invariant = { λ slots. (slots.least ≤ length slots.marks.items) × ((slot : ℕ) → slot < slots.least → is_marked slots.marks.items slot ≡ true) };
 }
 
-impl Slots {
+impl FreeSlots {
     /// No place is taken. It takes no memory.
-    pub(crate) fn new(alloc: Global) -> Slots
+    pub(crate) fn new(alloc: Global) -> FreeSlots
         ensures { result ≡ [] }
     {
-        Slots {
+        FreeSlots {
             marks: Vec::new(alloc),
             least: 0,
         }

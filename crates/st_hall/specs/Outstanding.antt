@@ -8,15 +8,15 @@ use Rattle.st_cell.specs.declared.next.Next.TheVariants.{Again, Rest}
 use Rattle.st_hall.specs.declared.served.Served.{Served}
 
 -- a machine that refused a turn for this reason has its token outstanding still
-abbrev pub is_kept : Refusal → Bool
-is_kept Exhausted = true
-is_kept Moment = true
-is_kept NoMemory = true
-is_kept _ = false
+abbrev pub is_outstanding : Refusal → Bool
+is_outstanding Exhausted = true
+is_outstanding Moment = true
+is_outstanding NoMemory = true
+is_outstanding _ = false
 
 -- no turn was made for a token, for this reason: the token comes back where it is outstanding still
 abbrev pub unserved_as : Token → Refusal → Served
-unserved_as token refusal = record { token = if is_kept refusal then Some token else None; refusal = Some refusal }
+unserved_as token refusal = record { token = if is_outstanding refusal then Some token else None; refusal = Some refusal }
 
 -- what comes of a token by which a machine was given a turn: it comes back where the machine is to be served by it again
 abbrev pub served_as : Token → Next → Served

@@ -3,7 +3,7 @@ use st_events::Timer;
 
 /// A timer and its value.
 #[derive(Drop)]
-pub(crate) struct Slot<V> {
+pub(crate) struct Bucket<V> {
     pub(crate) timer: Timer,
     pub(crate) value: V,
 }

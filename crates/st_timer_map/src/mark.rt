@@ -5,7 +5,7 @@ ghost use Rattle.st_events.specs.declared.timer.Timer.{Timer};
 use st_events::Timer;
 
 /// A value that can be listed beside its timer, and be marked.
-pub trait Kept {
+pub trait Mark {
     /// What is listed of it.
     type Row;
 

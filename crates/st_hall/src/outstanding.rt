@@ -1,14 +1,14 @@
 //! Whether a machine kept the token by which it was served.
 ghost use Rattle.std.specs.Prelude.{◌≡◌, Some, None};
-ghost use Rattle.st_hall.specs.Kept.{is_kept, served_as, unserved_as};
+ghost use Rattle.st_hall.specs.Outstanding.{is_outstanding, served_as, unserved_as};
 
 use crate::Served;
 use st_cell::Next;
 use st_registry::{Refusal, Token};
 
 /// Whether a machine that refused a turn for this reason has its token outstanding still.
-pub(crate) fn keeps(refusal: Refusal) -> bool
-    ensures { result ≡ is_kept refusal }
+pub(crate) fn is_outstanding(refusal: Refusal) -> bool
+    ensures { result ≡ is_outstanding refusal }
 {
     match refusal {
         Refusal::Exhausted | Refusal::Moment | Refusal::NoMemory => true,
@@ -20,7 +20,11 @@ pub(crate) fn keeps(refusal: Refusal) -> bool
 pub(crate) fn unserved(token: Token, refusal: Refusal) -> Served
     ensures { result ≡ unserved_as token refusal }
 {
-    let token = if keeps(refusal) { Some(token) } else { None };
+    let token = if is_outstanding(refusal) {
+        Some(token)
+    } else {
+        None
+    };
     Served {
         token,
         refusal: Some(refusal),
