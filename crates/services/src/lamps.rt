@@ -1,14 +1,9 @@
-//! A service of lamps, to be copied: ten lamps are switched on, an observer counts those that were lit, and the service is
-//! shut down.
-#![tactic(auto)]
+//! A service of lamps: ten are switched on, and an observer counts those that were lit.
 
-mod counting;
-
-use counting::{Counting, counts};
+use crate::counting::{Counting, counts};
 use lamp_module::{Bulb, Lamp, Press};
-use st_service::{Options, Refusal, Runtime, Service, Spawned};
+use st_service::{Options, Runtime, Service, Spawned};
 use std::alloc::{AllocError, Global};
-use std::process::ExitCode;
 use std::rt::Clock;
 use std::sync::Arc;
 use std::sync::atomic::{AtomicU64, Ordering};
@@ -38,24 +33,11 @@ fn light<R: Runtime + Clock>(lamps: &Lamps<R>) {
 }
 
 /// Lights ten lamps, and says how many were lit and stopped.
-fn run<R: Runtime + Clock>(rt: R, alloc: Global) -> Result<String, AllocError> {
+pub fn run<R: Runtime + Clock>(rt: R, alloc: Global) -> Result<String, AllocError> {
     let lit = Arc::new(alloc, AtomicU64::new(0))?;
     let mut lamps = Service::start(rt, alloc, 4, OPTIONS, counts(&lit)?)?;
     light(&lamps);
     let end = lamps.shut_down(7)?;
     let lit = lit.load(Ordering::SeqCst);
     Ok(format!(in alloc; "lit {lit} stopped {}\n", end.stopped)?)
-}
-
-fn main(rt: HostRuntime) -> ExitCode {
-    match run(rt, rt.alloc()) {
-        Ok(log) => match print!(rt; "{log}") {
-            Ok(()) => ExitCode::SUCCESS,
-            Err(_) => ExitCode::FAILURE,
-        },
-        Err(_) => {
-            let _ = eprintln!(rt; "lamps: {}", Refusal::NoMemory);
-            ExitCode::FAILURE
-        }
-    }
 }

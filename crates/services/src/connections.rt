@@ -1,0 +1,80 @@
+//! A service of connections of a pool: two clients want each of them at once, and the second has it after the first.
+
+use keeper_module::{Connection, Content, Place};
+use st_client::receive;
+use st_service::{
+    Called, MachineId, Nobody, Options, RequestId, Runtime, Service, ServicePort, Spawned,
+};
+use std::alloc::{AllocError, Global};
+use std::rt::Clock;
+
+/// So many connections are in the pool.
+const CONNECTIONS: u32 = 200;
+
+/// The clients.
+const CLIENTS: [u32; 2] = [1, 2];
+
+/// So many events may wait at a connection, its journal stays short, and what waits at the end is handled.
+const OPTIONS: Options = Options {
+    waiting: 100,
+    journal: Some(10),
+    turns: 10_000,
+};
+
+/// A pool of connections.
+type Pool<R> = Service<Connection, R, Nobody>;
+
+/// A connection, and what its clients have asked for.
+#[derive(Drop)]
+struct Wanted<R: Runtime + Clock> {
+    port: ServicePort<Connection, R, Nobody>,
+    requests: Vec<(u32, RequestId<Connection>)>,
+}
+
+/// Starts a connection, asks for it in the name of each client, and says that its socket is open: no owner is there to be
+/// told to open it. `None` where it is refused.
+fn want<R: Runtime + Clock>(pool: &Pool<R>, alloc: Global, number: u32) -> Option<Wanted<R>> {
+    let owner = MachineId { slot: 0, serial: 0 };
+    let place = Place { owner, number };
+    let Ok(Spawned::Running(_, Some(mut port))) = pool.spawn(None, Connection, &place) else {
+        return None;
+    };
+    let mut requests = Vec::with_capacity(alloc, CLIENTS.len()).ok()?;
+    for client in CLIENTS {
+        let request = port.send_request(Content::CheckOut(client)).ok()?;
+        requests.push_reserved((client, request));
+    }
+    port.info(Content::Connected).ok()?;
+    Some(Wanted { port, requests })
+}
+
+/// Waits until each client has had the connection and has given it back, and answers how many had it.
+fn lend<R: Runtime + Clock>(rt: &R, wanted: Wanted<R>) -> u64 {
+    let Wanted { mut port, requests } = wanted;
+    let mut lent: u64 = 0;
+    for (client, request) in requests {
+        if let Called::Reply(Content::CheckedOut(_)) = receive(rt, request) {
+            lent = lent.saturating_add(1);
+            // Where it is refused, the connection takes itself back when the lease is over.
+            let _ = port.cast(Content::CheckIn(client));
+        }
+    }
+    lent
+}
+
+/// Opens the pool and lends its connections, and says how often one was lent, and how many were stopped.
+pub fn run<R: Runtime + Clock>(rt: R, alloc: Global) -> Result<String, AllocError> {
+    let mut pool = Service::start(rt, alloc, 4, OPTIONS, Nobody)?;
+    let mut all = Vec::with_capacity(alloc, CONNECTIONS as usize)?;
+    for number in 0..CONNECTIONS {
+        if let Some(wanted) = want(&pool, alloc, number) {
+            all.push_reserved(wanted);
+        }
+    }
+    let mut lent: u64 = 0;
+    for wanted in all {
+        lent = lent.saturating_add(lend(&rt, wanted));
+    }
+    let end = pool.shut_down(7)?;
+    Ok(format!(in alloc; "lent {lent} stopped {}\n", end.stopped)?)
+}
