@@ -4,6 +4,7 @@ mod machine;
 mod step;
 
 use crate::line::read_line;
+use crate::log::add;
 use crate::time::{LIMIT, due, tick};
 use lift_module::{Cabin, Content, Door};
 use machine::{carry, post, stop, turn};
@@ -106,7 +107,7 @@ impl Lift {
     fn step(&mut self, text: &str, step: Step, log: &mut String) -> Result<(), Refusal> {
         let now = self.now;
         if step != Step::Nothing {
-            log.push_str(format!(in self.alloc; "{now} -- {text}\n")?.as_str())?;
+            add(log, format!(in self.alloc; "{now} -- {text}\n"))?;
         }
         match step {
             Step::Nothing => Ok(()),
@@ -129,7 +130,7 @@ impl Lift {
         let (alloc, now) = (self.alloc, self.now);
         match post(&mut self.cabin, Entry::Call, content)? {
             Some(number) => {
-                log.push_str(format!(in alloc; "{now} call {number}\n")?.as_str())?;
+                add(log, format!(in alloc; "{now} call {number}\n"))?;
                 Ok(())
             }
             None => self.note("not possible", log),
@@ -145,7 +146,7 @@ impl Lift {
     /// Writes down what happens.
     fn note(&self, text: &str, log: &mut String) -> Result<(), Refusal> {
         let (alloc, now) = (self.alloc, self.now);
-        log.push_str(format!(in alloc; "{now} {text}\n")?.as_str())?;
+        add(log, format!(in alloc; "{now} {text}\n"))?;
         Ok(())
     }
 }

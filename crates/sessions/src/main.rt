@@ -7,6 +7,7 @@ mod fault;
 mod keeper;
 mod lift;
 mod line;
+mod log;
 mod mail;
 mod server;
 mod session;

@@ -5,6 +5,7 @@ mod step;
 mod textual;
 
 use crate::line::read_line;
+use crate::log::add;
 use machine::{let_time_pass, post, tell_messages};
 use st_core::{Core, Entry, Refusal};
 use std::alloc::Global;
@@ -110,9 +111,10 @@ impl<M: Textual> Server<M> {
             return Ok(());
         };
         let latest = core.latest();
-        log.push_str(format!(in alloc;
-            "{latest} -- ended for the reason {reason}, with the word {word}\n"
-        )?.as_str())?;
+        add(
+            log,
+            format!(in alloc; "{latest} -- ended for the reason {reason}, with the word {word}\n"),
+        )?;
         self.core = None;
         Ok(())
     }
@@ -120,7 +122,7 @@ impl<M: Textual> Server<M> {
     /// Writes down what happens, behind a mark.
     fn note(&self, mark: &str, text: &str, log: &mut String) -> Result<(), Refusal> {
         let (alloc, now) = (self.alloc, self.now);
-        log.push_str(format!(in alloc; "{now} {mark} {text}\n")?.as_str())?;
+        add(log, format!(in alloc; "{now} {mark} {text}\n"))?;
         Ok(())
     }
 }

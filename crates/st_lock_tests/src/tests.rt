@@ -1,4 +1,5 @@
-//! What cells and machines answer to calls, with memory and while an allocation is refused, and what threads see.
+//! What cells and machines answer to calls, with memory and while an allocation is refused, what threads see, and what
+//! journals are when they are replayed.
 
 mod asked;
 mod begun;
@@ -16,6 +17,7 @@ mod pair;
 mod plain;
 mod played;
 mod relay;
+mod replays;
 mod row;
 mod shared;
 mod shows;

@@ -7,7 +7,6 @@ mod collection;
 mod directory;
 mod events;
 mod host;
-mod replays;
 mod runq;
 mod trace;
 mod words;

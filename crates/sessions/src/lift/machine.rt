@@ -1,5 +1,6 @@
 //! What the lift does with one of its machines.
 
+use crate::log::add;
 use crate::time::LIMIT;
 use lift_module::Content;
 use st_core::{Collected, Core, Done, Entry, Module, Refusal, Report, Turned};
@@ -16,10 +17,16 @@ fn tell_course<S: Copy + Eq + Debug>(
 ) -> Result<(), AllocError> {
     let (before, after) = (report.before, report.after);
     if before != after {
-        log.push_str(format!(in alloc; "{now} {name}: {before:?} -> {after:?}\n")?.as_str())?;
+        add(
+            log,
+            format!(in alloc; "{now} {name}: {before:?} -> {after:?}\n"),
+        )?;
     }
     if let (Done::PutOff, Some(event)) = (report.done, report.event) {
-        log.push_str(format!(in alloc; "{now} {name} postpones event {event}\n")?.as_str())?;
+        add(
+            log,
+            format!(in alloc; "{now} {name} postpones event {event}\n"),
+        )?;
     }
     Ok(())
 }
@@ -33,11 +40,17 @@ fn tell_asked<S>(
     log: &mut String,
 ) -> Result<(), AllocError> {
     for event in report.inserted.as_slice() {
-        log.push_str(format!(in alloc; "{now} {name} inserts event {event}\n")?.as_str())?;
+        add(
+            log,
+            format!(in alloc; "{now} {name} inserts event {event}\n"),
+        )?;
     }
     for asked in report.set.as_slice() {
         let (timer, decision) = *asked;
-        log.push_str(format!(in alloc; "{now} {name} timer {timer:?}: {decision:?}\n")?.as_str())?;
+        add(
+            log,
+            format!(in alloc; "{now} {name} timer {timer:?}: {decision:?}\n"),
+        )?;
     }
     Ok(())
 }
@@ -54,9 +67,10 @@ fn tell_replies<M: Module<Content = Content>>(
     for tag in report.replied.as_slice() {
         if let Collected::Reply(content) = core.collect(*tag) {
             let call = tag.request;
-            log.push_str(format!(in alloc;
-                "{now} {name} answers call {call}: {content:?}\n"
-            )?.as_str())?;
+            add(
+                log,
+                format!(in alloc; "{now} {name} answers call {call}: {content:?}\n"),
+            )?;
         }
     }
     Ok(())
@@ -107,7 +121,7 @@ pub fn carry<A: Module<Content = Content>, B: Module<Content = Content>>(
             break;
         };
         let content = message.content;
-        log.push_str(format!(in alloc; "{now} {name} sends {content:?}\n")?.as_str())?;
+        add(log, format!(in alloc; "{now} {name} sends {content:?}\n"))?;
         post(to, Entry::Info, content)?;
     }
     Ok(())
@@ -123,9 +137,10 @@ pub fn stop<M: Module>(
     if core.ended().is_none() {
         let now = core.latest();
         let word = core.stop(0)?;
-        log.push_str(format!(in alloc;
-            "{now} {name} is stopped, with the word {word}\n"
-        )?.as_str())?;
+        add(
+            log,
+            format!(in alloc; "{now} {name} is stopped, with the word {word}\n"),
+        )?;
     }
     Ok(())
 }

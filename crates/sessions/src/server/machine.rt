@@ -1,5 +1,6 @@
 //! What a server does with its machine.
 
+use crate::log::tell;
 use crate::server::Textual;
 use crate::time::{LIMIT, due, tick};
 use st_core::{Collected, Core, Entry, Refusal, Report, Turned};
@@ -15,8 +16,8 @@ fn tell_replies<M: Textual>(
     let now = core.latest();
     for tag in report.replied.as_slice() {
         if let Collected::Reply(content) = core.collect(*tag) {
-            let text = M::reply_text(alloc, content, report.after)?;
-            log.push_str(format!(in alloc; "{now} {text}\n")?.as_str())?;
+            let text = M::reply_text(alloc, content, report.after);
+            tell(alloc, now, text, log)?;
         }
     }
     Ok(())
@@ -33,8 +34,7 @@ pub fn tell_messages<M: Textual>(
         let Some(message) = core.take_out() else {
             break;
         };
-        let text = M::message_text(alloc, message.content)?;
-        log.push_str(format!(in alloc; "{now} {text}\n")?.as_str())?;
+        tell(alloc, now, M::message_text(alloc, message.content), log)?;
     }
     Ok(())
 }
