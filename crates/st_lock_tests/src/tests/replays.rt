@@ -4,15 +4,15 @@
 mod begun;
 mod changes;
 mod plain;
+mod player;
 mod told;
 
 use super::host::{Host, got, holds, same};
 use begun::{cell, is_made_again, machine};
 use changes::{Change, apply};
-use plain::Plain;
+use player::Player;
 use st_cell::{Entry, PlainList};
-use st_core::Core;
-use st_replay::{Replayed, replay};
+use st_replay::Replayed;
 use std::alloc::Global;
 use std::process::Abort;
 use told::{Line, Teller, Told};
@@ -75,17 +75,17 @@ fn behind(before: usize, rest: Replayed) -> Replayed {
 }
 
 /// Replays entries on a machine. Where it finds no memory, it goes on with the rest.
-fn replayed(
+fn replayed<P: Player>(
     rt: &Host<impl Abort>,
     alloc: Global,
-    core: &mut Core<Plain>,
+    player: &mut P,
     entries: &[Line],
 ) -> Replayed {
-    match replay(alloc, core, entries) {
+    match player.replay(alloc, entries) {
         Replayed::NoMemory(agreed) => {
             rt.retry();
             let rest = entries.get(agreed..).expect(rt, "there are so many");
-            behind(agreed, replay(alloc, core, rest))
+            behind(agreed, player.replay(alloc, rest))
         }
         other => other,
     }
@@ -173,29 +173,38 @@ fn a_replay_goes_on_behind_a_want_of_memory(rt: HostRuntime) {
 }
 
 /// Looks how the replay of a part ends, and in which state it leaves the machine.
-fn part_ends(
+fn part_ends<P: Player>(
     rt: &Host<impl Abort>,
     alloc: Global,
-    core: &mut Core<Plain>,
+    player: &mut P,
     part: &PlainList<Line>,
     wanted: (Replayed, u32),
 ) {
-    let ended = replayed(rt, alloc, core, part.as_slice());
-    same(rt, "the part's end", &(ended, core.state()), &wanted);
+    let ended = replayed(rt, alloc, player, part.as_slice());
+    same(rt, "the part's end", &(ended, player.state()), &wanted);
+}
+
+/// The day's journal is handed out in two parts. A machine replays both; another one does not begin with the second.
+fn parts_end<T: Teller, P: Player>(
+    rt: &Host<impl Abort>,
+    alloc: Global,
+    mut cell: T,
+    mut player: P,
+    mut other: P,
+) {
+    let (morning, evening) = DAY.split_at(7);
+    let first = journal_of(rt, &mut cell, morning);
+    let second = journal_of(rt, &mut cell, evening);
+    part_ends(rt, alloc, &mut player, &first, (Replayed::Same, 1));
+    part_ends(rt, alloc, &mut player, &second, (Replayed::Same, 1));
+    part_ends(rt, alloc, &mut other, &second, (Replayed::Differs(0), 0));
 }
 
 #[test]
 fn a_journal_that_was_handed_out_in_parts_is_replayed_part_after_part(rt: HostRuntime) {
     let rt = Host::new(rt);
     let alloc = rt.alloc();
-    let mut cell = cell(&rt, alloc);
-    let (morning, evening) = DAY.split_at(7);
-    let first = journal_of(&rt, &mut cell, morning);
-    let second = journal_of(&rt, &mut cell, evening);
-    let mut core = machine(&rt, alloc);
-    part_ends(&rt, alloc, &mut core, &first, (Replayed::Same, 1));
-    part_ends(&rt, alloc, &mut core, &second, (Replayed::Same, 1));
-    let mut other = machine(&rt, alloc);
-    part_ends(&rt, alloc, &mut other, &second, (Replayed::Differs(0), 0));
+    let (player, other) = (machine(&rt, alloc), machine(&rt, alloc));
+    parts_end(&rt, alloc, cell(&rt, alloc), player, other);
     rt.end();
 }

@@ -5,6 +5,7 @@ use super::host::{Host, holds};
 use super::opened::{cores_from, machine_id, opened, opened_with, with_reserved};
 use super::plain::Plain;
 use super::played::plays;
+use super::pooled::Pooled;
 use super::shown::{Shown, lost, moved, not_possible, posted, stopped};
 use super::told::{Wanted, does_all, hands_free};
 use super::whole::have_callers;
@@ -69,8 +70,8 @@ fn turned(content: u32, count: u64) -> [Wanted; 4] {
 }
 
 /// Looks which message the first worker carries, by its number and content.
-fn carries(rt: &impl Abort, pool: &PoolWorld<Plain>, wanted: Option<(u64, u32)>) {
-    let carried = match pool.carried(1) {
+fn carries<T: Pooled>(rt: &impl Abort, pool: &T, wanted: Option<(u64, u32)>) {
+    let carried = match pool.in_transit(1) {
         Some(message) => Some((message.number, message.content)),
         None => None,
     };
@@ -96,39 +97,43 @@ fn two_messages() -> [Wanted; 10] {
     ]
 }
 
+/// A pool of two workers and both machines.
+fn both(rt: &Host<impl Abort + AllocGlobal>) -> PoolWorld<Plain> {
+    opened(rt, rt.alloc(), 2, [sender(), target()].as_slice())
+}
+
+/// Does the steps of the two messages one by one.
+fn one_by_one<T: Pooled>(rt: &Host<impl Abort>, mut pool: T, wanted: &[Wanted]) {
+    does_all(rt, &mut pool, wanted);
+    have_callers(rt, &pool, first_token(target()));
+    let seen = pool.see(target()).expect(rt, "the target is there");
+    let counted = seen.count == Some(2);
+    holds(rt, "the target's post and its stop", counted);
+}
+
 #[test]
 fn one_message_arrives_and_one_is_lost(rt: HostRuntime) {
     let rt = Host::new(rt);
-    let ids = [sender(), target()];
     let wanted = two_messages();
-    let mut single = opened(&rt, rt.alloc(), 2, ids.as_slice());
-    does_all(&rt, &mut single, wanted.as_slice());
-    have_callers(&rt, &single, first_token(target()));
-    let counted = single.count(target()) == Some(2);
-    holds(&rt, "the target's post and its stop", counted);
-    let mut pool = opened(&rt, rt.alloc(), 2, ids.as_slice());
-    let mut without = opened(&rt, rt.alloc(), 2, ids.as_slice());
-    let mut again = opened(&rt, rt.alloc(), 2, ids.as_slice());
-    let pools = (&mut pool, &mut without, &mut again);
+    one_by_one(&rt, both(&rt), wanted.as_slice());
+    let pools = (both(&rt), both(&rt), both(&rt));
     plays(&rt, rt.alloc(), pools, wanted.as_slice());
     rt.end();
 }
 
-#[test]
-fn who_carries_does_nothing_else(rt: HostRuntime) {
-    let rt = Host::new(rt);
-    let ids = [sender(), target()];
-    let mut pool = opened(&rt, rt.alloc(), 2, ids.as_slice());
-    does_all(&rt, &mut pool, turned(5, 2).as_slice());
-    let none_carried = [
+/// What a worker does that carries nothing yet, and then carries the first message.
+fn none_carried() -> [Wanted; 4] {
+    [
         held(Step::Deliver(1), not_possible(), 2),
         held(Step::Carry(2), not_possible(), 2),
         held(Step::Turn(1, 0), moved(), 2),
         held(Step::Carry(1), moved(), 3),
-    ];
-    does_all(&rt, &mut pool, none_carried.as_slice());
-    carries(&rt, &pool, Some((1, 10)));
-    let carried = [
+    ]
+}
+
+/// What a worker that carries a message cannot do, nor another in its place.
+fn one_carried() -> [Wanted; 7] {
+    [
         held(Step::Carry(1), not_possible(), 3),
         held(Step::Turn(1, 0), not_possible(), 3),
         held(Step::PutBack(1), not_possible(), 3),
@@ -136,24 +141,39 @@ fn who_carries_does_nothing_else(rt: HostRuntime) {
         held(Step::Deliver(2), not_possible(), 3),
         held(Step::Deliver(0), not_possible(), 3),
         held(Step::Deliver(3), not_possible(), 3),
-    ];
-    does_all(&rt, &mut pool, carried.as_slice());
-    carries(&rt, &pool, Some((1, 10)));
+    ]
+}
+
+/// It delivers the message, once.
+fn one_delivered() -> [Wanted; 2] {
     let wake = Some(first_token(target()));
-    let delivered = [
+    [
         held(Step::Deliver(1), posted(1, wake), 3),
         held(Step::Deliver(1), not_possible(), 3),
-    ];
-    does_all(&rt, &mut pool, delivered.as_slice());
-    carries(&rt, &pool, None);
+    ]
+}
+
+/// A worker whose machine has sent two messages carries the first one.
+fn carries_alone<T: Pooled>(rt: &Host<impl Abort>, mut pool: T) {
+    does_all(rt, &mut pool, turned(5, 2).as_slice());
+    does_all(rt, &mut pool, none_carried().as_slice());
+    carries(rt, &pool, Some((1, 10)));
+    does_all(rt, &mut pool, one_carried().as_slice());
+    carries(rt, &pool, Some((1, 10)));
+    does_all(rt, &mut pool, one_delivered().as_slice());
+    carries(rt, &pool, None);
+}
+
+#[test]
+fn who_carries_does_nothing_else(rt: HostRuntime) {
+    let rt = Host::new(rt);
+    carries_alone(&rt, both(&rt));
     rt.end();
 }
 
 #[test]
 fn a_carry_wants_a_message(rt: HostRuntime) {
     let rt = Host::new(rt);
-    let ids = [sender(), target()];
-    let mut pool = opened(&rt, rt.alloc(), 2, ids.as_slice());
     let before = [
         hands_free(Step::Carry(1), not_possible(), 0),
         asked(0),
@@ -163,6 +183,7 @@ fn a_carry_wants_a_message(rt: HostRuntime) {
         held(Step::Carry(0), not_possible(), 1),
         held(Step::Carry(3), not_possible(), 1),
     ];
+    let mut pool = both(&rt);
     does_all(&rt, &mut pool, before.as_slice());
     rt.end();
 }
@@ -170,14 +191,13 @@ fn a_carry_wants_a_message(rt: HostRuntime) {
 #[test]
 fn a_machine_sends_to_itself(rt: HostRuntime) {
     let rt = Host::new(rt);
-    let ids = [sender(), target()];
-    let mut pool = opened(&rt, rt.alloc(), 2, ids.as_slice());
-    does_all(&rt, &mut pool, turned(6, 1).as_slice());
     let steps = [
         held(Step::Carry(1), moved(), 3),
         held(Step::Deliver(1), posted(2, None), 4),
         hands_free(Step::Turn(1, 0), Shown::Handled(2, Kind::Info), 5),
     ];
+    let mut pool = both(&rt);
+    does_all(&rt, &mut pool, turned(6, 1).as_slice());
     does_all(&rt, &mut pool, steps.as_slice());
     rt.end();
 }
@@ -185,14 +205,13 @@ fn a_machine_sends_to_itself(rt: HostRuntime) {
 #[test]
 fn a_message_to_nobody_is_lost(rt: HostRuntime) {
     let rt = Host::new(rt);
-    let ids = [sender(), target()];
-    let mut pool = opened(&rt, rt.alloc(), 2, ids.as_slice());
-    does_all(&rt, &mut pool, turned(7, 1).as_slice());
     let steps = [
         held(Step::Carry(1), moved(), 3),
         held(Step::Deliver(1), lost(Refusal::NoSuchMachine), 3),
         rests(3),
     ];
+    let mut pool = both(&rt);
+    does_all(&rt, &mut pool, turned(7, 1).as_slice());
     does_all(&rt, &mut pool, steps.as_slice());
     rt.end();
 }
@@ -216,8 +235,6 @@ fn with_last_number(rt: &Host<impl Abort>, alloc: Global, last: u64) -> PoolWorl
 fn a_message_past_the_last_number_is_lost(rt: HostRuntime) {
     let rt = Host::new(rt);
     let last = NUMBER_LIMIT - 1;
-    let mut pool = with_last_number(&rt, rt.alloc(), last);
-    does_all(&rt, &mut pool, turned(5, 2).as_slice());
     let wake = Some(first_token(target()));
     let steps = [
         held(Step::Carry(1), moved(), 3),
@@ -226,6 +243,8 @@ fn a_message_past_the_last_number_is_lost(rt: HostRuntime) {
         held(Step::Deliver(1), lost(Refusal::Exhausted), 4),
         rests(4),
     ];
+    let mut pool = with_last_number(&rt, rt.alloc(), last);
+    does_all(&rt, &mut pool, turned(5, 2).as_slice());
     does_all(&rt, &mut pool, steps.as_slice());
     rt.end();
 }
@@ -233,9 +252,6 @@ fn a_message_past_the_last_number_is_lost(rt: HostRuntime) {
 #[test]
 fn a_message_outlasts_its_sender(rt: HostRuntime) {
     let rt = Host::new(rt);
-    let ids = [sender(), target()];
-    let mut pool = opened(&rt, rt.alloc(), 2, ids.as_slice());
-    does_all(&rt, &mut pool, turned(5, 2).as_slice());
     let token = first_token(sender());
     let wake = Some(first_token(target()));
     let steps = [
@@ -253,30 +269,35 @@ fn a_message_outlasts_its_sender(rt: HostRuntime) {
         held(Step::Deliver(1), posted(2, None), 5),
         rests(5),
     ];
+    let mut pool = both(&rt);
+    does_all(&rt, &mut pool, turned(5, 2).as_slice());
     does_all(&rt, &mut pool, steps.as_slice());
     rt.end();
 }
 
-#[test]
-fn a_delivery_wakes_its_target(rt: HostRuntime) {
-    let rt = Host::new(rt);
-    let ids = [sender(), target()];
-    let mut pool = opened(&rt, rt.alloc(), 2, ids.as_slice());
-    does_all(&rt, &mut pool, turned(5, 2).as_slice());
+/// A message is carried and delivered, and the worker of its target takes the token that it woke.
+fn wakes<T: Pooled>(rt: &Host<impl Abort>, mut pool: T) {
+    does_all(rt, &mut pool, turned(5, 2).as_slice());
     let woken = first_token(target());
-    let both = [Some(first_token(sender())), Some(woken)];
     let delivered = [
         held(Step::Carry(1), moved(), 3),
         held(Step::Deliver(1), posted(1, Some(woken)), 3),
     ];
-    does_all(&rt, &mut pool, delivered.as_slice());
-    have_callers(&rt, &pool, woken);
+    does_all(rt, &mut pool, delivered.as_slice());
+    have_callers(rt, &pool, woken);
     let handled = Shown::Handled(1, Kind::Info);
+    let both = [Some(first_token(sender())), Some(woken)];
     let steps = [
         held(Step::Give(woken, 0), moved(), 3),
         hands_free(Step::Take(2, 0), moved(), 3).holding(both),
         held(Step::Turn(2, 0), handled, 3),
     ];
-    does_all(&rt, &mut pool, steps.as_slice());
+    does_all(rt, &mut pool, steps.as_slice());
+}
+
+#[test]
+fn a_delivery_wakes_its_target(rt: HostRuntime) {
+    let rt = Host::new(rt);
+    wakes(&rt, both(&rt));
     rt.end();
 }

@@ -71,21 +71,16 @@ fn does_without<T: Pooled>(
 
 /// Does steps as one list, and looks at their answers. Where one of them found no memory, all is as by the others
 /// alone, each by itself in another pool, and the list is played in a third; so all three begin alike.
-pub fn plays<T: Pooled>(
-    rt: &Host<impl Abort>,
-    alloc: Global,
-    pools: (&mut T, &mut T, &mut T),
-    wanted: &[Wanted],
-) {
-    let (pool, without, again) = pools;
-    let mut answers = play(rt, alloc, pool, wanted);
+pub fn plays<T: Pooled>(rt: &Host<impl Abort>, alloc: Global, pools: (T, T, T), wanted: &[Wanted]) {
+    let (mut pool, mut without, mut again) = pools;
+    let mut answers = play(rt, alloc, &mut pool, wanted);
     holds(rt, "how many answers", answers.len() == wanted.len());
     if answers.as_slice().iter().any(found_no_memory) {
-        does_without(rt, without, wanted, answers.as_slice());
-        let is_alike = read_all(rt, pool) == read_all(rt, without);
+        does_without(rt, &mut without, wanted, answers.as_slice());
+        let is_alike = read_all(rt, &pool) == read_all(rt, &without);
         holds(rt, "all is as by the others alone", is_alike);
         rt.retry();
-        answers = play(rt, alloc, again, wanted);
+        answers = play(rt, alloc, &mut again, wanted);
         holds(rt, "how many answers", answers.len() == wanted.len());
     }
     for (row, (answer, one)) in answers.as_slice().iter().zip(wanted.iter()).enumerate() {

@@ -2,6 +2,7 @@
 use super::host::{Host, holds};
 use super::opened::{are_of, cores, machine_id, opened};
 use super::plain::Plain;
+use super::pooled::Pooled;
 use super::shown::{moved, posted, refusing, stopped};
 use super::shows::shows;
 use super::told::{cast, content_in, copy_of, does};
@@ -42,13 +43,13 @@ fn with_tokens(rt: &Host<impl Abort>, alloc: Global) -> PoolWorld<Plain> {
 
 /// Does steps that are refused for these reasons. The content that a step holds comes back, and nothing changes. None
 /// of them takes memory.
-fn all_refused(rt: &Host<impl Abort>, pool: &mut PoolWorld<Plain>, steps: &[(Step<u32>, Refusal)]) {
-    let before = read_all(rt, pool);
+fn all_refused<T: Pooled>(rt: &Host<impl Abort>, mut pool: T, steps: &[(Step<u32>, Refusal)]) {
+    let before = read_all(rt, &pool);
     for (row, (step, refusal)) in steps.iter().enumerate() {
         let wanted = refusing(*refusal, content_in(step));
-        let answer = pool.step(copy_of(step));
+        let answer = pool.do_step(copy_of(step));
         shows(rt, row, "why it is refused", answer == wanted);
-        let is_as_before = read_all(rt, pool) == before;
+        let is_as_before = read_all(rt, &pool) == before;
         shows(rt, row, "a refusal changes nothing", is_as_before);
     }
 }
@@ -56,7 +57,6 @@ fn all_refused(rt: &Host<impl Abort>, pool: &mut PoolWorld<Plain>, steps: &[(Ste
 #[test]
 fn what_is_not_there_is_refused(rt: HostRuntime) {
     let rt = Host::new(rt);
-    let mut pool = with_tokens(&rt, rt.alloc());
     let id = machine_id(4);
     let tag = Tag::new(id, 1);
     let steps = [
@@ -77,14 +77,13 @@ fn what_is_not_there_is_refused(rt: HostRuntime) {
         (Step::Drop(0), Refusal::NotPossible),
         (Step::Drop(3), Refusal::NotPossible),
     ];
-    all_refused(&rt, &mut pool, steps.as_slice());
+    all_refused(&rt, with_tokens(&rt, rt.alloc()), steps.as_slice());
     rt.end();
 }
 
 #[test]
 fn what_is_elsewhere_is_refused(rt: HostRuntime) {
     let rt = Host::new(rt);
-    let mut pool = with_tokens(&rt, rt.alloc());
     let steps = [
         (Step::Give(token(0, 1), 0), Refusal::NotPossible),
         (Step::Give(token(3, 1), 0), Refusal::NotPossible),
@@ -98,14 +97,13 @@ fn what_is_elsewhere_is_refused(rt: HostRuntime) {
         (Step::PutBack(1), Refusal::NotPossible),
         (Step::Drop(1), Refusal::NotPossible),
     ];
-    all_refused(&rt, &mut pool, steps.as_slice());
+    all_refused(&rt, with_tokens(&rt, rt.alloc()), steps.as_slice());
     rt.end();
 }
 
 #[test]
 fn what_a_machine_refuses_is_refused(rt: HostRuntime) {
     let rt = Host::new(rt);
-    let mut pool = with_tokens(&rt, rt.alloc());
     let ended = machine_id(2);
     let steps = [
         (Step::Post(ended, Entry::Call, 8), Refusal::Stopped(3)),
@@ -114,7 +112,7 @@ fn what_a_machine_refuses_is_refused(rt: HostRuntime) {
         (Step::Tick(machine_id(0), MOMENT_LIMIT), Refusal::Moment),
         (Step::Turn(2, MOMENT_LIMIT), Refusal::Moment),
     ];
-    all_refused(&rt, &mut pool, steps.as_slice());
+    all_refused(&rt, with_tokens(&rt, rt.alloc()), steps.as_slice());
     rt.end();
 }
 
