@@ -94,20 +94,28 @@ fn replayed<P: Player>(
 /// A change of the day's journal, how the replay ends, and the state in which it leaves the machine.
 type Row = (Change, Replayed, u32);
 
-/// The entries of the day, changed.
-fn changed(rt: &Host<impl Abort>, alloc: Global, change: Change) -> Vec<Line> {
-    let mut cell = cell(rt, alloc);
+/// The entries of the day of a cell, changed.
+fn changed<T: Teller>(rt: &Host<impl Abort>, mut cell: T, change: Change) -> Vec<Line> {
     let mut entries = journal_of(rt, &mut cell, DAY.as_slice()).into_vec();
     apply(&mut entries, change);
     entries
 }
 
+/// Replays entries: how that ends, and the state in which it leaves the machine.
+fn ended<P: Player>(
+    rt: &Host<impl Abort>,
+    alloc: Global,
+    mut player: P,
+    entries: &[Line],
+) -> (Replayed, u32) {
+    let ended = replayed(rt, alloc, &mut player, entries);
+    (ended, player.state())
+}
+
 /// Replays the day with a change: how that ends, and the state in which it leaves the machine.
 fn ends(rt: &Host<impl Abort>, alloc: Global, change: Change) -> (Replayed, u32) {
-    let entries = changed(rt, alloc, change);
-    let mut core = machine(rt, alloc);
-    let ended = replayed(rt, alloc, &mut core, entries.as_slice());
-    (ended, core.state())
+    let entries = changed(rt, cell(rt, alloc), change);
+    ended(rt, alloc, machine(rt, alloc), entries.as_slice())
 }
 
 /// The replays of the day, changed as each row says, end as it says.
