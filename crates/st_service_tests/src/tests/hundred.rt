@@ -60,37 +60,42 @@ fn come_each<R: Threads>(rt: &impl Abort, belfry: &Belfry<R>, bells: &[MachineId
     }
 }
 
-#[test]
-fn each_of_a_hundred_rings_in_its_time(rt: HostRuntime) {
-    let threads = rt;
-    let rt = Host::with_memory(rt);
-    let belfry = no_bell(&rt, threads);
+/// A hundred bells tell each other when to ring.
+fn rings_a_hundred<R: Threads>(rt: &Host<impl Abort + AllocGlobal>, threads: R) {
+    let belfry = no_bell(rt, threads);
     let mut bells = Vec::new(rt.alloc());
     for _ in 0..100 {
-        let id = belfry.starts(&rt, HOUR);
-        bells.push(id).expect(&rt, "a place");
+        let id = belfry.starts(rt, HOUR);
+        bells.push(id).expect(rt, "a place");
     }
-    let mut pool = belfry.pool(&rt);
-    let scheduler = pool.pool().scheduler().expect(&rt, "a scheduler");
-    let start = got(&rt, "the clock is read", Instant::now(&threads));
-    tell_each(&rt, &belfry, bells.as_slice(), &scheduler);
-    ring_each(&rt, &belfry, bells.as_slice());
+    let mut pool = belfry.pool(rt);
+    let scheduler = pool.pool().scheduler().expect(rt, "a scheduler");
+    let start = got(rt, "the clock is read", Instant::now(&threads));
+    tell_each(rt, &belfry, bells.as_slice(), &scheduler);
+    ring_each(rt, &belfry, bells.as_slice());
     // A quarter of them ring 50 milliseconds after they were told.
-    belfry.is_not_early(&rt, start, 49);
+    belfry.is_not_early(rt, start, 49);
     pool.pool().drain();
-    let end = got(&rt, "there is memory", pool.close());
-    same(&rt, "ticks in all", &end.ticks, &50);
+    let end = got(rt, "there is memory", pool.close());
+    same(rt, "ticks in all", &end.ticks, &50);
     holds(
-        &rt,
+        rt,
         "no token is left",
         end.left == None && end.pool.left.is_empty(),
     );
-    ring_each(&rt, &belfry, bells.as_slice());
-    come_each(&rt, &belfry, bells.as_slice());
+    ring_each(rt, &belfry, bells.as_slice());
+    come_each(rt, &belfry, bells.as_slice());
     drop(end);
     drop(scheduler);
     drop(pool);
     drop(bells);
     drop(belfry);
+}
+
+#[test]
+fn each_of_a_hundred_rings_in_its_time(rt: HostRuntime) {
+    let threads = rt;
+    let rt = Host::with_memory(rt);
+    rings_a_hundred(&rt, threads);
     rt.end_with_memory();
 }

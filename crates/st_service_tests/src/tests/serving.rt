@@ -1,38 +1,44 @@
 //! Clerks are hired, told, asked, and refuse what is too much.
 use super::host::{Host, got, holds, same};
-use super::house::{ALONE, OPTIONS, asks, hires, house, is_busy, sums, tells};
+use super::house::{ALONE, OPTIONS, Threads, asks, hires, house, is_busy, sums, tells};
 use crate::{Clerk, Order};
 use st_service::{Called, Nobody, Options, Refusal, Refused, Unspawned};
+use std::process::Abort;
+
+/// A clerk is told, and asked for the sum, by name too, and shut down.
+fn is_told_and_asked<R: Threads>(rt: &Host<impl Abort + AllocGlobal>, threads: R) {
+    let mut house = house(rt, threads, OPTIONS, Nobody);
+    let (id, mut hatch) = hires(rt, &house, Some("anna"), ALONE);
+    for more in 1..=10 {
+        tells(rt, &mut hatch, Order::Add(more));
+    }
+    same(rt, "the sum", &asks(rt, &mut hatch), &55);
+    got(rt, "he is told a message", hatch.info(Order::Add(1)));
+    let request = got(rt, "he is asked", hatch.send_request(Order::Ask));
+    same(rt, "the next sum", &asks(rt, &mut hatch), &56);
+    let look = got(rt, "there is memory", hatch.look());
+    holds(
+        rt,
+        "he was told so often",
+        look.mine == 14 && hatch.count() == 14,
+    );
+    holds(rt, "his journal is short", look.numbers.len() <= 13);
+    same(rt, "by name", &house.whereis("anna"), &Ok(id));
+    holds(rt, "one clerk", house.len() == 1 && !house.is_empty());
+    let taken = house.spawn(Some("anna"), ALONE, &());
+    holds(rt, "the name is taken", is_taken(taken.err(), id));
+    let end = got(rt, "there is memory", house.shut_down(7));
+    holds(rt, "one was stopped", end.stopped == 1 && end.events == 0);
+    drop(request);
+    drop(hatch);
+    drop(house);
+}
 
 #[test]
 fn a_clerk_is_told_and_asked(rt: HostRuntime) {
     let threads = rt;
     let rt = Host::with_memory(rt);
-    let mut house = house(&rt, threads, OPTIONS, Nobody);
-    let (id, mut hatch) = hires(&rt, &house, Some("anna"), ALONE);
-    for more in 1..=10 {
-        tells(&rt, &mut hatch, Order::Add(more));
-    }
-    same(&rt, "the sum", &asks(&rt, &mut hatch), &55);
-    got(&rt, "he is told a message", hatch.info(Order::Add(1)));
-    let request = got(&rt, "he is asked", hatch.send_request(Order::Ask));
-    same(&rt, "the next sum", &asks(&rt, &mut hatch), &56);
-    let look = got(&rt, "there is memory", hatch.look());
-    holds(
-        &rt,
-        "he was told so often",
-        look.mine == 14 && hatch.count() == 14,
-    );
-    holds(&rt, "his journal is short", look.numbers.len() <= 13);
-    same(&rt, "by name", &house.whereis("anna"), &Ok(id));
-    holds(&rt, "one clerk", house.len() == 1 && !house.is_empty());
-    let taken = house.spawn(Some("anna"), ALONE, &());
-    holds(&rt, "the name is taken", is_taken(taken.err(), id));
-    let end = got(&rt, "there is memory", house.shut_down(7));
-    holds(&rt, "one was stopped", end.stopped == 1 && end.events == 0);
-    drop(request);
-    drop(hatch);
-    drop(house);
+    is_told_and_asked(&rt, threads);
     rt.end_with_memory();
 }
 
@@ -46,32 +52,35 @@ fn is_taken(refused: Option<Unspawned<Clerk>>, id: st_service::MachineId) -> boo
     }
 }
 
+/// A clerk at rest is called a hundred times, and no worker has a turn.
+fn makes_his_turns<R: Threads>(rt: &Host<impl Abort + AllocGlobal>, threads: R) {
+    let mut house = house(rt, threads, OPTIONS, Nobody);
+    let (_, mut hatch) = hires(rt, &house, None, ALONE);
+    for _ in 0..100 {
+        same(rt, "nothing yet", &asks(rt, &mut hatch), &0);
+    }
+    let end = got(rt, "there is memory", house.shut_down(7));
+    same(rt, "no worker had a turn", &end.turns, &0);
+    drop(end);
+    drop(hatch);
+    drop(house);
+}
+
 #[test]
 fn who_calls_a_clerk_at_rest_makes_his_turn(rt: HostRuntime) {
     let threads = rt;
     let rt = Host::with_memory(rt);
-    let mut house = house(&rt, threads, OPTIONS, Nobody);
-    let (_, mut hatch) = hires(&rt, &house, None, ALONE);
-    for _ in 0..100 {
-        same(&rt, "nothing yet", &asks(&rt, &mut hatch), &0);
-    }
-    let end = got(&rt, "there is memory", house.shut_down(7));
-    same(&rt, "no worker had a turn", &end.turns, &0);
-    drop(end);
-    drop(hatch);
-    drop(house);
+    makes_his_turns(&rt, threads);
     rt.end_with_memory();
 }
 
-#[test]
-fn what_a_call_leaves_is_the_workers(rt: HostRuntime) {
-    let threads = rt;
-    let rt = Host::with_memory(rt);
-    let house = house(&rt, threads, OPTIONS, Nobody);
-    let (_, mut hatch) = hires(&rt, &house, None, ALONE);
-    let taken = got(&rt, "he is asked", hatch.call(Order::Take(5)));
+/// A call leaves an event, which a worker handles.
+fn leaves_a_turn<R: Threads>(rt: &Host<impl Abort + AllocGlobal>, threads: R) {
+    let house = house(rt, threads, OPTIONS, Nobody);
+    let (_, mut hatch) = hires(rt, &house, None, ALONE);
+    let taken = got(rt, "he is asked", hatch.call(Order::Take(5)));
     holds(
-        &rt,
+        rt,
         "the sum before",
         matches!(taken, Called::Reply(Order::Sum(0))),
     );
@@ -82,60 +91,77 @@ fn what_a_call_leaves_is_the_workers(rt: HostRuntime) {
         }
         std::thread::sleep(&threads, std::time::Duration::from_millis(1));
     }
-    same(&rt, "it was added", &asks(&rt, &mut hatch), &5);
+    same(rt, "it was added", &asks(rt, &mut hatch), &5);
     drop(taken);
     drop(hatch);
     drop(house);
+}
+
+#[test]
+fn what_a_call_leaves_is_the_workers(rt: HostRuntime) {
+    let threads = rt;
+    let rt = Host::with_memory(rt);
+    leaves_a_turn(&rt, threads);
     rt.end_with_memory();
+}
+
+/// A clerk sets a time-out, which comes.
+fn lets_time_pass<R: Threads>(rt: &Host<impl Abort + AllocGlobal>, threads: R) {
+    let house = house(rt, threads, OPTIONS, Nobody);
+    let (_, mut hatch) = hires(rt, &house, None, ALONE);
+    tells(rt, &mut hatch, Order::Later(2));
+    sums(rt, threads, &mut hatch, 1);
+    drop(hatch);
+    drop(house);
 }
 
 #[test]
 fn a_time_out_comes_by_itself(rt: HostRuntime) {
     let threads = rt;
     let rt = Host::with_memory(rt);
-    let house = house(&rt, threads, OPTIONS, Nobody);
-    let (_, mut hatch) = hires(&rt, &house, None, ALONE);
-    tells(&rt, &mut hatch, Order::Later(2));
-    sums(&rt, threads, &mut hatch, 1);
-    drop(hatch);
-    drop(house);
+    lets_time_pass(&rt, threads);
     rt.end_with_memory();
 }
 
-#[test]
-fn a_busy_clerk_refuses_and_takes_again(rt: HostRuntime) {
-    let threads = rt;
-    let rt = Host::with_memory(rt);
+/// A clerk at whom as many events wait as may refuses one more, and takes it later.
+fn is_busy_for_a_while<R: Threads>(rt: &Host<impl Abort + AllocGlobal>, threads: R) {
     let few = Options {
         waiting: 3,
         ..OPTIONS
     };
-    let house = house(&rt, threads, few, Nobody);
-    let (shut, mut hatch) = hires(&rt, &house, None, ALONE);
-    let (_, mut other) = hires(&rt, &house, None, ALONE);
-    tells(&rt, &mut hatch, Order::Shut);
-    same(&rt, "nothing yet", &asks(&rt, &mut hatch), &0);
+    let house = house(rt, threads, few, Nobody);
+    let (shut, mut hatch) = hires(rt, &house, None, ALONE);
+    let (_, mut other) = hires(rt, &house, None, ALONE);
+    tells(rt, &mut hatch, Order::Shut);
+    same(rt, "nothing yet", &asks(rt, &mut hatch), &0);
     for _ in 0..3 {
-        tells(&rt, &mut hatch, Order::Add(5));
+        tells(rt, &mut hatch, Order::Add(5));
     }
-    is_busy(&rt, hatch.cast(Order::Add(6)), Order::Add(6));
-    holds(&rt, "nor is he asked", hatch.call(Order::Ask).is_err());
-    same(&rt, "nothing was posted", &hatch.count(), &5);
+    is_busy(rt, hatch.cast(Order::Add(6)), Order::Add(6));
+    holds(rt, "nor is he asked", hatch.call(Order::Ask).is_err());
+    same(rt, "nothing was posted", &hatch.count(), &5);
     // A message from another machine comes in all the same.
-    tells(&rt, &mut other, Order::Tell(shut));
-    let machine = got(&rt, "he is there", house.machine(shut));
+    tells(rt, &mut other, Order::Tell(shut));
+    let machine = got(rt, "he is there", house.machine(shut));
     for _ in 0..40_000 {
         if machine.waiting(&threads) == 0 {
             break;
         }
         std::thread::sleep(&threads, std::time::Duration::from_millis(1));
     }
-    same(&rt, "what waited was added", &asks(&rt, &mut hatch), &15);
-    tells(&rt, &mut hatch, Order::Add(6));
-    same(&rt, "and more", &asks(&rt, &mut hatch), &21);
+    same(rt, "what waited was added", &asks(rt, &mut hatch), &15);
+    tells(rt, &mut hatch, Order::Add(6));
+    same(rt, "and more", &asks(rt, &mut hatch), &21);
     drop(machine);
     drop(other);
     drop(hatch);
     drop(house);
+}
+
+#[test]
+fn a_busy_clerk_refuses_and_takes_again(rt: HostRuntime) {
+    let threads = rt;
+    let rt = Host::with_memory(rt);
+    is_busy_for_a_while(&rt, threads);
     rt.end_with_memory();
 }

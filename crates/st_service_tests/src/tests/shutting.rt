@@ -1,72 +1,76 @@
 //! Clerks are shut down while they work.
 use super::host::{Host, got, holds, same};
-use super::house::{ALONE, OPTIONS, hires, house, tells};
+use super::house::{ALONE, OPTIONS, Threads, hires, house, tells};
 use crate::{Clerk, Order};
 use st_service::{MachineId, Nobody, Options, Refusal, Refused, Unposted, Unspawned};
+use std::process::Abort;
 
-#[test]
-fn a_thousand_are_shut_down_while_they_work(rt: HostRuntime) {
-    let threads = rt;
-    let rt = Host::with_memory(rt);
-    let mut house = house(&rt, threads, OPTIONS, Nobody);
+/// A thousand clerks who have something to do are shut down.
+fn shuts_a_thousand<R: Threads>(rt: &Host<impl Abort + AllocGlobal>, threads: R) {
+    let mut house = house(rt, threads, OPTIONS, Nobody);
     let mut hatches = Vec::new(rt.alloc());
     for _ in 0..1_000 {
-        let (_, mut hatch) = hires(&rt, &house, None, ALONE);
-        tells(&rt, &mut hatch, Order::Spin);
-        hatches.push(hatch).expect(&rt, "a place");
+        let (_, mut hatch) = hires(rt, &house, None, ALONE);
+        tells(rt, &mut hatch, Order::Spin);
+        hatches.push(hatch).expect(rt, "a place");
     }
-    let end = got(&rt, "there is memory", house.shut_down(7));
+    let end = got(rt, "there is memory", house.shut_down(7));
     holds(
-        &rt,
+        rt,
         "each was stopped with what it was at",
         end.stopped == 1_000 && end.events == 1_000 && end.unstopped == 0,
     );
     for hatch in hatches.iter_mut() {
         let ended = hatch.machine().ended(&threads);
-        holds(&rt, "it has ended", ended == Some((7, 0)));
+        holds(rt, "it has ended", ended == Some((7, 0)));
         let refused = Unposted::Refused(Refused::new(Refusal::Stopped(7), Order::Spin));
-        same(&rt, "it refuses", &hatch.cast(Order::Spin), &Err(refused));
+        same(rt, "it refuses", &hatch.cast(Order::Spin), &Err(refused));
     }
     let closed = house.spawn(None, ALONE, &());
     holds(
-        &rt,
+        rt,
         "none starts",
         matches!(closed, Err(Unspawned::Closed(_))),
     );
-    let again = got(&rt, "there is memory", house.shut_down(8));
-    holds(&rt, "none is stopped again", again.stopped == 0);
+    let again = got(rt, "there is memory", house.shut_down(8));
+    holds(rt, "none is stopped again", again.stopped == 0);
     drop(again);
     drop(end);
     drop(hatches);
     drop(house);
-    rt.end_with_memory();
 }
 
 #[test]
-fn a_message_that_is_left_is_handed_out(rt: HostRuntime) {
+fn a_thousand_are_shut_down_while_they_work(rt: HostRuntime) {
     let threads = rt;
     let rt = Host::with_memory(rt);
+    shuts_a_thousand(&rt, threads);
+    rt.end_with_memory();
+}
+
+/// A clerk who bounces to himself is shut down, and no turn is made any more.
+fn hands_a_message_out<R: Threads>(rt: &Host<impl Abort + AllocGlobal>, threads: R) {
     let none = Options {
         turns: 0,
         ..OPTIONS
     };
-    let mut house = house(&rt, threads, none, Nobody);
+    let mut house = house(rt, threads, none, Nobody);
     // The first machine of a service has this id: he bounces to himself.
     let own = MachineId { slot: 0, serial: 1 };
-    let (id, mut hatch) = hires(&rt, &house, None, Clerk { partner: own });
-    same(&rt, "his id", &id, &own);
-    tells(&rt, &mut hatch, Order::Bounce);
-    let end = got(&rt, "there is memory", house.shut_down(7));
+    let (id, mut hatch) = hires(rt, &house, None, Clerk { partner: own });
+    same(rt, "his id", &id, &own);
+    tells(rt, &mut hatch, Order::Bounce);
+    let end = got(rt, "there is memory", house.shut_down(7));
     let messages = end.messages.len() as u64;
     same(
-        &rt,
+        rt,
         "it waits, or is on its way",
         &end.events.saturating_add(messages),
         &1,
     );
     for message in end.messages.iter() {
         holds(
-            &rt,
+            rt,
             "to himself",
             message.target == own && message.content == Order::Bounce,
         );
@@ -74,5 +78,12 @@ fn a_message_that_is_left_is_handed_out(rt: HostRuntime) {
     drop(end);
     drop(hatch);
     drop(house);
+}
+
+#[test]
+fn a_message_that_is_left_is_handed_out(rt: HostRuntime) {
+    let threads = rt;
+    let rt = Host::with_memory(rt);
+    hands_a_message_out(&rt, threads);
     rt.end_with_memory();
 }
