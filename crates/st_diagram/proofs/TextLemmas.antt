@@ -6,13 +6,20 @@ use Rattle.std.proofs.lemmas.Option.{slice_get_within, get_or_from_slice_get}
 use Rattle.std.specs.List.{flat_map}
 
 module _ {X : Type 0} (f : X → List ℕ) where
-  -- one piece more
+  -- one piece more, of the element at an index; past the end there would be another
+  pub one_index_more : (i : ℕ) (xs : List X) (other : X) (front before pushed after : List ℕ)
+      → i < length xs → before ≡ front ++ flat_map f (take i xs) → pushed ≡ f (get_or xs i other) → after ≡ before ++ pushed
+      → after ≡ front ++ flat_map f (take (i + 1) xs)
+  one_index_more i xs other front before pushed after within so_far prints grows =
+      let more : take (i + 1) xs ≡ take i xs ++ get_or xs i other ∷ [] = take_more xs i other within in
+      rw (grows, prints, so_far, more, flat_map-append) (simp (append_assoc, append-nil))
+
+  -- the same of an element that is named
   pub one_piece_more : (i : ℕ) (xs : List X) (x : X) (front before pushed after : List ℕ)
       → i < length xs → x ≡ get_or xs i x → before ≡ front ++ flat_map f (take i xs) → pushed ≡ f x → after ≡ before ++ pushed
       → after ≡ front ++ flat_map f (take (i + 1) xs)
   one_piece_more i xs x front before pushed after within is so_far prints grows =
-      let more : take (i + 1) xs ≡ take i xs ++ x ∷ [] = take_more xs i x within ∙ ap (λ e. take i xs ++ e ∷ []) (sym is) in
-      rw (grows, prints, so_far, more, flat_map-append) (simp (append_assoc, append-nil))
+      one_index_more i xs x front before pushed after within so_far (prints ∙ ap f is) grows
 
   -- the same of an element that was looked up
   pub one_found_more : (i : ℕ) (xs : List X) (x : X) (front before pushed after : List ℕ)

@@ -7,6 +7,8 @@ mod collection;
 mod directory;
 mod events;
 mod host;
+mod json;
 mod runq;
+mod sequence;
 mod trace;
 mod words;

@@ -2,7 +2,7 @@
 //! again.
 ghost use Rattle.std.specs.Prelude.{codes, if◌then◌else◌};
 
-mod rows;
+pub mod rows;
 
 use super::host::{Host, got, same};
 use rows::{Row, Turn, journal};
@@ -28,7 +28,7 @@ impl StateNames<bool> for Names {
 }
 
 /// The journal of the rows. Where memory was refused, it is made again.
-fn journal_of(
+pub fn journal_of(
     rt: &Host<impl Abort>,
     alloc: Global,
     from: u64,
