@@ -1,5 +1,6 @@
 -- Doors that are ticked late: what is seen of them, and that it stays so.
 use Rattle.std.proofs.Common.{◌≡◌, ℕ, zero, suc, ◌+◌, ◌^◌, ◌<◌, ◌≤◌, nat_lt, Bool, true, false, ◌&&◌, List, [], ◌∷◌, ◌++◌, length, get_or, set, map, Option, Some, None, is_none, is_some, IfSome, IfNone, Ok, Err, refl, ap, sym, ◌∙◌, arith, inl, inr}
+use Rattle.std.specs.Global.{Box}
 use Rattle.std.specs.List.{find, flat_map}
 use Rattle.std.proofs.lemmas.Bool.{cases_Bool}
 use Rattle.std.proofs.lemmas.List.{length-set}
@@ -20,7 +21,7 @@ use Rattle.st_cell.specs.declared.source.Source.{Source}
 use Rattle.st_cell.specs.declared.source.Source.TheVariants as source
 use Rattle.st_door.specs.declared.door_content.DoorContent.{DoorContent}
 use Rattle.st_door.specs.Doors.{DoorAnswer, DoorMachine, History, IsFirst, IsKept, KeptDoor, NamedDoor, SameLabels, all_expired_of, count_in, door_callbacks, door_named, door_of, door_told_by, expired_of, has_name, history_told, is_over, is_ready_door, kept_of, kept_told_by, names_of, slots_of, ticked_doors, told_door, told_kept, without_door}
-use Rattle.st_door.specs.Entries.{DoorCellState, door_in, machine_in}
+use Rattle.st_door.specs.Entries.{DoorCellState, door_in, machine_in, past_in}
 use Rattle.st_door.specs.Late.{AreInTime, IsInTime, IsQuietAt, IsQuietUntil, caught_by, caught_kept, caught_up, is_late, later, later_by}
 use Rattle.st_door.specs.Lines.{space}
 use Rattle.st_door.specs.Settling.{has_id}
@@ -485,9 +486,13 @@ module _ (late due place : ℕ) (one two : List NamedDoor) (caught : two ≡ cau
         (quiet-lower low until (kept_of (get_or (told_at source command place (caught_at late place one)) place no_door)) second here))
 
 -- ---- a door whose history is not kept
-pub quiet-cell : (keeps : Bool) (due : ℕ) (cell : DoorCellState) → keeps ≡ false → IsQuietUntil due (record { machine = machine_in cell; history = None }) → IsQuietUntil due (door_in keeps cell)
-quiet-cell keeps due cell not until = rw not until
+pub quiet-cell : (past : Option History) (due : ℕ) (cell : DoorCellState) → past ≡ None → IsQuietUntil due (record { machine = machine_in cell; history = None }) → IsQuietUntil due (door_in past cell)
+quiet-cell past due cell not until = rw not until
 
 pub none-when : {X : Type 0} (o : Option X) → is_some o ≡ false → o ≡ None
 none-when None is = refl
 none-when (Some x) is = cc
+
+pub not-kept : (past : Option (Box History)) → is_some past ≡ false → past_in past ≡ None
+not-kept None is = refl
+not-kept (Some past) is = cc

@@ -17,3 +17,4 @@ pub mod TickingLemmas
 pub mod ScriptLemmas
 pub mod ForgettingLemmas
 pub mod PlacesLemmas
+pub mod PastLemmas

@@ -1,5 +1,7 @@
 -- The entries of the map of doors, as doors with their names.
-use Rattle.std.specs.Prelude.{◌≡◌, ◌+◌, Bool, true, if◌then◌else◌, List, ◌++◌, Option, Some, None, length, string_bytes, String}
+use Rattle.std.specs.Prelude.{◌≡◌, ◌+◌, List, ◌++◌, Option, IfSome, length, string_bytes, String}
+use Rattle.std.specs.Option.{option_map}
+use Rattle.std.specs.Global.{Box}
 use Rattle.st_core.specs.MachineState.{Machine}
 use Rattle.st_door.specs.declared.door.Door.{Door}
 use Rattle.st_door.specs.declared.door_content.DoorContent.{DoorContent}
@@ -8,6 +10,7 @@ use Rattle.st_door.specs.declared.door_state.DoorState.{DoorState}
 use Rattle.st_core.specs.Run.{step_of}
 use Rattle.st_core.specs.declared.command.Command.{Command}
 use Rattle.st_door.specs.Doors.{NamedDoor, DoorAnswer, DoorMachine, History, KeptDoor, door_callbacks, door_named, recorded, source_of, DoorEntry}
+use Rattle.st_door.specs.Past.{with_entries}
 use Rattle.st_cell.specs.Cell.{CellState, IsOpen}
 use Rattle.st_cell.specs.declared.source.Source.{Source}
 use Rattle.st_scheduled.specs.ScheduledMachine.{ScheduledMachine}
@@ -28,18 +31,27 @@ DoorCellState = CellState Door DoorState DoorData DoorContent
 abbrev pub machine_in : DoorCellState → DoorMachine
 machine_in cell = cell.scheduled.core.machine
 
--- the history in it, where it is kept: the journal, which is never cut then
-abbrev pub history_in : Bool → DoorCellState → Option History
-history_in keeps cell = if keeps then Some (record { from = cell.base.latest; entries = cell.journal }) else None
+-- what a door was told before its journal begins, out of its box, where that is kept
+abbrev pub past_in : Option (Box History) → Option History
+past_in past = option_map (λ (past : Box History). past.value) past
 
--- the door in it
-abbrev pub door_in : Bool → DoorCellState → KeptDoor
-door_in keeps cell = record { machine = machine_in cell; history = history_in keeps cell }
+-- the history of a door, where it is kept: what the door was told before its journal begins, and the journal
+abbrev pub history_in : Option History → DoorCellState → Option History
+history_in past cell = option_map (λ (past : History). with_entries past cell.journal) past
 
--- the door's port is open; and where the history is kept, its journal has each command that was counted
-pub record IsDoorCell (keeps : Bool) (cell : DoorCellState) : Type 0 where
+-- the door in a cell
+abbrev pub door_in : Option History → DoorCellState → KeptDoor
+door_in past cell = record { machine = machine_in cell; history = history_in past cell }
+
+-- where the history is kept, it has each command that was counted
+abbrev pub IsWhole : Option History → DoorCellState → Type 0
+IsWhole past cell =
+    IfSome (history_in past cell) (λ (history : History). cell.scheduled.count ≡ length history.entries)
+
+-- the door's port is open, and its history is whole
+pub record IsDoorCell (past : Option History) (cell : DoorCellState) : Type 0 where
   pub has_port : IsOpen 1 cell
-  pub whole : keeps ≡ true → cell.scheduled.count ≡ length cell.journal
+  pub whole : IsWhole past cell
 
 -- what the definition answers to a command, and the machine after it
 abbrev pub told_in : DoorCellState → Command DoorContent → DoorAnswer × DoorMachine

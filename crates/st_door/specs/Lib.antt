@@ -3,6 +3,7 @@ pub mod Door
 pub mod Doors
 pub mod Entries
 pub mod Numbers
+pub mod Past
 pub mod Lending
 pub mod Grammar
 pub mod Late

@@ -1,5 +1,5 @@
 //! What is done with the cell of a door, through its one port.
-ghost use Rattle.std.specs.Prelude.{◌≡◌, ◌≤◌, true, false, Some, max, length, IfOk, OnOk, OnErr};
+ghost use Rattle.std.specs.Prelude.{◌≡◌, ◌+◌, ◌<◌, ◌≤◌, ◌^◌, true, false, Some, None, max, length, IfOk, OnOk, OnErr};
 ghost use Rattle.st_core.specs.Choice.{has_event_of, has_message_of, waiting_of};
 ghost use Rattle.st_core.specs.Run.{step_of};
 ghost use Rattle.st_core.specs.declared.command.Command.TheVariants as command;
@@ -9,9 +9,10 @@ ghost use Rattle.st_scheduled.specs.Serving.{is_full};
 ghost use Rattle.st_cell.specs.Cell.{IsOpen};
 ghost use Rattle.st_cell.specs.declared.source.Source.TheVariants as source;
 ghost use Rattle.st_door.specs.Doors.{door_callbacks};
-ghost use Rattle.st_door.specs.Entries.{HasTold, HasToldBy, machine_in};
+ghost use Rattle.st_door.specs.Entries.{HasTold, HasToldBy, IsWhole, history_in, machine_in, past_in};
 
 use crate::answers::DoorAnswer;
+use crate::past::Past;
 use crate::{Door, DoorContent};
 use st_cell::{Cell, a_cell_has_a_token_for_work};
 use st_core::{Answer, Entry};
@@ -44,23 +45,44 @@ fn shorten(cell: &mut Cell<Door>) -> Result<(), AllocError>
     Ok(())
 }
 
-/// Makes a cell ready for one command more. A journal that is not kept as the history is cut where it is long.
-pub(crate) fn make_ready(cell: &mut Cell<Door>, keeps: bool) -> Result<(), AllocError>
-    ensures ready { OnOk result (is_full cell.new.scheduled ≡ false) }
-    ensures short { keeps ≡ false → OnOk result (length cell.new.journal ≤ max JOURNAL_LIMIT (waiting_of (machine_in cell.new))) }
+/// Has the past take the journal in where that is long, and longer than a quarter of what waits: a cut copies what waits, so
+/// that a command costs a fixed part of that on the average. Lines take less memory than entries.
+fn put_by(cell: &mut Cell<Door>, past: &mut Past) -> Result<(), AllocError>
+    requires { length past.old.entries + length cell.old.journal < 2 ^ 63 }
 
     // Whatever the answer is.
-    ensures kept { keeps ≡ true → cell.new ≡ cell.old }
+    ensures history { history_in (Some past.new) cell.new ≡ history_in (Some past.old) cell.old }
     ensures same { cell.new.scheduled ≡ cell.old.scheduled }
     ensures ports { cell.new.ports ≡ cell.old.ports }
 {
-    if !keeps {
-        shorten(cell)?;
+    let entries = cell.entries().len();
+    if entries > JOURNAL_LIMIT && entries > cell.core().waiting() / 4 {
+        past.take_in(cell)?;
     }
+    Ok(())
+}
+
+/// Makes a cell ready for one command more. A journal that is long is cut: where the history is kept, the past takes it in.
+pub(crate) fn make_ready(
+    cell: &mut Cell<Door>,
+    past: &mut Option<Box<Past>>,
+) -> Result<(), AllocError>
+    requires { IsWhole (past_in past.old) cell.old }
+    ensures ready { OnOk result (is_full cell.new.scheduled ≡ false) }
+    ensures short { past.old ≡ None → OnOk result (length cell.new.journal ≤ max JOURNAL_LIMIT (waiting_of (machine_in cell.new))) }
+
+    // Whatever the answer is.
+    ensures history { history_in (past_in past.new) cell.new ≡ history_in (past_in past.old) cell.old }
+    ensures same { cell.new.scheduled ≡ cell.old.scheduled }
+    ensures ports { cell.new.ports ≡ cell.old.ports }
+{
     if cell.count() >= COMMAND_LIMIT {
         return Err(AllocError);
     }
-    Ok(())
+    match past {
+        Some(past) => put_by(cell, &mut **past),
+        None => shorten(cell),
+    }
 }
 
 /// Posts an event.

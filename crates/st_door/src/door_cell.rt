@@ -3,6 +3,7 @@ ghost use Rattle.std.specs.Prelude.{◌≡◌, ◌≤◌, ◌^◌, true, false, 
 ghost use Rattle.std.specs.Io.KnownBytes.{Appends};
 ghost use Rattle.st_core.specs.Run.{step_of};
 ghost use Rattle.st_door.specs.Doors.{door_at_first, door_callbacks, told_kept, serves};
+ghost use Rattle.st_door.specs.Entries.{past_in};
 ghost use Rattle.st_door.specs.Late.{IsQuietUntil, is_late};
 ghost use Rattle.st_door.specs.Settling.{CanServe, message_from, served_kept};
 ghost use Rattle.st_door.specs.ScriptFault.{IsOfInput, write_failures_after};
@@ -11,32 +12,48 @@ ghost use Rattle.st_door.specs.Traces.{trace_by};
 
 use crate::answers::DoorAnswer;
 use crate::cells::{collect, deliver, make_ready, post, reply, stop, take_out, tick, turn};
+use crate::past::Past;
 use crate::service::Service;
 use crate::tracing::write_trace;
 use crate::{Door, DoorContent, ScriptFault, Sink};
-use st_cell::Cell;
+use st_cell::{Cell, a_cell_is_journaled};
 use st_core::{Command, Core, MOMENT_LIMIT};
 use st_events::Message;
 use std::alloc::{AllocError, Global};
 use std::marker::Model;
 
-/// A door of a script: its machine in a cell, with one port. Contracts see the machine, and the history where it is kept.
-/// The cell lies in a box, so that a door is small to hand on.
+/// A door of a script: its machine in a cell, with one port, and where its history is kept, what it was told before its
+/// journal begins. Contracts see the machine, and the history where it is kept. Cell and past lie in boxes, so that a door is
+/// small to hand on.
 #[derive(Drop)]
 pub(crate) struct DoorCell {
     cell: Box<Cell<Door>>,
-    keeps: bool,
+    past: Option<Box<Past>>,
 }
 
 impl Model for DoorCell {
     ghost use Rattle.st_door.specs.Doors.{KeptDoor};
-    ghost use Rattle.st_door.specs.Entries.{IsDoorCell, door_in};
+    ghost use Rattle.st_door.specs.Entries.{IsDoorCell, door_in, past_in};
 
     ghost Value = { KeptDoor };
 
-    ghost view = { λ door. door_in door.keeps door.cell.value };
+    ghost view = { λ door. door_in (past_in door.past) door.cell.value };
 
-    ghost invariant = { λ door. IsDoorCell door.keeps door.cell.value };
+    ghost invariant = { λ door. IsDoorCell (past_in door.past) door.cell.value };
+}
+
+/// What a door was told before its journal begins: nothing yet, if its history is kept.
+fn past_at_first(
+    alloc: Global,
+    core: &Core<Door>,
+    keeps: bool,
+) -> Result<Option<Box<Past>>, AllocError>
+    ensures { IfOk result (λ past. past_in past ≡ (door_at_first keeps core.now.machine).history) }
+{
+    if !keeps {
+        return Ok(None);
+    }
+    Ok(Some(Box::new(alloc, Past::new(alloc, core.latest()))?))
 }
 
 impl DoorCell {
@@ -44,6 +61,7 @@ impl DoorCell {
     pub(crate) fn new(alloc: Global, core: Core<Door>, keeps: bool) -> Result<DoorCell, AllocError>
         ensures { IfOk result (λ door. door ≡ door_at_first keeps core.machine) }
     {
+        let past = past_at_first(alloc, &core, keeps)?;
         let Ok((mut cell, _token)) = Cell::new(alloc, core) else {
             return Err(AllocError);
         };
@@ -52,7 +70,7 @@ impl DoorCell {
         }
         Ok(DoorCell {
             cell: Box::new(alloc, cell)?,
-            keeps,
+            past,
         })
     }
 
@@ -69,7 +87,7 @@ impl DoorCell {
         ensures { result ≡ is_late moment self.now }
     {
         let core = self.cell.core();
-        !self.keeps && core.ended().is_none() && core.latest() < moment
+        self.past.is_none() && core.ended().is_none() && core.latest() < moment
     }
 
     /// A moment before which nothing of the door is due. It is 0 where the history is kept, for there each tick counts.
@@ -77,7 +95,7 @@ impl DoorCell {
         ensures bounded { result ≤ 2 ^ 63 }
         ensures quiet { IsQuietUntil result self.now }
     {
-        if self.keeps {
+        if self.past.is_some() {
             return 0;
         }
         let core = self.cell.core();
@@ -105,7 +123,7 @@ impl DoorCell {
 
         ensures unchanged { OnErr result (self.new ≡ self.old) }
     {
-        make_ready(&mut *self.cell, self.keeps)?;
+        make_ready(&mut *self.cell, &mut self.past)?;
         match command {
             Command::Post(entry, content) => post(&mut *self.cell, entry, content),
             Command::Tick(moment) => tick(&mut *self.cell, moment),
@@ -127,7 +145,7 @@ impl DoorCell {
 
         ensures unchanged { OnErr result (self.new ≡ self.old) }
     {
-        make_ready(&mut *self.cell, self.keeps)?;
+        make_ready(&mut *self.cell, &mut self.past)?;
         match service {
             Service::Turn(moment) => turn(&mut *self.cell, moment)?,
             Service::TakeOut => return Ok(Some(take_out(&mut *self.cell)?)),
@@ -150,11 +168,11 @@ impl DoorCell {
             (λ fault. W.failures writer.new ≡ write_failures_after fault (W.failures writer.old)) }
         ensures front { OnErr result (AppendsFront (W.held writer.old) (W.held writer.new) (trace_by name.now self.now.machine self.now.history)) }
     {
-        if !self.keeps {
+        let Some(past) = &self.past else {
             return Ok(());
-        }
+        };
+        a_cell_is_journaled(&*self.cell);
         let id = self.cell.core().id();
-        let from = self.cell.base().latest;
-        write_trace(alloc, id, name, from, self.cell.entries(), writer)
+        write_trace(alloc, id, name, past, self.cell.entries(), writer)
     }
 }

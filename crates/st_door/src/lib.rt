@@ -27,6 +27,7 @@ mod lines;
 mod mode;
 mod numbers;
 mod output;
+mod past;
 mod places;
 mod printing;
 mod run;

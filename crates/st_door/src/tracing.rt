@@ -1,20 +1,17 @@
 //! A door's trace, written line by line.
-ghost use Rattle.std.specs.Prelude.{◌≡◌, IfErr, OnOk, OnErr, MatchResult};
+ghost use Rattle.std.specs.Prelude.{◌≡◌, ◌+◌, ◌<◌, ◌^◌, ◌++◌, length, IfErr, OnOk, OnErr, MatchResult};
 ghost use Rattle.std.specs.Io.KnownBytes.{Appends};
-ghost use Rattle.st_trace.specs.Totals.{totals_of};
-ghost use Rattle.st_trace.specs.Trace.{machine_line, entry_line, summary_line, trace_of};
+ghost use Rattle.st_trace.specs.Trace.{machine_line, entry_line, entry_lines, summary_line, trace_of};
 ghost use Rattle.st_door.specs.Printing.{state_name_of};
 ghost use Rattle.st_door.specs.ScriptFault.{IsOfInput, write_failures_after};
 ghost use Rattle.st_door.specs.Streams.{AppendsFront};
 
 use crate::door_states::DoorStates;
 use crate::output::write_output;
-use crate::{DoorContent, DoorState, MachineId, ScriptFault, Sink};
-use st_trace::{JournalEntry, entry_line, latest_after, machine_line, summary_line, totals_in};
+use crate::past::{DoorEntry, Past};
+use crate::{MachineId, ScriptFault, Sink};
+use st_trace::{Totals, entry_line, latest_after, machine_line, summary_line};
 use std::alloc::Global;
-
-/// An entry of a door's journal.
-pub(crate) type DoorEntry = JournalEntry<DoorState, DoorContent>;
 
 /// Writes the line of a door.
 #[tactic(auto, using(crate::proofs::StreamLemmas::nothing_written))]
@@ -56,47 +53,80 @@ fn write_entry<W: Sink>(
     Ok(())
 }
 
-/// Writes the line of what entries come to.
+/// Writes the line of what was counted.
 #[tactic(auto, using(crate::proofs::StreamLemmas::nothing_written))]
-fn write_summary<W: Sink>(
-    alloc: Global,
-    entries: &[DoorEntry],
-    writer: &mut W,
-) -> Result<(), ScriptFault>
-    ensures written { OnOk result (Appends (W.held writer.old) (W.held writer.new) (summary_line (totals_of entries.now))) }
+fn write_summary<W: Sink>(alloc: Global, totals: Totals, writer: &mut W) -> Result<(), ScriptFault>
+    ensures written { OnOk result (Appends (W.held writer.old) (W.held writer.new) (summary_line totals)) }
 
     ensures faults { IfErr result (λ fault. IsOfInput fault → ⊥) }
     ensures failures { MatchResult result (λ _. W.failures writer.new ≡ W.failures writer.old)
         (λ fault. W.failures writer.new ≡ write_failures_after fault (W.failures writer.old)) }
-    ensures front { OnErr result (AppendsFront (W.held writer.old) (W.held writer.new) (summary_line (totals_of entries.now))) }
+    ensures front { OnErr result (AppendsFront (W.held writer.old) (W.held writer.new) (summary_line totals)) }
 {
-    let line = summary_line(alloc, totals_in(entries))?;
+    let line = summary_line(alloc, totals)?;
     write_output(writer, line.as_str().as_bytes())?;
     Ok(())
 }
 
-/// Writes the trace of a door of this id under a name, by the latest moment before its entries. Each line is written as it
-/// is made, so that the text of the others takes no memory.
-pub(crate) fn write_trace<W: Sink>(
+/// Writes the lines of entries, by the latest moment before them. Each is written as it is made, so that the text of the
+/// others takes no memory.
+fn write_entries<W: Sink>(
     alloc: Global,
-    id: MachineId,
-    name: &str,
     from: u64,
     entries: &[DoorEntry],
     writer: &mut W,
 ) -> Result<(), ScriptFault>
-    ensures written { OnOk result (Appends (W.held writer.old) (W.held writer.new) (trace_of id name.now from entries.now state_name_of)) }
+    ensures written { OnOk result (Appends (W.held writer.old) (W.held writer.new) (entry_lines state_name_of from entries.now)) }
 
     ensures faults { IfErr result (λ fault. IsOfInput fault → ⊥) }
     ensures failures { MatchResult result (λ _. W.failures writer.new ≡ W.failures writer.old)
         (λ fault. W.failures writer.new ≡ write_failures_after fault (W.failures writer.old)) }
-    ensures front { OnErr result (AppendsFront (W.held writer.old) (W.held writer.new) (trace_of id name.now from entries.now state_name_of)) }
+    ensures front { OnErr result (AppendsFront (W.held writer.old) (W.held writer.new) (entry_lines state_name_of from entries.now)) }
 {
-    write_door(alloc, id, name, writer)?;
     let mut latest = from;
     for entry in entries {
         latest = latest_after(latest, &entry.command);
         write_entry(alloc, latest, entry, writer)?;
     }
-    write_summary(alloc, entries, writer)
+    Ok(())
+}
+
+/// Writes the lines of what a door was told before its journal begins, and of the entries in it.
+fn write_lines<W: Sink>(
+    alloc: Global,
+    past: &Past,
+    entries: &[DoorEntry],
+    writer: &mut W,
+) -> Result<(), ScriptFault>
+    ensures written { OnOk result (Appends (W.held writer.old) (W.held writer.new) (entry_lines state_name_of past.now.from (past.now.entries ++ entries.now))) }
+
+    ensures faults { IfErr result (λ fault. IsOfInput fault → ⊥) }
+    ensures failures { MatchResult result (λ _. W.failures writer.new ≡ W.failures writer.old)
+        (λ fault. W.failures writer.new ≡ write_failures_after fault (W.failures writer.old)) }
+    ensures front { OnErr result (AppendsFront (W.held writer.old) (W.held writer.new) (entry_lines state_name_of past.now.from (past.now.entries ++ entries.now))) }
+{
+    past.write(writer)?;
+    write_entries(alloc, past.latest(), entries, writer)
+}
+
+/// Writes the trace of a door of this id under a name, by what it was told before its journal begins, and the entries in it.
+pub(crate) fn write_trace<W: Sink>(
+    alloc: Global,
+    id: MachineId,
+    name: &str,
+    past: &Past,
+    entries: &[DoorEntry],
+    writer: &mut W,
+) -> Result<(), ScriptFault>
+    requires { length past.now.entries + length entries.now < 2 ^ 63 }
+    ensures written { OnOk result (Appends (W.held writer.old) (W.held writer.new) (trace_of id name.now past.now.from (past.now.entries ++ entries.now) state_name_of)) }
+
+    ensures faults { IfErr result (λ fault. IsOfInput fault → ⊥) }
+    ensures failures { MatchResult result (λ _. W.failures writer.new ≡ W.failures writer.old)
+        (λ fault. W.failures writer.new ≡ write_failures_after fault (W.failures writer.old)) }
+    ensures front { OnErr result (AppendsFront (W.held writer.old) (W.held writer.new) (trace_of id name.now past.now.from (past.now.entries ++ entries.now) state_name_of)) }
+{
+    write_door(alloc, id, name, writer)?;
+    write_lines(alloc, past, entries, writer)?;
+    write_summary(alloc, past.totals_with(entries), writer)
 }
