@@ -1,5 +1,5 @@
 -- What the cell of a door answers, and what its calls leave of the door's machine: what the definition says.
-use Rattle.std.proofs.Common.{◌≡◌, ◌≢◌, ℕ, ◌+◌, Bool, true, false, ◌&&◌, List, ◌++◌, length, length-append, append_assoc, Option, Some, None, refl, ap, sym, ◌∙◌, arith, inl, inr}
+use Rattle.std.proofs.Common.{◌≡◌, ◌≢◌, ℕ, ◌+◌, Bool, true, false, ◌&&◌, List, ◌++◌, length, length-append, Option, Some, None, refl, ap, sym, ◌∙◌, arith, inl, inr}
 use Rattle.std.specs.Prelude.{Result, Ok, Err, is_some}
 use Rattle.std.specs.Option.{option_map}
 use Rattle.std.proofs.lemmas.Bool.{cases_Bool}
@@ -31,8 +31,8 @@ use Rattle.st_door.specs.declared.door_content.DoorContent.{DoorContent}
 use Rattle.st_door.specs.declared.door_state.DoorState.{DoorState}
 use Rattle.st_door.specs.declared.door.Door.{Door}
 use Rattle.st_door.specs.declared.door_data.DoorData.{DoorData}
-use Rattle.st_door.specs.Doors.{DoorAnswer, DoorEntry, DoorMachine, History, history_told, recorded, refusal_in, kept_told_by}
-use Rattle.st_door.specs.Entries.{DoorCore, ScheduledDoor, DoorCellState, HasTold, HasToldBy, IsWhole, door_in, history_in, machine_in, recorded_in, told_in}
+use Rattle.st_door.specs.Doors.{DoorAnswer, DoorEntry, DoorMachine, recorded, refusal_in, kept_told_by}
+use Rattle.st_door.specs.Entries.{DoorCore, ScheduledDoor, DoorCellState, HasTold, HasToldBy, IsDoorCell, door_in, history_in, machine_in, recorded_in, told_in}
 use Rattle.st_door.proofs.ToldLemmas.{given-callbacks, told-refused}
 
 -- what a door's cell answers to a command
@@ -143,44 +143,6 @@ called cell new source command said definition ready with_entry found (inl done)
       },
     )
 called cell new source command said definition ready with_entry found (inr none) = absurd (found none.1)
-
--- ---- the history
--- a cell that was told a command: the history has its entry
-told-history : (past : Option History) (old new : DoorCellState) (source : Source) (command : Command DoorContent) → IsWhole past old → HasToldBy source command old new
-    → history_in past new ≡ history_told source command (told_in old command).0 (history_in past old)
-told-history None old new source command whole told = refl
-told-history (Some past) old new source command whole told =
-    ap (λ (entries : List DoorEntry). Some (record { from = past.from; entries = entries }))
-    (ap (λ (journal : List DoorEntry). past.entries ++ journal) told.journal
-    ∙ (sym (append_assoc past.entries old.journal (recorded_in old source command))
-    ∙ ap (λ count. (past.entries ++ old.journal) ++ recorded (count + 1) source command (told_in old command).0) whole))
-
--- and so it is whole still
-pub whole-told : (past : Option History) (old new : DoorCellState) (source : Source) (command : Command DoorContent) → IsWhole past old → HasToldBy source command old new → IsWhole past new
-whole-told None old new source command whole told = tt
-whole-told (Some past) old new source command whole told =
-    let before : length (past.entries ++ old.journal) ≡ length past.entries + length old.journal = length-append past.entries old.journal in
-    let after : length (past.entries ++ new.journal) ≡ length past.entries + length new.journal = length-append past.entries new.journal in
-    let journal : length new.journal ≡ length old.journal + length (recorded_in old source command) =
-    ap (λ (entries : List DoorEntry). length entries) told.journal ∙ length-append old.journal (recorded_in old source command) in
-    let count : new.scheduled.count ≡ old.scheduled.count + length (recorded_in old source command) = told.count in
-    let was : old.scheduled.count ≡ length (past.entries ++ old.journal) = whole in
-    omega arith
-
--- a door that was made ready is the same
-pub door-ready : (past ready : Option History) (old new : DoorCellState) → history_in ready new ≡ history_in past old → new.scheduled ≡ old.scheduled → door_in ready new ≡ door_in past old
-door-ready past ready old new history same = cc
-
-pub whole-ready : (past ready : Option History) (old new : DoorCellState) → history_in ready new ≡ history_in past old → new.scheduled ≡ old.scheduled → IsWhole past old → IsWhole ready new
-whole-ready past ready old new history same whole = rw (history, same) whole
-
--- and once it was told a command, it is the door after it
-pub door-told : (past : Option History) (old new : DoorCellState) (source : Source) (command : Command DoorContent) → IsWhole past old → HasToldBy source command old new
-    → door_in past new ≡ kept_told_by source command (door_in past old)
-door-told past old new source command whole told =
-    let machine : machine_in new ≡ (told_in old command).1 = told.machine in
-    let history = told-history past old new source command whole told in
-    cc
 
 -- ---- turns
 -- why a turn was refused, if it was

@@ -30,7 +30,7 @@ sum_of one other = record {
   put_off = one.put_off + other.put_off;
 }
 
--- a sum that is not too large
+-- each of the numbers is below 2^63
 pub record IsSmall (totals : Totals) : Type 0 where
   pub posts : totals.posts < 2 ^ 63
   pub turns : totals.turns < 2 ^ 63

@@ -1,9 +1,10 @@
 //! A door of a script: its machine in a cell of its own.
-ghost use Rattle.std.specs.Prelude.{◌≡◌, ◌≤◌, ◌^◌, true, false, IfOk, IfErr, OnOk, OnErr, MatchResult};
+ghost use Rattle.std.specs.Prelude.{◌≡◌, ◌≤◌, ◌^◌, [], true, false, IfOk, IfErr, OnOk, OnErr, MatchResult};
 ghost use Rattle.std.specs.Io.KnownBytes.{Appends};
 ghost use Rattle.st_core.specs.Run.{step_of};
 ghost use Rattle.st_door.specs.Doors.{door_at_first, door_callbacks, told_kept, serves};
-ghost use Rattle.st_door.specs.Entries.{past_in};
+ghost use Rattle.st_cell.specs.Cell.{IsOpen};
+ghost use Rattle.st_door.specs.Entries.{machine_in, past_in};
 ghost use Rattle.st_door.specs.Late.{IsQuietUntil, is_late};
 ghost use Rattle.st_door.specs.Settling.{CanServe, message_from, served_kept};
 ghost use Rattle.st_door.specs.ScriptFault.{IsOfInput, write_failures_after};
@@ -56,22 +57,30 @@ fn past_at_first(
     Ok(Some(Box::new(alloc, Past::new(alloc, core.latest()))?))
 }
 
+/// Puts a door's machine into a cell, and opens its port.
+fn opened(alloc: Global, core: Core<Door>) -> Result<Box<Cell<Door>>, AllocError>
+    ensures machine { IfOk result (λ cell. machine_in cell.value ≡ core.machine) }
+    ensures journal { IfOk result (λ cell. cell.value.journal ≡ []) }
+    ensures count { IfOk result (λ cell. cell.value.scheduled.count ≡ 0) }
+    ensures port { IfOk result (λ cell. IsOpen 1 cell.value) }
+{
+    let Ok((mut cell, _token)) = Cell::new(alloc, core) else {
+        return Err(AllocError);
+    };
+    if cell.port().is_err() {
+        return Err(AllocError);
+    }
+    Ok(Box::new(alloc, cell)?)
+}
+
 impl DoorCell {
     /// Puts a door's machine into a cell, and opens its port. Its history is kept from now on, or it is not.
     pub(crate) fn new(alloc: Global, core: Core<Door>, keeps: bool) -> Result<DoorCell, AllocError>
         ensures { IfOk result (λ door. door ≡ door_at_first keeps core.machine) }
     {
         let past = past_at_first(alloc, &core, keeps)?;
-        let Ok((mut cell, _token)) = Cell::new(alloc, core) else {
-            return Err(AllocError);
-        };
-        if cell.port().is_err() {
-            return Err(AllocError);
-        }
-        Ok(DoorCell {
-            cell: Box::new(alloc, cell)?,
-            past,
-        })
+        let cell = opened(alloc, core)?;
+        Ok(DoorCell { cell, past })
     }
 
     /// The machine, to be read.
