@@ -39,10 +39,10 @@ fn want<R: Runtime + Clock>(pool: &Pool<R>, alloc: Global, number: u32) -> Optio
     let Ok(Spawned::Running(_, Some(mut port))) = pool.spawn(None, Connection, &place) else {
         return None;
     };
-    let mut requests = Vec::with_capacity(alloc, CLIENTS.len()).ok()?;
+    let mut requests = Vec::new(alloc);
     for client in CLIENTS {
         let request = port.send_request(Content::CheckOut(client)).ok()?;
-        requests.push_reserved((client, request));
+        requests.push((client, request)).ok()?;
     }
     port.info(Content::Connected).ok()?;
     Some(Wanted { port, requests })
@@ -65,10 +65,10 @@ fn lend<R: Runtime + Clock>(rt: &R, wanted: Wanted<R>) -> u64 {
 /// Opens the pool and lends its connections, and says how often one was lent, and how many were stopped.
 pub fn run<R: Runtime + Clock>(rt: R, alloc: Global) -> Result<String, AllocError> {
     let mut pool = Service::start(rt, alloc, 4, OPTIONS, Nobody)?;
-    let mut all = Vec::with_capacity(alloc, CONNECTIONS as usize)?;
+    let mut all = Vec::new(alloc);
     for number in 0..CONNECTIONS {
         if let Some(wanted) = want(&pool, alloc, number) {
-            all.push_reserved(wanted);
+            all.push(wanted)?;
         }
     }
     let mut lent: u64 = 0;
