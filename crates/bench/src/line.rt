@@ -1,5 +1,5 @@
 //! What can be measured.
-use crate::cell::{call_in_cell, cast_in_cell, in_cell};
+use crate::cell::{Celled, call_in_cell, cast_in_cell, in_cell};
 use crate::drive::{
     call_each, cycle, end, expire_each, finish_backwards, finish_in_order, post_all_and_turn,
     post_and_turn, post_and_turn_each, post_tick_and_turn, started, take_out_each, turn_each,
@@ -122,7 +122,8 @@ pub enum Line {
     RingByTwo,
     /// The same by four workers.
     RingByFour,
-    /// Casts that keep the state, to a machine of a service with one worker, whose journal has so many entries, and a call.
+    /// Casts that keep the state, to a machine of a service with one worker, whose journal has so many entries, or which keeps none
+    /// where that is 0, and a call.
     ServiceCasts,
     /// Calls of such a machine.
     ServiceCalls,
@@ -283,9 +284,14 @@ impl Line {
             return Ok(0);
         };
         let mut cell = in_cell(alloc, load)?;
+        self.done_over(&mut cell, count, more)
+    }
+
+    /// Does a line over a cell.
+    fn done_over<T: Celled>(self, cell: &mut T, count: u32, more: u32) -> Result<u64, Refusal> {
         match self {
-            Line::CellCasts => cast_in_cell(&mut cell, count, more),
-            _ => call_in_cell(&mut cell, count, more),
+            Line::CellCasts => cast_in_cell(cell, count, more),
+            _ => call_in_cell(cell, count, more),
         }
     }
 
@@ -386,16 +392,21 @@ impl Line {
         let Some(mut load) = started(alloc, Load, ID, &0)? else {
             return Ok(0);
         };
+        self.done_with(&mut load, count, more)
+    }
+
+    /// Does a line with a machine that has just started.
+    fn done_with(self, core: &mut Core<Load>, count: u32, more: u32) -> Result<u64, Refusal> {
         match self {
             Line::CastsBeside | Line::Expiries | Line::SetAndCancel | Line::Updates => {
-                post_and_turn(&mut load, Work::SetMany(more), 0)?;
-                self.done_beside(&mut load, count, more)
+                post_and_turn(core, Work::SetMany(more), 0)?;
+                self.done_beside(core, count, more)
             }
             Line::Postponed | Line::Retried | Line::DueInOrder => {
-                self.done_after(&mut load, count, more)
+                self.done_after(core, count, more)
             }
-            Line::InsertLists => cycle(&mut load, &[Work::InsertMany(more)], count),
-            _ => self.done_alone(&mut load, count),
+            Line::InsertLists => cycle(core, &[Work::InsertMany(more)], count),
+            _ => self.done_alone(core, count),
         }
     }
 

@@ -4,7 +4,7 @@ ghost use Rattle.std.specs.Prelude.{◌≤◌};
 use crate::load::{Load, Work};
 use st_core::Refusal;
 use st_pool::Runtime;
-use st_service::{Called, Nobody, Options, Service, ServicePort, Spawned};
+use st_service::{Called, Journals, Nobody, Options, Service, ServicePort, Spawned};
 use std::alloc::Global;
 use std::rt::Clock;
 
@@ -14,7 +14,7 @@ type Services<R> = Service<Load, R, Nobody>;
 /// A port of such a machine.
 type Ports<R> = ServicePort<Load, R, Nobody>;
 
-/// A service of so many workers, which keeps so many entries a journal.
+/// A service of so many workers, whose machines keep so many entries, or no journal where that is none.
 fn service<R: Runtime + Clock>(
     rt: R,
     alloc: Global,
@@ -23,9 +23,13 @@ fn service<R: Runtime + Clock>(
 ) -> Result<Services<R>, Refusal>
     requires { (1 ≤ workers) × (workers ≤ 16) }
 {
+    let journals = match entries {
+        0 => Journals::None,
+        entries => Journals::AtMost(entries as usize),
+    };
     let options = Options {
         waiting: usize::MAX,
-        journal: Some(entries as usize),
+        journals,
         turns: 0,
     };
     Ok(Service::start(rt, alloc, workers, options, Nobody)?)
@@ -86,7 +90,7 @@ pub fn call_to_service<R: Runtime + Clock>(
     Ok(replies)
 }
 
-/// So many workers serve so many machines, each of which handles an event that inserts so many others, those, and then a call.
+/// So many workers serve so many machines without a journal, each of which handles an event that inserts so many others, those, and then a call.
 /// It answers how many replies came.
 pub fn insert_in_service<R: Runtime + Clock>(
     rt: R,
@@ -97,7 +101,7 @@ pub fn insert_in_service<R: Runtime + Clock>(
 ) -> Result<u64, Refusal>
     requires { (1 ≤ workers) × (workers ≤ 16) }
 {
-    let services = service(rt, alloc, workers, 1)?;
+    let services = service(rt, alloc, workers, 0)?;
     let mut ports = Vec::new(alloc);
     for _ in 0..many {
         ports.push(spawned(&services)?)?;

@@ -3,7 +3,7 @@
 use keeper_module::{Connection, Content, Place};
 use st_client::receive;
 use st_service::{
-    Called, MachineId, Nobody, Options, RequestId, Runtime, Service, ServicePort, Spawned,
+    Called, Journals, MachineId, Nobody, Options, RequestId, Runtime, Service, ServicePort, Spawned,
 };
 use std::alloc::{AllocError, Global};
 use std::rt::Clock;
@@ -14,10 +14,10 @@ const CONNECTIONS: u32 = 200;
 /// The clients.
 const CLIENTS: [u32; 2] = [1, 2];
 
-/// So many events may wait at a connection, its journal stays short, and what waits at the end is handled.
+/// So many events may wait at a connection, nothing is kept of what it did, and what waits at the end is handled.
 const OPTIONS: Options = Options {
     waiting: 100,
-    journal: Some(10),
+    journals: Journals::None,
     turns: 10_000,
 };
 

@@ -2,16 +2,17 @@
 
 use crate::counting::{Counting, counts};
 use lamp_module::{Bulb, Lamp, Press};
-use st_service::{Options, Runtime, Service, Spawned};
+use st_service::{Journals, Options, Runtime, Service, Spawned};
 use std::alloc::{AllocError, Global};
 use std::rt::Clock;
 use std::sync::Arc;
 use std::sync::atomic::{AtomicU64, Ordering};
 
-/// So many events may wait at a lamp, its journal stays short, and what waits at the end is handled.
+/// So many events may wait at a lamp, nothing is kept but what the observer was not told yet, and what waits at the end is
+/// handled.
 const OPTIONS: Options = Options {
     waiting: 100,
-    journal: Some(10),
+    journals: Journals::None,
     turns: 1_000,
 };
 

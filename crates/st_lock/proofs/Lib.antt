@@ -3,3 +3,4 @@ pub mod InnerLemmas
 pub mod ClaimLemmas
 pub mod PortLemmas
 pub mod BoundedLemmas
+pub mod LeftLemmas

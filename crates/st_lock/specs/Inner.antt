@@ -1,6 +1,7 @@
 -- A machine's cell beside the machine's endpoints on the counters of its ports.
-use Rattle.std.specs.Prelude.{◌≡◌, ℕ, ◌-◌, ◌<◌, Some, List, [], drop, length, map, slice_get}
+use Rattle.std.specs.Prelude.{◌≡◌, ◌⊎◌, ℕ, ◌-◌, ◌<◌, Some, List, [], drop, length, map, slice_get}
 use Rattle.st_cell.specs.declared.post.Post.{Post}
+use Rattle.st_cell.specs.Calls.{cut}
 use Rattle.st_cell.specs.Cell.{CellState, cell_at_first, count_for}
 use Rattle.st_cell.specs.Journal.{posts_of}
 use Rattle.st_core.specs.MachineState.{Machine}
@@ -24,6 +25,14 @@ module _ {M S D C : Type 0} where
   -- a cell begins, and no port is open
   abbrev pub inner_at_first : Machine M S D C → InnerState M S D C
   inner_at_first core = record { cell = cell_at_first core; ends = [] }
+
+  -- what is left by a call that leaves this of a cell which keeps its journal: that, or, where none is kept, that cell cut
+  abbrev pub IsLeft : CellState M S D C → CellState M S D C → Type 0
+  IsLeft after new = (new ≡ after) ⊎ (new ≡ cut after)
+
+  -- a call was made that does so to a cell which keeps its journal
+  abbrev pub Leaves : (CellState M S D C → Type 0) → CellState M S D C → Type 0
+  Leaves does new = (after : CellState M S D C) × does after × IsLeft after new
 
   -- what the machine's endpoint of a port has seen are all its posts: as many as the cell counts, and the last of them are
   -- those in the journal

@@ -11,13 +11,13 @@ ghost use Rattle.st_cell.specs.Journal.{numbers_of};
 ghost use Rattle.st_post_counter.specs.Seen.{whole, part, IsWhole, IsPart};
 ghost use Rattle.st_lock.specs.Bounded.{is_long};
 ghost use Rattle.st_lock.specs.Service.{Serves, turned_as};
-ghost use Rattle.st_lock.specs.Inner.{EndsWith, inner_at_first, HasEnd, counters_of};
+ghost use Rattle.st_lock.specs.Inner.{EndsWith, Leaves, inner_at_first, HasEnd, counters_of};
 
 use crate::Service;
+use st_any_cell::{AnyCell, any_cell_is_journaled};
 use st_cell::{
-    Answer, Cell, Collected, Core, Entry, Journal, Look, MachineId, Message, Module, Next, Post,
-    Posted, Reason, Refusal, Refused, Tag, Ticked, Token, Turned, a_cell_is_journaled,
-    a_port_has_no_more_posts_than_its_count, a_port_that_is_not_open_has_no_posts,
+    Collected, Core, Entry, Journal, Look, MachineId, Message, Module, Next, Post, Posted, Reason,
+    Refusal, Refused, Tag, Ticked, Token,
 };
 use st_post_counter::{Addition, Counter, Endpoint};
 use std::alloc::Global;
@@ -30,7 +30,7 @@ pub(crate) type PostOf<M> = Post<<M as Module>::Content>;
 /// A machine's cell, and the machine's endpoint on the counter of each port.
 #[derive(Drop)]
 pub struct Inner<M: Module> {
-    cell: Cell<M>,
+    cell: AnyCell<M>,
     ends: Vec<Endpoint<PostOf<M>>>,
 }
 
@@ -39,9 +39,9 @@ impl<M: Module> Model for Inner<M> {
 
     ghost Value = { InnerState M M.State M.Data M.Content };
 
-    ghost view = { λ inner. record { cell = inner.cell; ends = inner.ends.items } };
+    ghost view = { λ inner. record { cell = inner.cell.cell; ends = inner.ends.items } };
 
-    ghost invariant = { λ inner. IsInner (record { cell = inner.cell; ends = inner.ends.items }) };
+    ghost invariant = { λ inner. IsInner (record { cell = inner.cell.cell; ends = inner.ends.items }) };
 }
 
 /// The machine's endpoint sees the post whose number, entry and content these are.
@@ -93,8 +93,9 @@ fn turned<C>(answer: Result<Next, Refused<Token>>) -> Result<Service<C>, Refused
 }
 
 impl<M: Module> Inner<M> {
-    /// A cell with this machine as its base, and no port. Where there is no memory, the machine comes back.
-    pub(crate) fn new(
+    /// A cell with this machine as its base, which keeps its journal, and no port. Where there is no memory, the machine comes
+    /// back.
+    pub(crate) fn journaled(
         alloc: Global,
         core: Core<M>,
     ) -> Result<(Inner<M>, Option<Token>), Refused<Core<M>>>
@@ -104,13 +105,41 @@ impl<M: Module> Inner<M> {
         ensures refusals { IfErr result (λ refused. refused.refusal ≡ NoMemory) }
         ensures returned { IfErr result (λ refused. refused.value ≡ core) }
     {
-        match Cell::new(alloc, core) {
+        match AnyCell::journaled(alloc, core) {
             Ok((cell, token)) => {
                 let ends = Vec::new(alloc);
                 Ok((Inner { cell, ends }, token))
             }
             Err(refused) => Err(refused),
         }
+    }
+
+    /// A cell with this machine as its base, which keeps no journal, and no port.
+    pub(crate) fn unjournaled(alloc: Global, core: Core<M>) -> (Inner<M>, Option<Token>)
+        ensures begun { result.0 ≡ inner_at_first core }
+        ensures token { result.1 ≡ token_of (cell_at_first core).scheduled }
+    {
+        let (cell, token) = AnyCell::unjournaled(alloc, core);
+        let ends = Vec::new(alloc);
+        (Inner { cell, ends }, token)
+    }
+
+    /// A cell with this machine as its base, which keeps its journal or keeps none, and no port.
+    pub(crate) fn begun(
+        alloc: Global,
+        core: Core<M>,
+        keeps: bool,
+    ) -> Result<(Inner<M>, Option<Token>), Refused<Core<M>>>
+        ensures begun { IfOk result (λ begun. begun.0 ≡ inner_at_first core) }
+        ensures token { IfOk result (λ begun. begun.1 ≡ token_of (cell_at_first core).scheduled) }
+
+        ensures refusals { IfErr result (λ refused. refused.refusal ≡ NoMemory) }
+        ensures returned { IfErr result (λ refused. refused.value ≡ core) }
+    {
+        if keeps {
+            return Inner::journaled(alloc, core);
+        }
+        Ok(Inner::unjournaled(alloc, core))
     }
 
     /// The machine alone.
@@ -121,17 +150,9 @@ impl<M: Module> Inner<M> {
         cell.into_core()
     }
 
-    /// Whether the last entry is of a turn that replied, or at which the machine ended.
+    /// Whether who waits for a reply, or for the end, may find one behind the last turn.
     pub(crate) fn has_replied(&self) -> bool {
-        let Some(entry) = self.cell.entries().last() else {
-            return false;
-        };
-        match &entry.answer {
-            Answer::Turn(Ok(Turned::Reported(report))) => {
-                report.replied.len() > 0 || self.cell.core().ended().is_some()
-            }
-            _ => false,
-        }
+        self.cell.has_replied()
     }
 
     /// Opens the next port, with this endpoint of the machine, and answers its number. Where there is no memory, none is
@@ -145,7 +166,7 @@ impl<M: Module> Inner<M> {
         ensures refusals { IfErr result (λ refusal. refusal ≡ NoMemory) }
         ensures unchanged { OnErr result (self.new ≡ self.old) }
     {
-        a_port_that_is_not_open_has_no_posts(&self.cell);
+        any_cell_is_journaled(&self.cell);
         if self.ends.reserve(1).is_err() {
             return Err(Refusal::NoMemory);
         }
@@ -172,7 +193,7 @@ impl<M: Module> Inner<M> {
         ensures count { result ≡ true → count ≡ count_for port self.now.cell }
         ensures limited { result ≡ true → count < 2 ^ 63 }
     {
-        a_port_has_no_more_posts_than_its_count(&self.cell);
+        any_cell_is_journaled(&self.cell);
         self.id() == id && self.cell.is_open(port) && self.cell.count_for(port) == count
     }
 
@@ -189,11 +210,12 @@ impl<M: Module> Inner<M> {
         requires end { HasEnd self.old port counter.now }
         requires mine { (mine.old.counter ≡ counter.now) × IsPart mine.old.seen }
         requires count { length mine.old.seen.posts ≡ count_for port self.old.cell }
-        ensures does { Posts (callbacks_of M.Module M.State.eq) self.old.cell port entry content (posted_as result) self.new.cell }
+        ensures does { Leaves (Posts (callbacks_of M.Module M.State.eq) self.old.cell port entry content (posted_as result)) self.new.cell }
         ensures posted { IfOk result (λ posted. mine.new ≡ record mine.old { seen = part (mine.old.seen.posts ++ record { number = posted.number; entry = entry; content = content } ∷ []) }) }
         ensures same { counters_of self.new.ends ≡ counters_of self.old.ends }
 
         ensures unchanged { OnErr result ((self.new ≡ self.old) × (mine.new ≡ mine.old)) }
+        ensures returned { IfErr result (λ refused. refused.value ≡ content) }
     {
         let was = Snapshot::of(&content);
         match self.cell.post(port, entry, content) {
@@ -237,7 +259,7 @@ impl<M: Module> Inner<M> {
 
     /// Serves the machine by a token, at a moment, in milliseconds, as `Cell::turn` does.
     pub(crate) fn turn(&mut self, token: Token, now: u64) -> Result<Next, Refused<Token>>
-        ensures does { Turns (callbacks_of M.Module M.State.eq) self.old.cell token now result self.new.cell }
+        ensures does { Leaves (Turns (callbacks_of M.Module M.State.eq) self.old.cell token now result) self.new.cell }
         ensures same { self.new.ends ≡ self.old.ends }
 
         ensures unchanged { OnErr result (self.new.cell ≡ self.old.cell) }
@@ -251,7 +273,7 @@ impl<M: Module> Inner<M> {
         &mut self,
         token: Token,
     ) -> Result<Option<Message<M::Content>>, Refused<Token>>
-        ensures does { TakesOut (callbacks_of M.Module M.State.eq) self.old.cell token result self.new.cell }
+        ensures does { Leaves (TakesOut (callbacks_of M.Module M.State.eq) self.old.cell token result) self.new.cell }
         ensures same { self.new.ends ≡ self.old.ends }
 
         ensures unchanged { OnErr result (self.new.cell ≡ self.old.cell) }
@@ -267,7 +289,7 @@ impl<M: Module> Inner<M> {
         token: Token,
         now: u64,
     ) -> Result<Service<M::Content>, Refused<Token>>
-        ensures does { Serves (callbacks_of M.Module M.State.eq) self.old.cell token now result self.new.cell }
+        ensures does { Leaves (Serves (callbacks_of M.Module M.State.eq) self.old.cell token now result) self.new.cell }
         ensures same { self.new.ends ≡ self.old.ends }
 
         ensures returned { IfErr result (λ refused. refused.value ≡ token) }
@@ -285,7 +307,7 @@ impl<M: Module> Inner<M> {
         message: Message<M::Content>,
     ) -> Result<Posted, Refused<Message<M::Content>>>
         requires { message.target ≡ self.old.cell.scheduled.core.machine.id }
-        ensures does { Delivers (callbacks_of M.Module M.State.eq) self.old.cell message result self.new.cell }
+        ensures does { Leaves (Delivers (callbacks_of M.Module M.State.eq) self.old.cell message result) self.new.cell }
         ensures same { self.new.ends ≡ self.old.ends }
 
         ensures unchanged { OnErr result (self.new.cell ≡ self.old.cell) }
@@ -296,7 +318,7 @@ impl<M: Module> Inner<M> {
 
     /// Tells the machine the moment, in milliseconds, as `Cell::tick` does.
     pub(crate) fn tick(&mut self, now: u64) -> Result<Ticked, Refusal>
-        ensures does { IsTold (callbacks_of M.Module M.State.eq) self.old.cell (command.Tick now) (ticked_as result) self.new.cell }
+        ensures does { Leaves (IsTold (callbacks_of M.Module M.State.eq) self.old.cell (command.Tick now) (ticked_as result)) self.new.cell }
         ensures same { self.new.ends ≡ self.old.ends }
 
         ensures unchanged { OnErr result (self.new.cell ≡ self.old.cell) }
@@ -306,7 +328,7 @@ impl<M: Module> Inner<M> {
 
     /// Hands out what is kept for a request, once, as `Cell::collect` does.
     pub(crate) fn collect(&mut self, tag: Tag) -> Result<Collected<M::Content>, Refusal>
-        ensures does { IsTold (callbacks_of M.Module M.State.eq) self.old.cell (command.Collect tag) (collected_as result) self.new.cell }
+        ensures does { Leaves (IsTold (callbacks_of M.Module M.State.eq) self.old.cell (command.Collect tag) (collected_as result)) self.new.cell }
         ensures same { self.new.ends ≡ self.old.ends }
 
         ensures unchanged { OnErr result (self.new.cell ≡ self.old.cell) }
@@ -320,7 +342,7 @@ impl<M: Module> Inner<M> {
         tag: Tag,
         content: M::Content,
     ) -> Result<bool, Refused<M::Content>>
-        ensures does { IsTold (callbacks_of M.Module M.State.eq) self.old.cell (command.Reply tag content) (replied_as result) self.new.cell }
+        ensures does { Leaves (IsTold (callbacks_of M.Module M.State.eq) self.old.cell (command.Reply tag content) (replied_as result)) self.new.cell }
         ensures same { self.new.ends ≡ self.old.ends }
 
         ensures unchanged { OnErr result (self.new.cell ≡ self.old.cell) }
@@ -331,7 +353,7 @@ impl<M: Module> Inner<M> {
 
     /// Ends the machine at once, as `Cell::stop` does.
     pub(crate) fn stop(&mut self, reason: Reason) -> Result<u32, Refusal>
-        ensures does { IsTold (callbacks_of M.Module M.State.eq) self.old.cell (command.Stop reason) (stopped_as result) self.new.cell }
+        ensures does { Leaves (IsTold (callbacks_of M.Module M.State.eq) self.old.cell (command.Stop reason) (stopped_as result)) self.new.cell }
         ensures same { self.new.ends ≡ self.old.ends }
 
         ensures unchanged { OnErr result (self.new.cell ≡ self.old.cell) }
@@ -357,7 +379,7 @@ impl<M: Module> Inner<M> {
     pub(crate) fn is_long(&self, limit: usize) -> bool
         ensures { result ≡ is_long limit self.now.cell }
     {
-        let entries = self.cell.entries().len();
+        let entries = self.cell.entries();
         entries > limit && self.core().waiting() <= entries
     }
 
@@ -397,9 +419,9 @@ impl<M: Module> Inner<M> {
     }
 }
 
-/// The cell of an inner state is one with its journal.
+/// The cell of an inner state is what every cell is.
 pub(crate) fn its_cell_is_journaled<M: Module>(inner: &Inner<M>)
     ensures { IsJournaled (callbacks_of M.Module M.State.eq) inner.now.cell }
 {
-    a_cell_is_journaled(&inner.cell);
+    any_cell_is_journaled(&inner.cell);
 }

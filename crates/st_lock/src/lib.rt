@@ -1,4 +1,4 @@
-//! One machine under one lock, with its journal: threads share it, and each caller posts through a port of its own.
+//! One machine under one lock, with its journal or without one: threads share it, and each caller posts through a port of its own.
 //! It knows nothing of names, run queues and workers.
 #![tactic(auto)]
 

@@ -44,8 +44,8 @@ pub(crate) type HolderOf<M> = Holder<UnderLock<M>, Claim>;
 /// That lock's value, while it is out.
 pub(crate) type TakenOf<'a, M> = Taken<'a, UnderLock<M>, Claim, ByPort<M>>;
 
-/// A machine with its journal under one lock, which any number of threads share. Each call is one critical section, and
-/// in it one call of a `Cell`. Events are posted through ports: see `Machine::port`.
+/// A machine under one lock, with its journal or without one, which any number of threads share. Each call is one critical
+/// section, and in it one call of a `Cell`. Events are posted through ports: see `Machine::port`.
 ///
 /// A call may wait for the lock. No contract says that it gets it.
 ///
@@ -112,26 +112,24 @@ fn give_picked<M: Module, J: Claimed<Claim>>(
     drop(taken.give::<J>(holder, Some(inner)));
 }
 
-/// An inner state with this machine as its cell's base, in a box. Where there is no memory, the machine comes back.
+/// An inner state that has just begun, in a box. Where there is no memory, the machine comes back.
 pub(crate) fn boxed<M: Module>(
     alloc: Global,
-    core: Core<M>,
-) -> Result<(InnerOf<M>, Option<Token>), Refused<Core<M>>>
-    ensures inner { IfOk result (λ made. made.0.value ≡ inner_at_first core) }
-    ensures token { IfOk result (λ made. made.1 ≡ token_of (cell_at_first core).scheduled) }
+    inner: Inner<M>,
+) -> Result<InnerOf<M>, Refused<Core<M>>>
+    ensures inner { IfOk result (λ made. made.value ≡ inner) }
 
     ensures refusals { IfErr result (λ refused. refused.refusal ≡ NoMemory) }
-    ensures returned { IfErr result (λ refused. refused.value ≡ core) }
+    ensures returned { IfErr result (λ refused. refused.value ≡ inner.cell.scheduled.core) }
 {
-    let (inner, token) = Inner::new(alloc, core)?;
     match Box::new(alloc, inner) {
-        Ok(inner) => Ok((inner, token)),
+        Ok(inner) => Ok(inner),
         Err(failed) => Err(Refused::new(Refusal::NoMemory, failed.value.into_core())),
     }
 }
 
 impl<M: Module> Machine<M> {
-    /// Puts a machine with an empty journal under a lock. If it has work, it is issued a token, whose wake number is 0.
+    /// Puts a machine with an empty journal, which it keeps, under a lock. If it has work, it is issued a token, whose wake number is 0.
     ///
     /// Refused with `NoMemory` where memory is wanted and there is none; then the machine comes back, as it was.
     ///
@@ -146,10 +144,43 @@ impl<M: Module> Machine<M> {
         ensures refusals { IfErr result (λ refused. refused.refusal ≡ NoMemory) }
         ensures returned { IfErr result (λ refused. refused.value ≡ core) }
     {
-        let id = core.id();
-        let (inner, token) = boxed(alloc, core)?;
+        let (inner, token) = Inner::journaled(alloc, core)?;
+        let machine = Machine::locked(alloc, inner)?;
+        Ok((machine, token))
+    }
+
+    /// Puts a machine that keeps no journal under a lock. Its calls are those of every machine, with all their clauses: to
+    /// them its journal is empty. If it has work, it is issued a token, whose wake number is 0.
+    ///
+    /// Refused with `NoMemory` where memory is wanted and there is none; then the machine comes back, as it was.
+    ///
+    /// Ours: docs/DECISIONS.md, Machines without a journal, Tokens.
+    pub fn unjournaled(
+        alloc: Global,
+        core: Core<M>,
+    ) -> Result<(Machine<M>, Option<Token>), Refused<Core<M>>>
+        ensures id { IfOk result (λ made. id_of made.0 ≡ core.machine.id) }
+        ensures token { IfOk result (λ made. made.1 ≡ token_of (cell_at_first core).scheduled) }
+
+        ensures refusals { IfErr result (λ refused. refused.refusal ≡ NoMemory) }
+        ensures returned { IfErr result (λ refused. refused.value ≡ core) }
+    {
+        let (inner, token) = Inner::unjournaled(alloc, core);
+        let machine = Machine::locked(alloc, inner)?;
+        Ok((machine, token))
+    }
+
+    /// Puts an inner state that has just begun under a lock.
+    fn locked(alloc: Global, inner: Inner<M>) -> Result<Machine<M>, Refused<Core<M>>>
+        ensures id { IfOk result (λ machine. id_of machine ≡ inner.cell.scheduled.core.machine.id) }
+
+        ensures refusals { IfErr result (λ refused. refused.refusal ≡ NoMemory) }
+        ensures returned { IfErr result (λ refused. refused.value ≡ inner.cell.scheduled.core) }
+    {
+        let id = inner.id();
+        let inner = boxed(alloc, inner)?;
         match ClaimLock::new(alloc, Some(inner)) {
-            Ok((lock, _first)) => Ok((Machine::over(alloc, lock, id), token)),
+            Ok((lock, _first)) => Ok(Machine::over(alloc, lock, id)),
             Err(failed) => {
                 let Some(inner) = failed.value else {
                     unreachable!()

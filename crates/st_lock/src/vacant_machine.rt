@@ -7,6 +7,7 @@ ghost use Rattle.st_cell.specs.Cell.{cell_at_first};
 ghost use Rattle.st_lock.specs.Machines.{id_of, id_for};
 
 use crate::Machine;
+use crate::inner::Inner;
 use crate::machine::boxed;
 use st_cell::{Core, MachineId, Module, Refusal, Refused, Token};
 use std::alloc::Global;
@@ -19,10 +20,12 @@ use std::sync::{Arc, Wait};
 #[derive(Drop)]
 pub struct VacantMachine<M: Module> {
     machine: Arc<Machine<M>>,
+    // Whether the machine will keep its journal.
+    keeps: bool,
 }
 
 impl<M: Module> VacantMachine<M> {
-    /// Gets the memory for a machine of this id.
+    /// Gets the memory for a machine of this id, which will keep its journal.
     ///
     /// Refused with `NoMemory` where memory is wanted and there is none.
     ///
@@ -32,9 +35,31 @@ impl<M: Module> VacantMachine<M> {
 
         ensures refusals { IfErr result (λ refusal. refusal ≡ NoMemory) }
     {
+        VacantMachine::over(alloc, id, true)
+    }
+
+    /// Gets the memory for a machine of this id, which will keep no journal.
+    ///
+    /// Refused with `NoMemory` where memory is wanted and there is none.
+    ///
+    /// Ours: docs/DECISIONS.md, Machines without a journal.
+    pub fn unjournaled(alloc: Global, id: MachineId) -> Result<VacantMachine<M>, Refusal>
+        ensures id { IfOk result (λ vacant. id_for vacant ≡ id) }
+
+        ensures refusals { IfErr result (λ refusal. refusal ≡ NoMemory) }
+    {
+        VacantMachine::over(alloc, id, false)
+    }
+
+    /// The memory for a machine of this id, which will keep its journal or keep none.
+    fn over(alloc: Global, id: MachineId, keeps: bool) -> Result<VacantMachine<M>, Refusal>
+        ensures id { IfOk result (λ vacant. id_for vacant ≡ id) }
+
+        ensures refusals { IfErr result (λ refusal. refusal ≡ NoMemory) }
+    {
         let machine = Machine::without_inner(alloc, id)?;
         match Arc::new(alloc, machine) {
-            Ok(machine) => Ok(VacantMachine { machine }),
+            Ok(machine) => Ok(VacantMachine { machine, keeps }),
             Err(_) => Err(Refusal::NoMemory),
         }
     }
@@ -58,8 +83,9 @@ impl<M: Module> VacantMachine<M> {
         ensures refusals { IfErr result (λ refused. refused.refusal ≡ NoMemory) }
         ensures returned { IfErr result (λ refused. refused.value ≡ core) }
     {
-        let (inner, token) = boxed(alloc, core)?;
-        let VacantMachine { machine } = self;
+        let VacantMachine { machine, keeps } = self;
+        let (inner, token) = Inner::begun(alloc, core, keeps)?;
+        let inner = boxed(alloc, inner)?;
         machine.put(rt, inner);
         Ok((machine, token))
     }

@@ -1,6 +1,7 @@
 //! Machines by id and by name: an id names at most one machine, for good.
 #![tactic(auto)]
 
+mod making;
 mod registry;
 mod started;
 mod starts;

@@ -13,6 +13,7 @@ ghost use Rattle.st_lock.specs.Machines.{id_of};
 ghost use Rattle.st_registry.specs.Registry.{HasIds, StartsUnder, start_due, IsMachineAt, RefusesMachine, RefusesRemoval};
 
 use crate::Started;
+use crate::making::Making;
 use crate::starts::start_at;
 use indexmap::map::Iter;
 use st_core::MOMENT_LIMIT;
@@ -29,7 +30,7 @@ use std::sync::{Arc, Wait};
 #[derive(Drop)]
 pub struct Registry<M: Module> {
     directory: Directory<Arc<Machine<M>>>,
-    alloc: Global,
+    making: Making,
 }
 
 impl<M: Module> Model for Registry<M> {
@@ -51,7 +52,22 @@ impl<M: Module> Registry<M> {
     {
         Registry {
             directory: Directory::new(alloc),
-            alloc,
+            making: Making { alloc, keeps: true },
+        }
+    }
+
+    /// No machine yet, and those that are started keep no journal. It takes no memory.
+    ///
+    /// Ours: docs/DECISIONS.md, Machines without a journal, Directories.
+    pub fn unjournaled(alloc: Global) -> Registry<M>
+        ensures { result ≡ state_of [] [] 0 }
+    {
+        Registry {
+            directory: Directory::new(alloc),
+            making: Making {
+                alloc,
+                keeps: false,
+            },
         }
     }
 
@@ -85,7 +101,7 @@ impl<M: Module> Registry<M> {
         }
         match self.directory.prepare(name) {
             Ok(vacancy) => start_at(
-                self.alloc,
+                self.making,
                 rt,
                 &mut self.directory,
                 vacancy,

@@ -8,6 +8,7 @@ ghost use Rattle.st_lock.specs.Machines.{id_for};
 ghost use Rattle.st_registry.specs.Registry.{KeepsAs, StartsAs};
 
 use crate::Started;
+use crate::making::Making;
 use st_core::Start;
 use st_directory::{Directory, Vacancy};
 use st_lock::{Core, Machine, Module, Refused, VacantMachine};
@@ -16,7 +17,7 @@ use std::sync::{Arc, Wait};
 
 /// Starts a machine at its vacancy. A machine that is shared gives its module back no more, so the memory for it is got first.
 pub(crate) fn start_at<M: Module, R: Wait>(
-    alloc: Global,
+    making: Making,
     rt: &R,
     directory: &mut Directory<Arc<Machine<M>>>,
     vacancy: Vacancy,
@@ -27,14 +28,14 @@ pub(crate) fn start_at<M: Module, R: Wait>(
     requires room { HasRoomFor directory.old vacancy }
     ensures starts { StartsAs «module» (start_of (callbacks_of M.Module M.State.eq «module») «module» vacancy.id (M.init_is «module» arg.now) now 1) vacancy directory.old.state result directory.new.state }
 {
-    let vacant = match VacantMachine::new(alloc, vacancy.id()) {
+    let vacant = match making.vacant(vacancy.id()) {
         Ok(vacant) => vacant,
         Err(refusal) => return Err(Refused::new(refusal, module)),
     };
-    match Core::start(alloc, module, vacancy.id(), arg, now) {
+    match Core::start(making.alloc, module, vacancy.id(), arg, now) {
         Ok(Start::Running(core, report)) => {
             drop(report);
-            keep(alloc, rt, directory, vacancy, vacant, core)
+            keep(making.alloc, rt, directory, vacancy, vacant, core)
         }
         Ok(Start::Ignored) => Ok(Started::Ignored),
         Ok(Start::Stopped(reason)) => Ok(Started::Stopped(reason)),

@@ -4,6 +4,7 @@
 #![tactic(auto)]
 
 mod closing;
+mod journals;
 mod link;
 mod observer;
 mod options;
@@ -17,6 +18,7 @@ mod slices;
 mod spawned;
 mod unspawned;
 
+pub use journals::Journals;
 pub use observer::{Nobody, Observer, report_of};
 pub use options::Options;
 pub use service::Service;

@@ -49,6 +49,14 @@ pub struct Service<M: Module, R: Runtime + Clock, O: Observer<M> + Drop> {
     pub(crate) shutting: Shutting<M::Content>,
 }
 
+/// A registry without machines. Those that are started keep a journal, or none.
+fn registry<M: Module>(alloc: Global, keeps: bool) -> Registry<M> {
+    if keeps {
+        return Registry::new(alloc);
+    }
+    Registry::unjournaled(alloc)
+}
+
 impl<M: Module + Send + Sync + 'static, R: Runtime + Clock, O> Service<M, R, O>
 where
     O: Observer<M> + Drop + Send + Sync + 'static,
@@ -75,11 +83,12 @@ where
             return Err(AllocError);
         };
         let closing = Closing::new(alloc)?;
-        let hall = Arc::new(alloc, Hall::new(rt, Registry::new(alloc)))?;
+        let keeps = options.journals.are_kept() || observer.observes();
+        let hall = Arc::new(alloc, Hall::new(rt, registry(alloc, keeps)))?;
         let ticker = Ticker::new(rt, alloc, start, &hall)?;
         let slices = Slices::new(Arc::try_clone(&hall)?);
         let theirs = Arc::try_clone(&hall)?;
-        let limit = options.journal;
+        let limit = options.journals.limit();
         let served = ServedHall::new(rt, theirs, slices, observer, limit, closing.share()?);
         let served = Arc::new(alloc, served)?;
         let pool = TickedPool::start(rt, alloc, workers, &served, &ticker)?;

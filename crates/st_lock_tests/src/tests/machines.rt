@@ -1,4 +1,4 @@
-//! A machine that threads share answers as its cell does, also while an allocation is refused.
+//! A machine that threads share answers as its cell does, with a journal and without one, also while an allocation is refused.
 use super::asked::Asked;
 use super::begun::{ID, TOKEN_1, TOKEN_2};
 use super::by_rows::{AFTER_A_CUT, BEFORE_A_CUT, UNTIL_A_STOP};
@@ -17,7 +17,7 @@ use st_lock::Next;
 fn a_machine_by_rows(rt: HostRuntime) {
     let threads = rt;
     let rt = Host::new(rt);
-    let mut machine = share(&rt, rt.alloc());
+    let mut machine = share(&rt, rt.alloc(), true);
     machine.plays(&rt, &threads, UNTIL_A_STOP.as_slice());
     drop(machine);
     rt.end();
@@ -27,7 +27,7 @@ fn a_machine_by_rows(rt: HostRuntime) {
 fn a_machines_journal_is_cut(rt: HostRuntime) {
     let threads = rt;
     let rt = Host::new(rt);
-    let mut machine = fill_vacant(&rt, &threads, rt.alloc());
+    let mut machine = fill_vacant(&rt, &threads, rt.alloc(), true);
     machine.plays(&rt, &threads, BEFORE_A_CUT.as_slice());
     machine.plays(&rt, &threads, AFTER_A_CUT.as_slice());
     drop(machine);
@@ -38,7 +38,7 @@ fn a_machines_journal_is_cut(rt: HostRuntime) {
 fn each_call_of_a_machine_is_made_again(rt: HostRuntime) {
     let threads = rt;
     let rt = Host::new(rt);
-    let mut machine = share(&rt, rt.alloc());
+    let mut machine = share(&rt, rt.alloc(), true);
     machine.plays(&rt, &threads, EACH_CALL.as_slice());
     drop(machine);
     rt.end();
@@ -82,7 +82,37 @@ static SERVED: [Row; 17] = [
 fn a_machine_is_served(rt: HostRuntime) {
     let threads = rt;
     let rt = Host::new(rt);
-    let mut machine = share(&rt, rt.alloc());
+    let mut machine = share(&rt, rt.alloc(), true);
+    machine.plays(&rt, &threads, SERVED.as_slice());
+    drop(machine);
+    rt.end();
+}
+
+#[test]
+fn a_machine_without_a_journal_by_rows(rt: HostRuntime) {
+    let threads = rt;
+    let rt = Host::new(rt);
+    let mut machine = fill_vacant(&rt, &threads, rt.alloc(), false);
+    machine.plays(&rt, &threads, UNTIL_A_STOP.as_slice());
+    drop(machine);
+    rt.end();
+}
+
+#[test]
+fn each_call_of_a_machine_without_a_journal_is_made_again(rt: HostRuntime) {
+    let threads = rt;
+    let rt = Host::new(rt);
+    let mut machine = share(&rt, rt.alloc(), false);
+    machine.plays(&rt, &threads, EACH_CALL.as_slice());
+    drop(machine);
+    rt.end();
+}
+
+#[test]
+fn a_machine_without_a_journal_is_served(rt: HostRuntime) {
+    let threads = rt;
+    let rt = Host::new(rt);
+    let mut machine = share(&rt, rt.alloc(), false);
     machine.plays(&rt, &threads, SERVED.as_slice());
     drop(machine);
     rt.end();

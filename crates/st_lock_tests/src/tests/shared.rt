@@ -1,5 +1,5 @@
 //! A machine that threads share, with its ports, as a test sees it.
-ghost use Rattle.std.specs.Prelude.{◌≡◌};
+ghost use Rattle.std.specs.Prelude.{◌≡◌, IfOk};
 ghost use Rattle.st_lock.specs.Machines.{id_for};
 
 use super::asked::{Answered, Asked, Given, copied, looked, served};
@@ -7,10 +7,11 @@ use super::begun::{ID, is_made_again, machine};
 use super::host::{Host, got, holds};
 use super::plain::Plain;
 use super::played::{are_lines, is_given_back, is_labelled, is_sight};
-use super::row::Row;
+use super::row::{Row, Sight};
 use super::shows::shows;
 use st_lock::{
-    Core, Entry, Journal, Look, Machine, MachineId, Message, Port, Refusal, Token, VacantMachine,
+    Core, Entry, Journal, Look, Machine, MachineId, Message, Port, Refusal, Refused, Token,
+    VacantMachine,
 };
 use std::alloc::Global;
 use std::process::Abort;
@@ -21,6 +22,8 @@ use std::sync::{Arc, Wait};
 pub struct Shared {
     machine: Arc<Machine<Plain>>,
     ports: Vec<Port<Plain>>,
+    // Whether it keeps its journal.
+    keeps: bool,
 }
 
 /// What can be read of a machine of at most two ports, but its journal.
@@ -30,13 +33,26 @@ struct Reading {
     removable: bool,
 }
 
+/// A machine, and its token.
+type Made = Result<(Machine<Plain>, Option<Token>), Refused<Core<Plain>>>;
+
+/// Makes a machine that keeps its journal, or keeps none.
+fn make(alloc: Global, core: Core<Plain>, keeps: bool) -> Made {
+    if keeps {
+        Machine::new(alloc, core)
+    } else {
+        Machine::unjournaled(alloc, core)
+    }
+}
+
 /// Makes a machine. Where memory was refused, its core had come back, and it is made again.
 fn made(
     rt: &Host<impl Abort>,
     alloc: Global,
     core: Core<Plain>,
+    keeps: bool,
 ) -> (Machine<Plain>, Option<Token>) {
-    let refused = match Machine::new(alloc, core) {
+    let refused = match make(alloc, core, keeps) {
         Ok(made) => return made,
         Err(refused) => refused,
     };
@@ -44,7 +60,7 @@ fn made(
     got(
         rt,
         "one allocation alone is refused",
-        Machine::new(alloc, refused.value),
+        make(alloc, refused.value, keeps),
     )
 }
 
@@ -59,26 +75,39 @@ fn owned(rt: &Host<impl Abort>, alloc: Global, machine: Machine<Plain>) -> Arc<M
     }
 }
 
-/// A machine that has just started, and has no port. Where memory was refused, it is made again, and had come back.
-pub fn share(rt: &Host<impl Abort>, alloc: Global) -> Shared {
+/// A machine that has just started, and has no port. It keeps its journal, or keeps none. Where memory was refused, it is made
+/// again, and had come back.
+pub fn share(rt: &Host<impl Abort>, alloc: Global, keeps: bool) -> Shared {
     let core = machine(rt, alloc, 1, [].as_slice());
-    let (machine, token) = made(rt, alloc, core);
+    let (machine, token) = made(rt, alloc, core, keeps);
     holds(rt, "it has no work", token == None);
     Shared {
         machine: owned(rt, alloc, machine),
         ports: Vec::new(alloc),
+        keeps,
+    }
+}
+
+/// A vacant machine that will keep its journal, or keep none.
+fn vacate(alloc: Global, id: MachineId, keeps: bool) -> Result<VacantMachine<Plain>, Refusal>
+    ensures { IfOk result (λ vacant. id_for vacant ≡ id) }
+{
+    if keeps {
+        VacantMachine::new(alloc, id)
+    } else {
+        VacantMachine::unjournaled(alloc, id)
     }
 }
 
 /// A vacant machine. Where memory was refused, it is asked for again.
-fn vacant(rt: &Host<impl Abort>, alloc: Global, id: MachineId) -> VacantMachine<Plain>
+fn vacant(rt: &Host<impl Abort>, alloc: Global, id: MachineId, keeps: bool) -> VacantMachine<Plain>
     ensures { id_for result ≡ id }
 {
-    match VacantMachine::new(alloc, id) {
+    match vacate(alloc, id, keeps) {
         Ok(vacant) => vacant,
         Err(refusal) => {
             is_made_again(rt, refusal);
-            VacantMachine::new(alloc, id).expect(rt, "one allocation alone is refused")
+            vacate(alloc, id, keeps).expect(rt, "one allocation alone is refused")
         }
     }
 }
@@ -90,9 +119,10 @@ fn put(
     threads: &impl Wait,
     alloc: Global,
     core: Core<Plain>,
+    keeps: bool,
 ) -> (Arc<Machine<Plain>>, Option<Token>) {
     let id = core.id();
-    let refused = match vacant(rt, alloc, id).fill(alloc, threads, core) {
+    let refused = match vacant(rt, alloc, id, keeps).fill(alloc, threads, core) {
         Ok(put) => return put,
         Err(refused) => refused,
     };
@@ -100,19 +130,25 @@ fn put(
     got(
         rt,
         "one allocation alone is refused",
-        vacant(rt, alloc, id).fill(alloc, threads, refused.value),
+        vacant(rt, alloc, id, keeps).fill(alloc, threads, refused.value),
     )
 }
 
-/// A machine that has just started, and fills a vacant one.
-pub fn fill_vacant(rt: &Host<impl Abort>, threads: &impl Wait, alloc: Global) -> Shared {
+/// A machine that has just started, and fills a vacant one. It keeps its journal, or keeps none.
+pub fn fill_vacant(
+    rt: &Host<impl Abort>,
+    threads: &impl Wait,
+    alloc: Global,
+    keeps: bool,
+) -> Shared {
     let core = machine(rt, alloc, 1, [].as_slice());
-    let (machine, token) = put(rt, threads, alloc, core);
+    let (machine, token) = put(rt, threads, alloc, core, keeps);
     holds(rt, "it has no work", token == None);
     holds(rt, "it has the id of the vacant one", machine.id() == ID);
     Shared {
         machine,
         ports: Vec::new(alloc),
+        keeps,
     }
 }
 
@@ -270,10 +306,11 @@ fn journal(rt: &Host<impl Abort>, threads: &impl Wait, shared: &Shared) -> Journ
     }
 }
 
-/// Looks that the journal has the entries of the first rows, so many, and no other.
+/// Looks that the journal has the entries of the first rows, so many, and no other; or none, where none is kept.
 fn is_kept(rt: &Host<impl Abort>, threads: &impl Wait, shared: &Shared, rows: &[Row], done: usize) {
     let journal = journal(rt, threads, shared);
-    are_lines(rt, journal.entries.as_slice(), rows, done);
+    let lines = if shared.keeps { done } else { 0 };
+    are_lines(rt, journal.entries.as_slice(), rows, lines);
     drop(journal);
 }
 
@@ -320,23 +357,34 @@ impl Shared {
     pub fn plays(&mut self, rt: &Host<impl Abort>, threads: &impl Wait, rows: &[Row]) {
         for (done, row) in rows.iter().enumerate() {
             let given = self.tell(rt, threads, row, rows, done);
-            agrees(rt, &given, row, rows, done);
+            self.agrees(rt, &given, row, rows, done);
         }
         is_kept(rt, threads, self, rows, rows.len());
         let given = self.tell(rt, threads, &Row::Cuts, rows, rows.len());
-        agrees(rt, &given, &Row::Cuts, rows, rows.len());
+        self.agrees(rt, &given, &Row::Cuts, rows, rows.len());
         is_kept(rt, threads, self, rows, 0);
     }
-}
 
-/// Looks that what a call came to is what is wanted of a row, behind so many others.
-fn agrees(rt: &impl Abort, given: &Given, row: &Row, rows: &[Row], done: usize) {
-    match (given, row) {
-        (Given::Look(look), Row::Looks(_, sight)) => is_sight(rt, done, look, sight),
-        (Given::Journal(journal), Row::Copies(label, from)) => {
-            is_labelled(rt, done, journal, label, *from);
-            are_lines(rt, journal.entries.as_slice(), rows, done);
+    /// Looks that what a call came to is what is wanted of a row, behind so many others. Where no journal is kept, its base is
+    /// the machine as it is, and a look has no numbers.
+    fn agrees(&self, rt: &impl Abort, given: &Given, row: &Row, rows: &[Row], done: usize) {
+        match (given, row) {
+            (Given::Look(look), Row::Looks(_, sight)) if self.keeps => {
+                is_sight(rt, done, look, sight);
+            }
+            (Given::Look(look), Row::Looks(_, sight)) => {
+                let numbers: &[u64] = &[];
+                is_sight(rt, done, look, &Sight { numbers, ..*sight });
+            }
+            (Given::Journal(journal), Row::Copies(label, from)) if self.keeps => {
+                is_labelled(rt, done, journal, label, *from);
+                are_lines(rt, journal.entries.as_slice(), rows, done);
+            }
+            (Given::Journal(journal), Row::Copies(label, _)) => {
+                is_labelled(rt, done, journal, label, journal.from);
+                are_lines(rt, journal.entries.as_slice(), rows, 0);
+            }
+            _ => shows(rt, done, "the answer", given.is(&row.answer())),
         }
-        _ => shows(rt, done, "the answer", given.is(&row.answer())),
     }
 }

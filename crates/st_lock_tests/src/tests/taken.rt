@@ -126,14 +126,14 @@ static TURNED: [Row; 3] = [
 fn a_machine_is_read_and_hands_its_journal_out(rt: HostRuntime) {
     let threads = rt;
     let rt = Host::new(rt);
-    let mut shared = share(&rt, rt.alloc());
+    let mut shared = share(&rt, rt.alloc(), true);
     let first = read(shared.machine(), &threads);
     holds(&rt, "at first", first == (0, 0, None, None, false));
     shared.plays(&rt, &threads, POSTED.as_slice());
     let posted = read(shared.machine(), &threads);
     holds(&rt, "an event waits", posted == (0, 1, None, None, true));
     drop(shared);
-    let mut shared = share(&rt, rt.alloc());
+    let mut shared = share(&rt, rt.alloc(), true);
     shared.plays(&rt, &threads, TURNED.as_slice());
     let turned = read(shared.machine(), &threads);
     holds(&rt, "it is due", turned == (0, 0, Some(8), None, false));

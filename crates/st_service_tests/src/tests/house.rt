@@ -2,7 +2,8 @@
 use super::host::{Host, got, holds, same};
 use crate::{Clerk, Order};
 use st_service::{
-    Called, MachineId, Observer, Options, Runtime, Service, ServicePort, Spawned, Unposted,
+    Called, Journals, MachineId, Observer, Options, Runtime, Service, ServicePort, Spawned,
+    Unposted,
 };
 use std::process::Abort;
 use std::rt::Clock;
@@ -26,7 +27,7 @@ pub type Hatch<R, O> = ServicePort<Clerk, R, O>;
 /// As many events may wait as are tested, journals stay short, and shutting down makes so many turns.
 pub const OPTIONS: Options = Options {
     waiting: 1_000,
-    journal: Some(10),
+    journals: Journals::AtMost(10),
     turns: 1_000,
 };
 

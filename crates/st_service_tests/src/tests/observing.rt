@@ -3,6 +3,7 @@ use super::host::{Host, got, holds, same};
 use super::house::{ALONE, OPTIONS, Threads, hires, house, tells};
 use super::tally::{Counting, Tally};
 use crate::Order;
+use st_service::{Journals, Options};
 use std::process::Abort;
 use std::sync::Arc;
 use std::sync::atomic::{AtomicU64, Ordering};
@@ -16,7 +17,12 @@ fn tells_each_report<R: Threads>(rt: &Host<impl Abort + AllocGlobal>, threads: R
     };
     let tally = Arc::new(rt.alloc(), tally).expect(rt, "a tally");
     let theirs = Arc::try_clone(&tally).expect(rt, "an owner");
-    let mut house = house(rt, threads, OPTIONS, Counting { tally: theirs });
+    // He is told, so journals are kept for him.
+    let none = Options {
+        journals: Journals::None,
+        ..OPTIONS
+    };
+    let mut house = house(rt, threads, none, Counting { tally: theirs });
     let mut hatches = Vec::new(rt.alloc());
     for _ in 0..100 {
         let (_, hatch) = hires(rt, &house, None, ALONE);

@@ -2,12 +2,23 @@
 use super::host::{Host, got, holds, same};
 use super::house::{ALONE, OPTIONS, Threads, asks, hires, house, is_busy, sums, tells};
 use crate::{Clerk, Order};
-use st_service::{Called, Nobody, Options, Refusal, Refused, Unspawned};
+use st_service::{Called, Journals, Nobody, Options, Refusal, Refused, Unspawned};
 use std::process::Abort;
 
-/// A clerk is told, and asked for the sum, by name too, and shut down.
-fn is_told_and_asked<R: Threads>(rt: &Host<impl Abort + AllocGlobal>, threads: R) {
-    let mut house = house(rt, threads, OPTIONS, Nobody);
+/// A clerk is told, and asked for the sum, by name too, and shut down. His journal has so many posts, from the
+/// fewest to the most.
+fn is_told_and_asked<R: Threads>(
+    rt: &Host<impl Abort + AllocGlobal>,
+    threads: R,
+    journals: Journals,
+    fewest: usize,
+    most: usize,
+) {
+    let options = Options {
+        journals,
+        ..OPTIONS
+    };
+    let mut house = house(rt, threads, options, Nobody);
     let (id, mut hatch) = hires(rt, &house, Some("anna"), ALONE);
     for more in 1..=10 {
         tells(rt, &mut hatch, Order::Add(more));
@@ -22,7 +33,12 @@ fn is_told_and_asked<R: Threads>(rt: &Host<impl Abort + AllocGlobal>, threads: R
         "he was told so often",
         look.mine == 14 && hatch.count() == 14,
     );
-    holds(rt, "his journal is short", look.numbers.len() <= 13);
+    let numbers = look.numbers.len();
+    holds(
+        rt,
+        "what is kept of him",
+        fewest <= numbers && numbers <= most,
+    );
     same(rt, "by name", &house.whereis("anna"), &Ok(id));
     holds(rt, "one clerk", house.len() == 1 && !house.is_empty());
     let taken = house.spawn(Some("anna"), ALONE, &());
@@ -38,7 +54,23 @@ fn is_told_and_asked<R: Threads>(rt: &Host<impl Abort + AllocGlobal>, threads: R
 fn a_clerk_is_told_and_asked(rt: HostRuntime) {
     let threads = rt;
     let rt = Host::with_memory(rt);
-    is_told_and_asked(&rt, threads);
+    is_told_and_asked(&rt, threads, Journals::AtMost(10), 0, 13);
+    rt.end_with_memory();
+}
+
+#[test]
+fn a_clerk_without_a_journal_is_told_and_asked(rt: HostRuntime) {
+    let threads = rt;
+    let rt = Host::with_memory(rt);
+    is_told_and_asked(&rt, threads, Journals::None, 0, 0);
+    rt.end_with_memory();
+}
+
+#[test]
+fn a_clerk_with_his_whole_journal_is_told_and_asked(rt: HostRuntime) {
+    let threads = rt;
+    let rt = Host::with_memory(rt);
+    is_told_and_asked(&rt, threads, Journals::All, 14, 14);
     rt.end_with_memory();
 }
 

@@ -9,31 +9,31 @@ use Rattle.st_lock.proofs.inner.Inner.look.Goals as goal
 -- both endpoints have seen as many posts
 pub agree-requires-clause-counts : goal.agree-requires-clause-counts
 agree-requires-clause-counts g c =
-    let found = found_at c.args.self.now c.self.inside.cell c.self.inside.ends.items c.args.port c.args.counter.now c.index_mut-end.result.now c.self.view_is c.self.invariant
+    let found = found_at c.args.self.now c.self.inside.cell.cell c.self.inside.ends.items c.args.port c.args.counter.now c.index_mut-end.result.now c.self.view_is c.self.invariant
     c.requires.open c.requires.end c.index_mut-end.ensures.value in
     c.requires.count ∙ (ap (λ (inner : InnerState _ _ _ _). count_for c.args.port inner.cell) (sym c.self.view_is) ∙ sym found.is_end.count)
 
 -- the machine's endpoint is as it was
 pub invariant_of-self : goal.invariant_of-self
 invariant_of-self g c =
-    let found = found_at c.args.self.now c.self.inside.cell c.self.inside.ends.items c.args.port c.args.counter.now c.index_mut-end.result.now c.self.view_is c.self.invariant
+    let found = found_at c.args.self.now c.self.inside.cell.cell c.self.inside.ends.items c.args.port c.args.counter.now c.index_mut-end.result.now c.self.view_is c.self.invariant
     c.requires.open c.requires.end c.index_mut-end.ensures.value in
-    inner_same c.self.inside.cell c.self.inside.ends.items (c.args.port - 1) c.index_mut-end.result.now c.agree.new.machine found.there c.agree.ensures.same.0 c.self.invariant
+    inner_same c.self.inside.cell.cell c.self.inside.ends.items (c.args.port - 1) c.index_mut-end.result.now c.agree.new.machine found.there c.agree.ensures.same.0 c.self.invariant
 
 -- the numbers in the journal are the last of those that the port has seen
 pub returns-in-Ok-clause-numbers : goal.returns-in-Ok-clause-numbers
 returns-in-Ok-clause-numbers g c =
-    let found = found_at c.args.self.now c.self.inside.cell c.self.inside.ends.items c.args.port c.args.counter.now c.index_mut-end.result.now c.self.view_is c.self.invariant
+    let found = found_at c.args.self.now c.self.inside.cell.cell c.self.inside.ends.items c.args.port c.args.counter.now c.index_mut-end.result.now c.self.view_is c.self.invariant
     c.requires.open c.requires.end c.index_mut-end.ensures.value in
     let seen = c.index_mut-end.result.now.seen.posts in
-    let shown : c.in-Ok.look.numbers ≡ numbers_of (posts_of c.args.port c.self.inside.cell.journal) = ap (λ look. look.numbers) c.in-Ok.ensures.look in
+    let shown : c.in-Ok.look.numbers ≡ numbers_of (posts_of c.args.port c.self.inside.cell.cell.journal) = ap (λ look. look.numbers) c.in-Ok.ensures.look in
     subst (λ (posts : List (Post _)). EndsWith (numbers_of posts) c.in-Ok.look.numbers) (sym c.agree.ensures.agree)
-    (subst (λ (numbers : List ℕ). EndsWith (numbers_of seen) numbers) (sym shown) (numbers_end seen (posts_of c.args.port c.self.inside.cell.journal) found.is_end.posts))
+    (subst (λ (numbers : List ℕ). EndsWith (numbers_of seen) numbers) (sym shown) (numbers_end seen (posts_of c.args.port c.self.inside.cell.cell.journal) found.is_end.posts))
 
 -- the endpoints are of the same counters, and the port's is as it was
 pub returns-in-Ok-clause-same : goal.returns-in-Ok-clause-same
 returns-in-Ok-clause-same g c =
-    let found = found_at c.args.self.now c.self.inside.cell c.self.inside.ends.items c.args.port c.args.counter.now c.index_mut-end.result.now c.self.view_is c.self.invariant
+    let found = found_at c.args.self.now c.self.inside.cell.cell c.self.inside.ends.items c.args.port c.args.counter.now c.index_mut-end.result.now c.self.view_is c.self.invariant
     c.requires.open c.requires.end c.index_mut-end.ensures.value in (
       counters_set c.self.inside.ends.items (c.args.port - 1) c.index_mut-end.result.now c.agree.new.machine found.there (ap (λ end. end.counter) c.agree.ensures.same.0)
           ∙ ap (λ (inner : InnerState _ _ _ _). counters_of inner.ends) c.self.view_is,

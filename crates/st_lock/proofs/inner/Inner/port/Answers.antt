@@ -6,4 +6,4 @@ use Rattle.st_lock.proofs.inner.Inner.port.Goals as goal
 pub invariant_of-self-in-Ok : goal.invariant_of-self-in-Ok
 invariant_of-self-in-Ok g c =
     let items : c.push_reserved.new.self.items ≡ c.self.inside.ends.items ++ c.args.end ∷ [] = c.push_reserved.ensures.items ∙ ap (λ ends. ends ++ c.args.end ∷ []) c.reserve.ensures.items in
-    rw (c.in-Ok.ensures.opened, items) (inner_opened c.self.inside.cell c.self.inside.ends.items c.args.end c.requires c.a_port_that_is_not_open_has_no_posts.ensures c.self.invariant)
+    rw (c.in-Ok.ensures.opened, items) (inner_opened c.self.inside.cell.cell c.self.inside.ends.items c.args.end c.requires c.any_cell_is_journaled.ensures.others c.self.invariant)

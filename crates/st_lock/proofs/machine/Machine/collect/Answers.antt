@@ -3,4 +3,4 @@ use Rattle.st_lock.proofs.machine.Machine.collect.Goals as goal
 
 -- the cell that lay under the lock answers so
 pub returns : goal.returns
-returns g c = (c.deref_mut.result.now.cell, c.collect-answer.new.self.cell, record { own = search rules; journaled = search rules }, c.collect-answer.ensures.does)
+returns g c = (c.deref_mut.result.now.cell, c.collect-answer.ensures.does.0, record { own = search rules; journaled = search rules }, c.collect-answer.ensures.does.1)

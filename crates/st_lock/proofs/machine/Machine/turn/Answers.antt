@@ -3,4 +3,4 @@ use Rattle.st_lock.proofs.machine.Machine.turn.Goals as goal
 
 -- the cell that lay under the lock answers so
 pub returns-clause-does : goal.returns-clause-does
-returns-clause-does g c = (c.deref_mut.result.now.cell, c.turn-answer.new.self.cell, record { own = search rules; journaled = search rules }, c.turn-answer.ensures.does)
+returns-clause-does g c = (c.deref_mut.result.now.cell, c.turn-answer.ensures.does.0, record { own = search rules; journaled = search rules }, c.turn-answer.ensures.does.1)

@@ -1,5 +1,5 @@
 use Rattle.st_lock.proofs.InnerLemmas.{inner_begun}
-use Rattle.st_lock.proofs.inner.Inner.new.Goals as goal
+use Rattle.st_lock.proofs.inner.Inner.journaled.Goals as goal
 
 -- no port is open
 pub invariant_of-result : goal.invariant_of-result

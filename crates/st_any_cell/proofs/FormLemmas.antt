@@ -1,0 +1,80 @@
+-- What a call of a cell of either form leaves, by what it leaves of the form at hand.
+use Rattle.std.proofs.Common.{◌≡◌, ℕ, Bool, true, false, refl, sym, ap, subst, ◌∙◌, Box, Global}
+use Rattle.std.specs.Box.{with_value}
+use Rattle.std.specs.Prelude.{Result, Ok, Err, OnErr, IfErr}
+use Rattle.st_events.specs.declared.refused.Refused.{Refused}
+use Rattle.st_events.specs.declared.token.Token.{Token}
+use Rattle.st_core.specs.Callbacks.{Callbacks}
+use Rattle.st_cell.specs.declared.next.Next.{Next}
+use Rattle.st_cell.specs.Calls.{Turns}
+use Rattle.st_cell.specs.Cell.{CellState, IsJournaled}
+use Rattle.st_cell.proofs.CallLemmas.{turns_returned}
+use Rattle.st_cell.proofs.CellLemmas.{cut_kept, turns_refused}
+use Rattle.st_any_cell.specs.declared.any_cell.AnyCell.TheInside.{Inside}
+use Rattle.st_any_cell.specs.declared.bare.Bare.{Bare}
+use Rattle.st_any_cell.specs.declared.form.Form.{Form}
+use Rattle.st_any_cell.specs.declared.form.Form.TheVariants.{Journaled, Unjournaled}
+use Rattle.st_any_cell.specs.AnyCell.{AnyCellState, bare_cell, kept_as, state_of, IsAnyCell, IsCutBehind, Leaves}
+
+module _ {M S D C A : Type 0} where
+  -- ---- calls
+  -- of a cell that keeps its journal
+  pub journaled_called : {R : Type 0} (does : CellState M S D C → R → CellState M S D C → Type 0) (form : Form M S D C A) (inside : Inside M S D C A)
+      (box : Box (CellState M S D C) Global) (old new : CellState M S D C) (said result : R)
+      → form ≡ Journaled box → old ≡ box.value → inside ≡ record { form = Journaled (with_value box new) } → result ≡ said
+      → does old said new → Leaves (state_of form) (does (state_of form).cell result) (state_of inside.form)
+  journaled_called does form inside box old new said result is value after same done =
+      rw (after, is, same) (new, rw (← value) done, refl)
+
+  -- of one that keeps none
+  pub unjournaled_called : {R : Type 0} (does : CellState M S D C → R → CellState M S D C → Type 0) (form : Form M S D C A) (inside : Inside M S D C A)
+      (old new : Bare M S D C A) (said result : R)
+      → form ≡ Unjournaled old → inside ≡ record { form = Unjournaled new } → result ≡ said
+      → IsCutBehind (does (bare_cell old) said) (bare_cell new) → Leaves (state_of form) (does (state_of form).cell result) (state_of inside.form)
+  unjournaled_called does form inside old new said result is after same went =
+      rw (after, is, same) (went.0, went.1, ap (λ (cell : CellState M S D C). record { cell = cell; keeps = false }) went.2)
+
+module _ {M S D C : Type 0} (callbacks : M → Callbacks S D C) where
+  -- ---- it stays a cell
+  left_kept : (keeps : Bool) (after : CellState M S D C) → IsJournaled callbacks after
+      → IsAnyCell callbacks (record { cell = kept_as keeps after; keeps = keeps })
+  left_kept true after is = record { journaled = is; kept = refl }
+  left_kept false after is = record { journaled = cut_kept callbacks after is; kept = refl }
+
+  -- behind a call
+  pub any_kept : (does : CellState M S D C → Type 0) (old new : AnyCellState M S D C) → ((after : CellState M S D C) → does after → IsJournaled callbacks after)
+      → Leaves old does new → IsAnyCell callbacks new
+  any_kept does old new kept went =
+      subst (λ (state : AnyCellState M S D C). IsAnyCell callbacks state) (sym went.2) (left_kept old.keeps went.0 (kept went.0 went.1))
+
+  -- ---- a turn that is refused
+  pub turn_unchanged : (old new : AnyCellState M S D C) (token : Token) (now : ℕ) (result : Result Next (Refused Token)) → IsAnyCell callbacks old
+      → Leaves old (Turns callbacks old.cell token now result) new → OnErr result (new ≡ old)
+  turn_unchanged old new token now (Ok next) is went = tt
+  turn_unchanged old new token now (Err refused) is went =
+      let same : went.0 ≡ old.cell = turns_refused callbacks old.cell went.0 token now (Err refused) went.1 in
+      went.2 ∙ (ap (λ (cell : CellState M S D C). record old { cell = kept_as old.keeps cell }) same ∙ ap (λ (cell : CellState M S D C). record old { cell = cell }) is.kept)
+
+  pub turn_returned : (old new : AnyCellState M S D C) (token : Token) (now : ℕ) (result : Result Next (Refused Token))
+      → Leaves old (Turns callbacks old.cell token now result) new → IfErr result (λ refused. refused.value ≡ token)
+  turn_returned old new token now result went = turns_returned callbacks old.cell went.0 token now result went.1
+
+module _ {M S D C A : Type 0} (callbacks : M → Callbacks S D C) where
+  -- of either form
+  pub journaled_kept : (inside : Inside M S D C A) (box : Box (CellState M S D C) Global) (new : CellState M S D C)
+      → inside ≡ record { form = Journaled (with_value box new) } → IsJournaled callbacks new → IsAnyCell callbacks (state_of inside.form)
+  journaled_kept inside box new after is = rw after (record { journaled = is; kept = refl })
+
+  pub unjournaled_kept : (inside : Inside M S D C A) (new : Bare M S D C A)
+      → inside ≡ record { form = Unjournaled new } → IsJournaled callbacks (bare_cell new) → IsAnyCell callbacks (state_of inside.form)
+  unjournaled_kept inside new after is = rw after (record { journaled = is; kept = refl })
+
+  -- and it was one
+  pub was_journaled : (form : Form M S D C A) (box : Box (CellState M S D C) Global) (old : CellState M S D C)
+      → form ≡ Journaled box → old ≡ box.value → IsAnyCell callbacks (state_of form) → IsJournaled callbacks old
+  was_journaled form box old is value any =
+      rw value (subst (λ (one : Form M S D C A). IsJournaled callbacks (state_of one).cell) is any.journaled)
+
+  pub was_unjournaled : (form : Form M S D C A) (old : Bare M S D C A)
+      → form ≡ Unjournaled old → IsAnyCell callbacks (state_of form) → IsJournaled callbacks (bare_cell old)
+  was_unjournaled form old is any = subst (λ (one : Form M S D C A). IsJournaled callbacks (state_of one).cell) is any.journaled

@@ -1,0 +1,32 @@
+use Rattle.std.proofs.Common.{subst}
+use Rattle.st_core.specs.Callbacks.{callbacks_of}
+use Rattle.st_scheduled.specs.Answered.{posted_as}
+use Rattle.st_cell.specs.Calls.{Posts}
+use Rattle.st_cell.proofs.CellLemmas.{posts_kept}
+use Rattle.st_any_cell.specs.AnyCell.{AnyCellState, Leaves, state_of}
+use Rattle.st_any_cell.proofs.FormLemmas.{any_kept, journaled_called, unjournaled_called}
+use Rattle.st_any_cell.proofs.any_cell.AnyCell.post.Goals as goal
+use Rattle.st_any_cell.proofs.any_cell.AnyCell.post.Goals.{in-Journaled, in-Unjournaled}
+
+-- it stays a cell
+pub invariant_of-self : goal.invariant_of-self
+invariant_of-self g c =
+    any_kept (callbacks_of g.M.Module g.M.State.PartialEq.eq) (Posts (callbacks_of g.M.Module g.M.State.PartialEq.eq) (state_of c.self.inside.form).cell c.args.port c.args.entry c.args.content (posted_as c.match-self.result)) (state_of c.self.inside.form) (state_of c.match-self.self-inside.form)
+    (λ after does. posts_kept (callbacks_of g.M.Module g.M.State.PartialEq.eq) (state_of c.self.inside.form).cell after c.args.port c.args.entry c.args.content (posted_as c.match-self.result) (rw c.self.view_is c.requires) does c.self.invariant.journaled)
+    (elim c.match-self.branch [
+      | in-Journaled w ↦ journaled_called (λ old result after. Posts (callbacks_of g.M.Module g.M.State.PartialEq.eq) old c.args.port c.args.entry c.args.content (posted_as result) after) c.self.inside.form c.match-self.self-inside w.in-Journaled.cell w.deref_mut.result.now w.post.new.self w.post.result c.match-self.result
+          w.in-Journaled.is w.deref_mut.ensures.value w.self-inside-is w.result-is w.post.ensures.does
+      | in-Unjournaled w ↦ unjournaled_called (λ old result after. Posts (callbacks_of g.M.Module g.M.State.PartialEq.eq) old c.args.port c.args.entry c.args.content (posted_as result) after) c.self.inside.form c.match-self.self-inside w.in-Unjournaled.bare w.post-in-Unjournaled.new.self w.post-in-Unjournaled.result c.match-self.result
+          w.in-Unjournaled.is w.self-inside-is w.result-is w.post-in-Unjournaled.ensures.does
+    ])
+
+-- it does what a cell does
+pub returns-clause-does : goal.returns-clause-does
+returns-clause-does g c =
+    subst (λ (state : AnyCellState _ _ _ _). Leaves state (Posts (callbacks_of g.M.Module g.M.State.PartialEq.eq) state.cell c.args.port c.args.entry c.args.content (posted_as c.match-self.result)) (state_of c.match-self.self-inside.form)) c.self.view_is
+    (elim c.match-self.branch [
+      | in-Journaled w ↦ journaled_called (λ old result after. Posts (callbacks_of g.M.Module g.M.State.PartialEq.eq) old c.args.port c.args.entry c.args.content (posted_as result) after) c.self.inside.form c.match-self.self-inside w.in-Journaled.cell w.deref_mut.result.now w.post.new.self w.post.result c.match-self.result
+          w.in-Journaled.is w.deref_mut.ensures.value w.self-inside-is w.result-is w.post.ensures.does
+      | in-Unjournaled w ↦ unjournaled_called (λ old result after. Posts (callbacks_of g.M.Module g.M.State.PartialEq.eq) old c.args.port c.args.entry c.args.content (posted_as result) after) c.self.inside.form c.match-self.self-inside w.in-Unjournaled.bare w.post-in-Unjournaled.new.self w.post-in-Unjournaled.result c.match-self.result
+          w.in-Unjournaled.is w.self-inside-is w.result-is w.post-in-Unjournaled.ensures.does
+    ])

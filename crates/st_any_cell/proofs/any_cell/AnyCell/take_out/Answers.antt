@@ -1,0 +1,29 @@
+use Rattle.st_core.specs.Callbacks.{callbacks_of}
+use Rattle.st_cell.specs.Calls.{TakesOut}
+use Rattle.st_cell.proofs.CellLemmas.{takes_kept}
+use Rattle.st_any_cell.specs.AnyCell.{state_of}
+use Rattle.st_any_cell.proofs.FormLemmas.{any_kept, journaled_called, unjournaled_called}
+use Rattle.st_any_cell.proofs.any_cell.AnyCell.take_out.Goals as goal
+use Rattle.st_any_cell.proofs.any_cell.AnyCell.take_out.Goals.{in-Journaled, in-Unjournaled}
+
+-- it stays a cell
+pub invariant_of-self : goal.invariant_of-self
+invariant_of-self g c =
+    any_kept (callbacks_of g.M.Module g.M.State.PartialEq.eq) (TakesOut (callbacks_of g.M.Module g.M.State.PartialEq.eq) (state_of c.self.inside.form).cell c.args.token c.match-self.result) (state_of c.self.inside.form) (state_of c.match-self.self-inside.form)
+    (λ after does. takes_kept (callbacks_of g.M.Module g.M.State.PartialEq.eq) (state_of c.self.inside.form).cell after c.args.token c.match-self.result does c.self.invariant.journaled)
+    (elim c.match-self.branch [
+      | in-Journaled w ↦ journaled_called (λ old result after. TakesOut (callbacks_of g.M.Module g.M.State.PartialEq.eq) old c.args.token result after) c.self.inside.form c.match-self.self-inside w.in-Journaled.cell w.deref_mut.result.now w.take_out.new.self w.take_out.result c.match-self.result
+          w.in-Journaled.is w.deref_mut.ensures.value w.self-inside-is w.result-is w.take_out.ensures.does
+      | in-Unjournaled w ↦ unjournaled_called (λ old result after. TakesOut (callbacks_of g.M.Module g.M.State.PartialEq.eq) old c.args.token result after) c.self.inside.form c.match-self.self-inside w.in-Unjournaled.bare w.take_out-in-Unjournaled.new.self w.take_out-in-Unjournaled.result c.match-self.result
+          w.in-Unjournaled.is w.self-inside-is w.result-is w.take_out-in-Unjournaled.ensures.does
+    ])
+
+-- it does what a cell does
+pub returns-clause-does : goal.returns-clause-does
+returns-clause-does g c =
+    rw (← c.self.view_is) (elim c.match-self.branch [
+      | in-Journaled w ↦ journaled_called (λ old result after. TakesOut (callbacks_of g.M.Module g.M.State.PartialEq.eq) old c.args.token result after) c.self.inside.form c.match-self.self-inside w.in-Journaled.cell w.deref_mut.result.now w.take_out.new.self w.take_out.result c.match-self.result
+          w.in-Journaled.is w.deref_mut.ensures.value w.self-inside-is w.result-is w.take_out.ensures.does
+      | in-Unjournaled w ↦ unjournaled_called (λ old result after. TakesOut (callbacks_of g.M.Module g.M.State.PartialEq.eq) old c.args.token result after) c.self.inside.form c.match-self.self-inside w.in-Unjournaled.bare w.take_out-in-Unjournaled.new.self w.take_out-in-Unjournaled.result c.match-self.result
+          w.in-Unjournaled.is w.self-inside-is w.result-is w.take_out-in-Unjournaled.ensures.does
+    ])

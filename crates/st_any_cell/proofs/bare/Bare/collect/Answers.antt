@@ -1,0 +1,13 @@
+use Rattle.st_core.specs.declared.command.Command.TheVariants as command
+use Rattle.st_core.specs.Callbacks.{callbacks_of}
+use Rattle.st_scheduled.specs.Answered.{collected_as}
+use Rattle.st_cell.specs.declared.source.Source.TheVariants as source
+use Rattle.st_any_cell.proofs.BareLemmas.{bare_told, told_takes}
+use Rattle.st_any_cell.proofs.bare.Bare.collect.Goals as goal
+
+-- it does what a cell does, and keeps nothing of it
+pub returns : goal.returns
+returns g c = record {
+  does = bare_told (callbacks_of g.M.Module g.M.State.PartialEq.eq) c.args.self.now.scheduled c.args.self.now.ports.items source.Caller (command.Collect c.args.tag) (collected_as c.collect.result) c.collect.new.self
+      (told_takes (callbacks_of g.M.Module g.M.State.PartialEq.eq) c.args.self.now.scheduled (command.Collect c.args.tag)) c.collect.ensures.told;
+}

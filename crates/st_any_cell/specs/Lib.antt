@@ -1,0 +1,2 @@
+-- What a cell is that keeps its journal or keeps none, and what its calls leave.
+pub mod AnyCell
