@@ -58,15 +58,27 @@ impl Celled for Cell<Load> {
     }
 }
 
-/// A machine in a cell with one port.
-pub fn in_cell(alloc: Global, core: Core<Load>) -> Result<Cell<Load>, Refusal> {
+/// A machine in a cell.
+fn begun(alloc: Global, core: Core<Load>) -> Result<Cell<Load>, Refusal> {
     match Cell::new(alloc, core) {
-        Ok((mut cell, _token)) => match cell.port() {
-            Ok(_port) => Ok(cell),
-            Err(refusal) => Err(refusal),
-        },
+        Ok((cell, _token)) => Ok(cell),
         Err(Refused { refusal, .. }) => Err(refusal),
     }
+}
+
+/// Opens the one port.
+fn open(cell: &mut Cell<Load>) -> Result<(), Refusal> {
+    match cell.port() {
+        Ok(_port) => Ok(()),
+        Err(refusal) => Err(refusal),
+    }
+}
+
+/// A machine in a cell with one port.
+pub fn in_cell(alloc: Global, core: Core<Load>) -> Result<Cell<Load>, Refusal> {
+    let mut cell = begun(alloc, core)?;
+    open(&mut cell)?;
+    Ok(cell)
 }
 
 /// Posts an event and serves the machine. It answers the event's number.

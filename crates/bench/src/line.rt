@@ -18,6 +18,7 @@ use crate::turns::{ticked_turns, turns};
 use crate::watch::watch_each;
 use crate::workers::{call_to_pool, cast_to_pool, insert_by_workers, pass_by_workers};
 use st_core::{Core, MachineId, Refusal};
+use st_lock::Cell;
 use st_pool::Runtime;
 use st_runq::Lane;
 use std::alloc::Global;
@@ -263,11 +264,16 @@ impl Line {
 
     /// Does a line of the door.
     fn done_by_latch(self, alloc: Global, count: u32) -> Result<u64, Refusal> {
-        let Some(mut door) = started(alloc, Latch, ID, &0)? else {
-            return Ok(0);
-        };
+        match started(alloc, Latch, ID, &0)? {
+            Some(mut door) => self.done_at_door(&mut door, count),
+            None => Ok(0),
+        }
+    }
+
+    /// Does a line at a door that is locked.
+    fn done_at_door(self, door: &mut Core<Latch>, count: u32) -> Result<u64, Refusal> {
         if matches!(self, Line::WrongButtons) {
-            return post_and_turn_each(&mut door, Press::Button(9), count);
+            return post_and_turn_each(door, Press::Button(9), count);
         }
         let presses = [
             Press::Button(1),
@@ -275,16 +281,15 @@ impl Line {
             Press::Button(9),
             Press::Lock,
         ];
-        cycle(&mut door, &presses, count)
+        cycle(door, &presses, count)
     }
 
     /// Does a line of a machine in a cell.
     fn done_in_cell(self, alloc: Global, count: u32, more: u32) -> Result<u64, Refusal> {
-        let Some(load) = started(alloc, Load, ID, &0)? else {
-            return Ok(0);
-        };
-        let mut cell = in_cell(alloc, load)?;
-        self.done_over(&mut cell, count, more)
+        match started_in_cell(alloc)? {
+            Some(mut cell) => self.done_over(&mut cell, count, more),
+            None => Ok(0),
+        }
     }
 
     /// Does a line over a cell.
@@ -493,13 +498,27 @@ fn many_machines(alloc: Global, count: u32, many: u32) -> Result<u64, Refusal> {
     Ok(turns)
 }
 
+/// A machine that has just started, in a cell.
+fn started_in_cell(alloc: Global) -> Result<Option<Cell<Load>>, Refusal> {
+    match started(alloc, Load, ID, &0)? {
+        Some(load) => Ok(Some(in_cell(alloc, load)?)),
+        None => Ok(None),
+    }
+}
+
+/// Starts and stops a machine.
+fn start_and_stop(alloc: Global) -> Result<u64, Refusal> {
+    match started(alloc, Load, ID, &0)? {
+        Some(mut core) => end(&mut core),
+        None => Ok(0),
+    }
+}
+
 /// Starts and stops one machine after another.
 fn started_and_stopped(alloc: Global, count: u32) -> Result<u64, Refusal> {
     let mut ended = 0u64;
     for _ in 0..count {
-        if let Some(mut core) = started(alloc, Load, ID, &0)? {
-            ended = ended.saturating_add(end(&mut core)?);
-        }
+        ended = ended.saturating_add(start_and_stop(alloc)?);
     }
     Ok(ended)
 }

@@ -3,7 +3,8 @@ ghost use Rattle.std.specs.Prelude.{◌≡◌, ◌≤◌, ◌^◌, [], true, fal
 ghost use Rattle.std.specs.Io.KnownBytes.{Appends};
 ghost use Rattle.st_core.specs.Run.{step_of};
 ghost use Rattle.st_door.specs.Doors.{door_at_first, door_callbacks, told_kept, serves};
-ghost use Rattle.st_cell.specs.Cell.{IsOpen};
+ghost use Rattle.st_cell.specs.Calls.{opened as with_port};
+ghost use Rattle.st_cell.specs.Cell.{IsOpen, cell_at_first};
 ghost use Rattle.st_door.specs.Entries.{machine_in, past_in};
 ghost use Rattle.st_door.specs.Late.{IsQuietUntil, is_late};
 ghost use Rattle.st_door.specs.Settling.{CanServe, message_from, served_kept};
@@ -57,6 +58,33 @@ fn past_at_first(
     Ok(Some(Box::new(alloc, Past::new(alloc, core.latest()))?))
 }
 
+/// Puts a door's machine into a cell.
+fn celled(alloc: Global, core: Core<Door>) -> Result<Cell<Door>, AllocError>
+    ensures { IfOk result (λ cell. cell ≡ cell_at_first core) }
+{
+    match Cell::new(alloc, core) {
+        Ok((cell, _token)) => Ok(cell),
+        Err(_refused) => Err(AllocError),
+    }
+}
+
+/// Puts a cell into a box.
+fn boxed(alloc: Global, cell: Cell<Door>) -> Result<Box<Cell<Door>>, AllocError>
+    ensures { IfOk result (λ boxed. boxed.value ≡ cell) }
+{
+    Ok(Box::new(alloc, cell)?)
+}
+
+/// Opens a port of a cell.
+fn open(cell: &mut Cell<Door>) -> Result<(), AllocError>
+    ensures { OnOk result (cell.new ≡ (with_port cell.old).1) }
+{
+    match cell.port() {
+        Ok(_number) => Ok(()),
+        Err(_refusal) => Err(AllocError),
+    }
+}
+
 /// Puts a door's machine into a cell, and opens its port.
 fn opened(alloc: Global, core: Core<Door>) -> Result<Box<Cell<Door>>, AllocError>
     ensures machine { IfOk result (λ cell. machine_in cell.value ≡ core.machine) }
@@ -64,13 +92,10 @@ fn opened(alloc: Global, core: Core<Door>) -> Result<Box<Cell<Door>>, AllocError
     ensures count { IfOk result (λ cell. cell.value.scheduled.count ≡ 0) }
     ensures port { IfOk result (λ cell. IsOpen 1 cell.value) }
 {
-    let Ok((mut cell, _token)) = Cell::new(alloc, core) else {
-        return Err(AllocError);
-    };
-    if cell.port().is_err() {
-        return Err(AllocError);
-    }
-    Ok(Box::new(alloc, cell)?)
+    let cell = celled(alloc, core)?;
+    let mut cell = boxed(alloc, cell)?;
+    open(&mut cell)?;
+    Ok(cell)
 }
 
 impl DoorCell {

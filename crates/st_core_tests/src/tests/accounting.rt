@@ -3,9 +3,9 @@ use super::host::{Host, holds, same};
 use super::machine::Machine;
 use super::reserved::with_reserved;
 use super::shown::Shown::{Posted, Reported};
-use super::shown::{Did, Shown, read};
+use super::shown::{Did, Shown};
 use super::table::Table;
-use super::table_machine::BEGIN;
+use super::table_machine::PLAIN;
 use super::tested::tell;
 use super::told::Told::{Call, Cast, Collect, Reply, Tick, Turn};
 use super::told::{THIRD, Told};
@@ -78,7 +78,7 @@ impl Account {
 
     /// Tells a command, and counts what it answers: the accepted ones that are not finished are as many as wait.
     fn follow<T: Machine>(&mut self, rt: &Host<impl Abort>, machine: &mut T, told: Told) {
-        self.count(rt, &read(&tell(rt, machine, told)));
+        self.count(rt, &tell(rt, machine, told));
         let told_of = self.finished.len().checked_add(machine.see().waiting);
         let accepted = Some(self.accepted.len());
         same(
@@ -92,7 +92,7 @@ impl Account {
 
 /// Tells a machine commands, and counts after each. Nothing waits in the end, and so many were accepted.
 fn all_count<T: Machine>(rt: &Host<impl Abort>, alloc: Global, told: &[Told], accepted: usize) {
-    let mut machine = T::begun(rt, alloc, &BEGIN);
+    let mut machine = T::begun(rt, alloc, &PLAIN);
     let mut account = Account::new(rt, alloc);
     for one in told {
         account.follow(rt, &mut machine, *one);
@@ -110,8 +110,7 @@ fn all_count<T: Machine>(rt: &Host<impl Abort>, alloc: Global, told: &[Told], ac
 /// the accepted ones that are not finished are as many as wait.
 #[test]
 fn what_is_accepted_waits_or_is_finished(rt: HostRuntime) {
-    let rt = Host::new(rt);
-    let told = [
+    static TOLD: [Told; 23] = [
         Cast(10),
         Cast(12),
         Call(5),
@@ -136,6 +135,7 @@ fn what_is_accepted_waits_or_is_finished(rt: HostRuntime) {
         Turn(9),
         Turn(9),
     ];
-    all_count::<Core<Table>>(&rt, rt.alloc(), &told, 10);
+    let rt = Host::new(rt);
+    all_count::<Core<Table>>(&rt, rt.alloc(), &TOLD, 10);
     rt.end();
 }

@@ -118,25 +118,30 @@ fn comes_at_once(set: &[(Timer, Decision)]) -> bool {
     false
 }
 
-/// Looks that a machine has only started.
-fn has_begun<M: Module<State = u32, Data = u32, Content = u32>>(
-    rt: &Host<impl Abort>,
-    core: &Core<M>,
-    begin: &Begin<M>,
-) {
+/// Looks that a machine that is seen so has only started.
+fn sees_begun<M>(rt: &Host<impl Abort>, seen: &Seen, begin: &Begin<M>) {
     let has_event = !begin.inserted.is_empty() || comes_at_once(begin.set);
     let has_message = !begin.sent.is_empty();
     let wanted = Seen {
         is_ready: has_event || has_message,
         has_event,
         has_message,
-        state: core.state(),
-        held: *core.data(),
+        state: seen.state,
+        held: seen.held,
         latest: begin.now,
         waiting: begin.inserted.len(),
         ended: None,
     };
-    sees(rt, &see(core), &wanted);
+    sees(rt, seen, &wanted);
+}
+
+/// Looks that a machine has only started.
+fn has_begun<M: Module<State = u32, Data = u32, Content = u32>>(
+    rt: &Host<impl Abort>,
+    core: &Core<M>,
+    begin: &Begin<M>,
+) {
+    sees_begun(rt, &see(core), begin);
     keeps(rt, &kept_in(core), &Kept::none());
     same(rt, "the id", &core.id(), &ID);
 }

@@ -82,12 +82,17 @@ fn all_found_memory(answers: &[Answer<u32, u32>]) -> bool {
     true
 }
 
+/// Looks that an answer, where there is one, is the one that is wanted.
+fn answer_agrees(rt: &Host<impl Abort>, answer: Option<&Answer<u32, u32>>, row: &Row) {
+    if let Some(answer) = answer {
+        agree(rt, answer, &row.wanted());
+    }
+}
+
 /// Looks that each answer is the one that is wanted.
 fn answers_agree(rt: &Host<impl Abort>, answers: &[Answer<u32, u32>], rows: &[Row]) {
     for place in 0..rows.len() {
-        if let Some(answer) = answers.get(place) {
-            agree(rt, answer, &rows[place].wanted());
-        }
+        answer_agrees(rt, answers.get(place), &rows[place]);
     }
 }
 

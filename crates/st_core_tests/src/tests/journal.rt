@@ -5,7 +5,7 @@ use super::reserved::with_reserved;
 use super::shown::Shown::{Gone, Idle, Stopped, Ticked};
 use super::shown::agree;
 use super::table::Table;
-use super::table_machine::BEGIN;
+use super::table_machine::PLAIN;
 use super::told::FIRST;
 use crate::{AnswerOf, AnswersOf, step_alone, turn_and_collect, two_runs, two_steps};
 use st_core::{Answer, Command, Core, Refusal, Refused, Tag};
@@ -130,7 +130,7 @@ fn runs_answer<T: Joined>(rt: &Host<impl Abort>, alloc: Global, machine: &mut T)
 
 /// Looks at the answers of a machine to steps, calls and runs that are put together.
 fn all_answer<T: Joined>(rt: &Host<impl Abort>, alloc: Global) {
-    let mut machine = T::begun(rt, alloc, &BEGIN);
+    let mut machine = T::begun(rt, alloc, &PLAIN);
     steps_answer(rt, &mut machine);
     calls_answer(rt, &mut machine);
     runs_answer(rt, alloc, &mut machine);

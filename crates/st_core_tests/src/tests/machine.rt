@@ -3,10 +3,12 @@ use super::begin::{Begin, begun};
 use super::few::Few;
 use super::host::{Host, got, holds};
 use super::seen::{Kept, Running, Seen, Whole};
-use super::shown::{Taken, read_message};
+use super::shown::{Shown, Taken, read, read_message};
 use super::table::Table;
 use super::told::{Told, tag};
-use st_core::{Answer, Command, Core, Entry, Module, Refusal, Refused, Snapshot, Tag, Turns};
+use st_core::{
+    Answer, Command, Core, Entry, Module, PlainList, Refusal, Refused, Snapshot, Tag, Turns,
+};
 use std::alloc::Global;
 use std::process::Abort;
 
@@ -16,8 +18,8 @@ pub trait Machine: Drop {
     /// One that has started, and is looked at.
     fn begun(rt: &Host<impl Abort>, alloc: Global, begin: &Begin<Table>) -> Self;
 
-    /// Makes the call of one command.
-    fn call(&mut self, told: Told) -> Answer<u32, u32>;
+    /// Makes the call of one command, and shows its answer.
+    fn call(&mut self, told: Told) -> Shown;
 
     /// Makes the call of a run.
     fn call_run(
@@ -89,10 +91,14 @@ pub fn kept_in<M: Module<Content = u32>>(core: &Core<M>) -> Kept {
     }
 }
 
+/// Time-outs that run, as a value that can be copied.
+fn few_of(running: PlainList<Running>) -> Few<Running> {
+    Few::of(running.as_slice())
+}
+
 /// The running time-outs, or that there is no memory for them.
 fn try_timers<M: Module>(core: &Core<M>) -> Result<Few<Running>, Refusal> {
-    let running = core.timers()?;
-    Ok(Few::of(running.as_slice()))
+    core.timers().map(few_of)
 }
 
 impl Machine for Core<Table> {
@@ -100,8 +106,8 @@ impl Machine for Core<Table> {
         begun(rt, alloc, begin)
     }
 
-    fn call(&mut self, told: Told) -> Answer<u32, u32> {
-        call(self, told)
+    fn call(&mut self, told: Told) -> Shown {
+        read(&call(self, told))
     }
 
     fn call_run(

@@ -7,9 +7,9 @@ use super::row::Row;
 use super::row::Row::{Tells, Turns};
 use super::seen::{Seen, sees};
 use super::shown::Shown::{Idle, NotPosted, NotTurned, Posted};
-use super::shown::{agree, read};
+use super::shown::shows;
 use super::table::Table;
-use super::table_machine::{BEGIN, answers_are, at_rest, postponing};
+use super::table_machine::{AT_REST, BEGIN, PLAIN, RESTING, answers_are};
 use super::tested::play;
 use super::told::Told::{Cast, Turn};
 use st_core::{Core, Kind, Refusal};
@@ -19,7 +19,7 @@ use std::process::Abort;
 /// Two casts are postponed, and the third changes the state.
 #[test]
 fn postponed_casts_keep_their_places(rt: HostRuntime) {
-    let rows = [
+    static ROWS: [Row; 11] = [
         Tells(Cast(10), Posted(1)),
         Tells(Cast(10), Posted(2)),
         Tells(Cast(3), Posted(3)),
@@ -32,13 +32,17 @@ fn postponed_casts_keep_their_places(rt: HostRuntime) {
         Turns(0, 4, Kind::Cast, 1, 1, &[]),
         Tells(Turn(0), Idle),
     ];
-    answers_are(rt, &BEGIN, &rows, &at_rest(1, 7, 0));
+    static END: Seen = Seen {
+        state: 1,
+        ..AT_REST
+    };
+    answers_are(rt, &PLAIN, &ROWS, &END);
 }
 
 /// One cast is postponed; another changes the state, is postponed itself and inserts two events.
 #[test]
 fn inserted_events_come_before_retried_ones(rt: HostRuntime) {
-    let rows = [
+    static ROWS: [Row; 9] = [
         Tells(Cast(10), Posted(1)),
         Tells(Cast(11), Posted(2)),
         Turns(0, 1, Kind::Cast, 0, 0, &[PutsOff]),
@@ -49,20 +53,24 @@ fn inserted_events_come_before_retried_ones(rt: HostRuntime) {
         Turns(0, 2, Kind::Cast, 1, 1, &[]),
         Tells(Turn(0), Idle),
     ];
-    answers_are(rt, &BEGIN, &rows, &at_rest(1, 7, 0));
+    static END: Seen = Seen {
+        state: 1,
+        ..AT_REST
+    };
+    answers_are(rt, &PLAIN, &ROWS, &END);
 }
 
 /// Makes a turn of a machine that is seen so. Where it is refused, the machine is seen so still, and tried again the
 /// turn reports what it is to.
 fn turns_or_stays<T: Machine>(rt: &Host<impl Abort>, machine: &mut T, row: &Row, before: &Seen) {
     sees(rt, &machine.see(), before);
-    let mut answer = machine.call(row.told());
-    if read(&answer).found_no_memory() {
+    let mut shown = machine.call(row.told());
+    if shown.found_no_memory() {
         sees(rt, &machine.see(), before);
         rt.retry();
-        answer = machine.call(row.told());
+        shown = machine.call(row.told());
     }
-    agree(rt, &answer, &row.wanted());
+    shows(rt, &shown, &row.wanted());
 }
 
 /// Does the commands of rows, and then makes a turn of the machine, which is seen so before it.
@@ -73,7 +81,7 @@ fn stays_behind<T: Machine>(
     last: &Row,
     before: &Seen,
 ) {
-    let mut machine = T::begun(rt, alloc, &BEGIN);
+    let mut machine = T::begun(rt, alloc, &PLAIN);
     play(rt, &mut machine, rows);
     turns_or_stays(rt, &mut machine, last, before);
 }
@@ -82,25 +90,26 @@ fn stays_behind<T: Machine>(
 /// reports the same.
 #[test]
 fn a_refused_turn_changes_nothing(rt: HostRuntime) {
-    let rt = Host::new(rt);
-    let rows = [
+    static ROWS: [Row; 3] = [
         Tells(Cast(10), Posted(1)),
         Tells(Cast(11), Posted(2)),
         Turns(0, 1, Kind::Cast, 0, 0, &[PutsOff]),
     ];
-    let last = Turns(0, 2, Kind::Cast, 0, 1, &[PutsOff, Inserts(3), Inserts(4)]);
-    let before = Seen {
+    static LAST: Row = Turns(0, 2, Kind::Cast, 0, 1, &[PutsOff, Inserts(3), Inserts(4)]);
+    static BEFORE: Seen = Seen {
         is_ready: true,
         has_event: true,
-        ..postponing(2, 0, 7, 0)
+        waiting: 2,
+        ..AT_REST
     };
-    stays_behind::<Core<Table>>(&rt, rt.alloc(), &rows, &last, &before);
+    let rt = Host::new(rt);
+    stays_behind::<Core<Table>>(&rt, rt.alloc(), &ROWS, &LAST, &BEFORE);
     rt.end();
 }
 
 #[test]
 fn postponed_events_stay_without_a_change(rt: HostRuntime) {
-    let rows = [
+    static ROWS: [Row; 7] = [
         Tells(Cast(10), Posted(1)),
         Tells(Cast(12), Posted(2)),
         Turns(0, 1, Kind::Cast, 0, 0, &[PutsOff]),
@@ -109,40 +118,49 @@ fn postponed_events_stay_without_a_change(rt: HostRuntime) {
         Turns(0, 4, Kind::Cast, 0, 0, &[]),
         Tells(Turn(0), Idle),
     ];
-    let end = postponing(2, 0, 7, 0);
-    answers_are(rt, &BEGIN, &rows, &end);
+    static END: Seen = Seen {
+        waiting: 2,
+        ..AT_REST
+    };
+    answers_are(rt, &PLAIN, &ROWS, &END);
 }
 
 #[test]
 fn the_same_state_retries_nothing(rt: HostRuntime) {
-    let rows = [
+    static ROWS: [Row; 5] = [
         Tells(Cast(10), Posted(1)),
         Tells(Cast(9), Posted(2)),
         Turns(0, 1, Kind::Cast, 0, 0, &[PutsOff]),
         Turns(0, 2, Kind::Cast, 0, 0, &[]),
         Tells(Turn(0), Idle),
     ];
-    let end = postponing(1, 0, 7, 0);
-    answers_are(rt, &BEGIN, &rows, &end);
+    static END: Seen = Seen {
+        waiting: 1,
+        ..AT_REST
+    };
+    answers_are(rt, &PLAIN, &ROWS, &END);
 }
 
 #[test]
 fn the_last_postpone_decides(rt: HostRuntime) {
-    let rows = [
+    static ROWS: [Row; 5] = [
         Tells(Cast(13), Posted(1)),
         Tells(Cast(14), Posted(2)),
         Turns(0, 1, Kind::Cast, 0, 0, &[PutsOff]),
         Turns(0, 2, Kind::Cast, 0, 0, &[]),
         Tells(Turn(0), Idle),
     ];
-    let end = postponing(1, 0, 7, 0);
-    answers_are(rt, &BEGIN, &rows, &end);
+    static END: Seen = Seen {
+        waiting: 1,
+        ..AT_REST
+    };
+    answers_are(rt, &PLAIN, &ROWS, &END);
 }
 
 /// One event was posted before the insertion, and one is posted after it.
 #[test]
 fn inserted_events_come_before_posted_ones(rt: HostRuntime) {
-    let rows = [
+    static ROWS: [Row; 9] = [
         Tells(Cast(7), Posted(1)),
         Tells(Cast(0), Posted(2)),
         Turns(0, 1, Kind::Cast, 0, 0, &[Inserts(3), Inserts(4)]),
@@ -153,12 +171,12 @@ fn inserted_events_come_before_posted_ones(rt: HostRuntime) {
         Turns(0, 5, Kind::Cast, 0, 0, &[]),
         Tells(Turn(0), Idle),
     ];
-    answers_are(rt, &BEGIN, &rows, &at_rest(0, 7, 0));
+    answers_are(rt, &PLAIN, &ROWS, &RESTING);
 }
 
 #[test]
 fn inserted_events_stand_behind_postponed_ones(rt: HostRuntime) {
-    let rows = [
+    static ROWS: [Row; 9] = [
         Tells(Cast(10), Posted(1)),
         Tells(Cast(12), Posted(2)),
         Turns(0, 1, Kind::Cast, 0, 0, &[PutsOff]),
@@ -169,14 +187,17 @@ fn inserted_events_stand_behind_postponed_ones(rt: HostRuntime) {
         Turns(0, 3, Kind::Cast, 0, 0, &[]),
         Tells(Turn(0), Idle),
     ];
-    let end = postponing(2, 0, 7, 0);
-    answers_are(rt, &BEGIN, &rows, &end);
+    static END: Seen = Seen {
+        waiting: 2,
+        ..AT_REST
+    };
+    answers_are(rt, &PLAIN, &ROWS, &END);
 }
 
 /// What an inserted event inserts comes before what was inserted with it.
 #[test]
 fn inserted_events_come_before_inserted_ones(rt: HostRuntime) {
-    let rows = [
+    static ROWS: [Row; 7] = [
         Tells(Cast(8), Posted(1)),
         Turns(0, 1, Kind::Cast, 0, 0, &[Inserts(2), Inserts(3)]),
         Turns(0, 2, Kind::Internal, 0, 0, &[Inserts(4), Inserts(5)]),
@@ -185,32 +206,41 @@ fn inserted_events_come_before_inserted_ones(rt: HostRuntime) {
         Turns(0, 3, Kind::Cast, 0, 0, &[]),
         Tells(Turn(0), Idle),
     ];
-    answers_are(rt, &BEGIN, &rows, &at_rest(0, 7, 0));
+    answers_are(rt, &PLAIN, &ROWS, &RESTING);
 }
 
 #[test]
 fn inserted_at_the_start_come_first(rt: HostRuntime) {
-    let rows = [
-        Tells(Cast(0), Posted(7)),
-        Turns(0, 5, Kind::Internal, 0, 0, &[]),
-        Turns(0, 6, Kind::Cast, 0, 0, &[]),
-        Turns(0, 7, Kind::Cast, 0, 0, &[]),
-        Tells(Turn(0), Idle),
-    ];
-    let begin = Begin {
+    static START: Begin<Table> = Begin {
         arg: 3,
         now: 12,
         first: Some(5),
         inserted: &[5, 6],
         ..BEGIN
     };
-    answers_are(rt, &begin, &rows, &at_rest(0, 7, 12));
+    static ROWS: [Row; 5] = [
+        Tells(Cast(0), Posted(7)),
+        Turns(0, 5, Kind::Internal, 0, 0, &[]),
+        Turns(0, 6, Kind::Cast, 0, 0, &[]),
+        Turns(0, 7, Kind::Cast, 0, 0, &[]),
+        Tells(Turn(0), Idle),
+    ];
+    static END: Seen = Seen {
+        latest: 12,
+        ..AT_REST
+    };
+    answers_are(rt, &START, &ROWS, &END);
 }
 
 /// Two events are to be inserted, and one number is left. A moment out of range is told first.
 #[test]
 fn inserts_need_numbers(rt: HostRuntime) {
-    let rows = [
+    static START: Begin<Table> = Begin {
+        now: 3,
+        first: Some(9_223_372_036_854_775_806),
+        ..BEGIN
+    };
+    static ROWS: [Row; 6] = [
         Tells(Cast(7), Posted(9_223_372_036_854_775_806)),
         Tells(Turn(20), NotTurned(Refusal::Exhausted)),
         Tells(Turn(9_223_372_036_854_775_808), NotTurned(Refusal::Moment)),
@@ -218,23 +248,24 @@ fn inserts_need_numbers(rt: HostRuntime) {
         Tells(Cast(0), Posted(9_223_372_036_854_775_807)),
         Tells(Turn(40), NotTurned(Refusal::Exhausted)),
     ];
-    let begin = Begin {
-        now: 3,
-        first: Some(9_223_372_036_854_775_806),
-        ..BEGIN
-    };
-    let end = Seen {
+    static END: Seen = Seen {
         is_ready: true,
         has_event: true,
+        latest: 3,
         waiting: 2,
-        ..at_rest(0, 7, 3)
+        ..AT_REST
     };
-    answers_are(rt, &begin, &rows, &end);
+    answers_are(rt, &START, &ROWS, &END);
 }
 
 #[test]
 fn the_last_numbers_are_inserted(rt: HostRuntime) {
-    let rows = [
+    static START: Begin<Table> = Begin {
+        now: 3,
+        first: Some(9_223_372_036_854_775_805),
+        ..BEGIN
+    };
+    static ROWS: [Row; 6] = [
         Tells(Cast(7), Posted(9_223_372_036_854_775_805)),
         Turns(
             20,
@@ -252,10 +283,9 @@ fn the_last_numbers_are_inserted(rt: HostRuntime) {
         Turns(20, 9_223_372_036_854_775_807, Kind::Cast, 0, 0, &[]),
         Tells(Turn(20), Idle),
     ];
-    let begin = Begin {
-        now: 3,
-        first: Some(9_223_372_036_854_775_805),
-        ..BEGIN
+    static END: Seen = Seen {
+        latest: 20,
+        ..AT_REST
     };
-    answers_are(rt, &begin, &rows, &at_rest(0, 7, 20));
+    answers_are(rt, &START, &ROWS, &END);
 }

@@ -1,8 +1,8 @@
 //! Rows of a test: what a machine is told, and what it is to answer.
 use super::answers::{did_more, handled};
-use super::shown::Shown;
-use super::told::Told;
-use st_core::{Kind, Reason, Tag, Time, Timer};
+use super::shown::{Shown, Taken};
+use super::told::{ID, Told};
+use st_core::{Kind, MachineId, Reason, Tag, Time, Timer};
 use std::alloc::AllocError;
 
 /// What a turn does besides: each is one more, in the order of the report.
@@ -42,6 +42,8 @@ pub enum Row {
     /// A turn at a moment. It handles the event of a number and a kind in a state, finishes it, and leads to a state;
     /// and what it does besides.
     Turns(u64, u64, Kind, u32, u32, &'static [More]),
+    /// A message is taken out. It has a number, a target and a content, and the machine is its sender.
+    Takes(u64, MachineId, u32),
 }
 
 impl Clone for Row {
@@ -56,6 +58,7 @@ impl Row {
         match self {
             Row::Tells(told, _) => *told,
             Row::Turns(now, _, _, _, _, _) => Told::Turn(*now),
+            Row::Takes(_, _, _) => Told::TakeOut,
         }
     }
 
@@ -65,6 +68,14 @@ impl Row {
             Row::Tells(_, shown) => *shown,
             Row::Turns(_, number, kind, before, after, more) => {
                 Shown::Reported(did_more(handled(*number, *kind, *before, *after), more))
+            }
+            Row::Takes(number, target, content) => {
+                Shown::TakenOut(Some(Taken {
+                    sender: ID,
+                    number: *number,
+                    target: *target,
+                    content: *content,
+                }))
             }
         }
     }

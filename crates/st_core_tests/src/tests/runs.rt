@@ -2,11 +2,12 @@
 use super::begin::Begin;
 use super::host::Host;
 use super::machine::Machine;
+use super::row::Row;
 use super::row::Row::{Tells, Turns};
 use super::seen::{Seen, sees};
 use super::shown::Shown::{Idle, NotPosted, NotTurned, Posted};
 use super::table::Table;
-use super::table_machine::{BEGIN, answers_are, at_rest, rows_agree};
+use super::table_machine::{AT_REST, BEGIN, PLAIN, RESTING, answers_are, rows_agree};
 use super::told::Told::{Cast, Info, Turn};
 use st_core::{Core, Kind, Refusal};
 use std::alloc::Global;
@@ -14,52 +15,62 @@ use std::process::Abort;
 
 #[test]
 fn casts_come_in_order(rt: HostRuntime) {
-    let rows = [
+    static ROWS: [Row; 5] = [
         Tells(Cast(3), Posted(1)),
         Tells(Cast(5), Posted(2)),
         Turns(20, 1, Kind::Cast, 0, 1, &[]),
         Turns(10, 2, Kind::Cast, 1, 1, &[]),
         Tells(Turn(30), Idle),
     ];
-    answers_are(rt, &BEGIN, &rows, &at_rest(1, 7, 30));
+    static END: Seen = Seen {
+        state: 1,
+        latest: 30,
+        ..AT_REST
+    };
+    answers_are(rt, &PLAIN, &ROWS, &END);
 }
 
 #[test]
 fn an_info_comes_as_info(rt: HostRuntime) {
-    let rows = [
+    static ROWS: [Row; 4] = [
         Tells(Info(5), Posted(1)),
         Tells(Cast(4), Posted(2)),
         Turns(0, 1, Kind::Info, 0, 0, &[]),
         Turns(0, 2, Kind::Cast, 0, 0, &[]),
     ];
-    answers_are(rt, &BEGIN, &rows, &at_rest(0, 9, 0));
+    static END: Seen = Seen { held: 9, ..AT_REST };
+    answers_are(rt, &PLAIN, &ROWS, &END);
 }
 
 #[test]
 fn the_last_number_is_given_once(rt: HostRuntime) {
-    let rows = [
+    static START: Begin<Table> = Begin {
+        first: Some(9_223_372_036_854_775_807),
+        ..BEGIN
+    };
+    static ROWS: [Row; 4] = [
         Tells(Cast(5), Posted(9_223_372_036_854_775_807)),
         Tells(Cast(6), NotPosted(Refusal::Exhausted, 6)),
         Turns(0, 9_223_372_036_854_775_807, Kind::Cast, 0, 0, &[]),
         Tells(Turn(0), Idle),
     ];
-    let begin = Begin {
-        first: Some(9_223_372_036_854_775_807),
-        ..BEGIN
-    };
-    answers_are(rt, &begin, &rows, &at_rest(0, 7, 0));
+    answers_are(rt, &START, &ROWS, &RESTING);
 }
 
 #[test]
 fn moments_end(rt: HostRuntime) {
-    let rows = [
+    static ROWS: [Row; 4] = [
         Tells(Turn(9_223_372_036_854_775_808), NotTurned(Refusal::Moment)),
         Tells(Cast(3), Posted(1)),
         Tells(Turn(9_223_372_036_854_775_808), NotTurned(Refusal::Moment)),
         Turns(9_223_372_036_854_775_807, 1, Kind::Cast, 0, 1, &[]),
     ];
-    let end = at_rest(1, 7, 9_223_372_036_854_775_807);
-    answers_are(rt, &BEGIN, &rows, &end);
+    static END: Seen = Seen {
+        state: 1,
+        latest: 9_223_372_036_854_775_807,
+        ..AT_REST
+    };
+    answers_are(rt, &PLAIN, &ROWS, &END);
 }
 
 /// Starts a machine, and looks at it.
@@ -77,18 +88,22 @@ fn begins_as<T: Machine>(
 /// which no number is left.
 #[test]
 fn refused_memory_changes_nothing(rt: HostRuntime) {
-    let rt = Host::new(rt);
-    let begin = Begin {
+    static START: Begin<Table> = Begin {
         arg: 2,
         now: 12,
         ..BEGIN
     };
-    begins_as::<Core<Table>>(&rt, rt.alloc(), &begin, &at_rest(0, 7, 12));
-    let begin = Begin {
-        first: Some(9_223_372_036_854_775_803),
-        ..begin
+    static BEGUN: Seen = Seen {
+        latest: 12,
+        ..AT_REST
     };
-    let rows = [
+    static LATER: Begin<Table> = Begin {
+        arg: 2,
+        now: 12,
+        first: Some(9_223_372_036_854_775_803),
+        ..BEGIN
+    };
+    static ROWS: [Row; 13] = [
         Tells(Turn(12), Idle),
         Tells(Cast(6), Posted(9_223_372_036_854_775_803)),
         Tells(Info(3), Posted(9_223_372_036_854_775_804)),
@@ -103,6 +118,14 @@ fn refused_memory_changes_nothing(rt: HostRuntime) {
         Turns(22, 9_223_372_036_854_775_807, Kind::Cast, 1, 1, &[]),
         Tells(Turn(23), Idle),
     ];
-    rows_agree(&rt, rt.alloc(), &begin, &rows, &at_rest(1, 9, 23));
+    static END: Seen = Seen {
+        state: 1,
+        held: 9,
+        latest: 23,
+        ..AT_REST
+    };
+    let rt = Host::new(rt);
+    begins_as::<Core<Table>>(&rt, rt.alloc(), &START, &BEGUN);
+    rows_agree(&rt, rt.alloc(), &LATER, &ROWS, &END);
     rt.end();
 }

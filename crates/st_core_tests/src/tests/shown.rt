@@ -147,8 +147,13 @@ pub fn read(answer: &Answer<u32, u32>) -> Shown {
 
 /// Looks that an answer is the one that is wanted. Each look at a machine's answer is this one, for the traits
 /// of all these types are found once, here.
+pub fn shows(rt: &Host<impl Abort>, shown: &Shown, wanted: &Shown) {
+    same(rt, "the answer", shown, wanted);
+}
+
+/// Looks that an answer of a run, or of a step, is the one that is wanted.
 pub fn agree(rt: &Host<impl Abort>, answer: &Answer<u32, u32>, wanted: &Shown) {
-    same(rt, "the answer", &read(answer), wanted);
+    shows(rt, &read(answer), wanted);
 }
 
 /// Looks that a report says what is wanted.

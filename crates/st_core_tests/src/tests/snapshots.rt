@@ -7,7 +7,7 @@ use super::row::Row::{Tells, Turns};
 use super::seen::is_all;
 use super::shown::Shown::{Posted, Stopped, Ticked};
 use super::table::Table;
-use super::table_machine::BEGIN;
+use super::table_machine::PLAIN;
 use super::tested::{does, play};
 use super::told::Told::{Call, Cast, Stop, Tick};
 use super::told::{FIRST, ID, SECOND};
@@ -46,52 +46,70 @@ pub fn snapped<T: Machine>(rt: &Host<impl Abort>, machine: &mut T) -> Snapshot<T
     }
 }
 
-/// A cast with its number and its content.
-fn a_cast(number: u64, content: u32) -> Event<u32> {
-    Event {
-        number,
+/// What waits in it.
+static PENDING: [Item<u32>; 4] = [
+    Item::Received(Event {
+        number: 4,
         kind: Kind::Cast,
-        content,
-    }
-}
+        content: 12,
+    }),
+    Item::Received(Event {
+        number: 8,
+        kind: Kind::Cast,
+        content: 21,
+    }),
+    Item::Posted(Event {
+        number: 5,
+        kind: Kind::Cast,
+        content: 0,
+    }),
+    Item::Expiry(Named(1)),
+];
+
+/// The time-outs that run in it.
+static RUNNING: [Running<u32>; 1] = [Running {
+    timer: Named(1),
+    number: 6,
+    due: Due::At(5),
+    content: 0,
+}];
+
+/// The event that is postponed in it.
+static POSTPONED: [u64; 1] = [4];
+
+/// Its requests.
+static REQUESTS: [Request<u32>; 2] = [
+    Request {
+        tag: FIRST,
+        held: RequestState::Reply(50),
+    },
+    Request {
+        tag: SECOND,
+        held: RequestState::Open,
+    },
+];
+
+/// Its second request, where the machine was stopped.
+static CLOSED: Request<u32> = Request {
+    tag: SECOND,
+    held: RequestState::Stopped(9),
+};
 
 /// Looks at the events and the time-outs of its snapshot.
 fn schedule_is_whole(rt: &Host<impl Abort>, whole: &Snapshot<Table>) {
-    let pending = [
-        Item::Received(a_cast(4, 12)),
-        Item::Received(a_cast(8, 21)),
-        Item::Posted(a_cast(5, 0)),
-        Item::Expiry(Named(1)),
-    ];
-    let running = [Running {
-        timer: Named(1),
-        number: 6,
-        due: Due::At(5),
-        content: 0,
-    }];
     let schedule = &whole.schedule;
-    let waits = schedule.pending.as_slice() == pending.as_slice();
+    let waits = schedule.pending.as_slice() == PENDING.as_slice();
     holds(rt, "what waits", waits);
-    let is_postponed = schedule.postponed.as_slice() == [4].as_slice();
+    let is_postponed = schedule.postponed.as_slice() == POSTPONED.as_slice();
     holds(rt, "what is postponed", is_postponed);
-    let runs = schedule.running.as_slice() == running.as_slice();
+    let runs = schedule.running.as_slice() == RUNNING.as_slice();
     holds(rt, "what runs", runs);
     same(rt, "the next number", &schedule.next_number, &9);
 }
 
 /// Looks at the requests of its snapshot.
 fn requests_are_whole(rt: &Host<impl Abort>, whole: &Snapshot<Table>) {
-    let requests = [
-        Request {
-            tag: FIRST,
-            held: RequestState::Reply(50),
-        },
-        Request {
-            tag: SECOND,
-            held: RequestState::Open,
-        },
-    ];
-    let are_same = whole.requests.as_slice() == requests.as_slice();
+    let are_same = whole.requests.as_slice() == REQUESTS.as_slice();
     holds(rt, "the requests", are_same);
 }
 
@@ -114,17 +132,13 @@ pub fn sent_is_whole(
 
 /// Looks at the snapshot that follows a stop.
 fn is_closed(rt: &Host<impl Abort>, end: &Snapshot<Table>) {
-    let closed = Request {
-        tag: SECOND,
-        held: RequestState::Stopped(9),
-    };
     holds(
         rt,
         "nothing waits",
         end.schedule.pending.as_slice().is_empty(),
     );
     holds(rt, "the reason and the word", end.ended == Some((9, 7)));
-    let is_closed = end.requests.as_slice().last() == Some(&closed);
+    let is_closed = end.requests.as_slice().last() == Some(&CLOSED);
     holds(rt, "the open one is closed", is_closed);
 }
 
@@ -151,7 +165,7 @@ fn snapshots_follow<T: Machine>(rt: &Host<impl Abort>, machine: &mut T, whole: &
 
 /// Looks at the snapshots of a machine that has done the commands of rows.
 fn is_snapped<T: Machine>(rt: &Host<impl Abort>, alloc: Global, rows: &[Row]) {
-    let mut machine = T::begun(rt, alloc, &BEGIN);
+    let mut machine = T::begun(rt, alloc, &PLAIN);
     play(rt, &mut machine, rows);
     let whole = snapped(rt, &mut machine);
     is_whole(rt, &whole);
@@ -163,8 +177,7 @@ fn is_snapped<T: Machine>(rt: &Host<impl Abort>, alloc: Global, rows: &[Row]) {
 /// waits.
 #[test]
 fn a_snapshot_is_the_whole_machine(rt: HostRuntime) {
-    let rt = Host::new(rt);
-    let rows = [
+    static ROWS: [Row; 11] = [
         Tells(Call(5), Posted(1)),
         Tells(Call(0), Posted(2)),
         Tells(Cast(26), Posted(3)),
@@ -177,6 +190,7 @@ fn a_snapshot_is_the_whole_machine(rt: HostRuntime) {
         Turns(0, 7, Kind::Internal, 0, 0, &[]),
         Tells(Tick(5), Ticked(1)),
     ];
-    is_snapped::<Core<Table>>(&rt, rt.alloc(), &rows);
+    let rt = Host::new(rt);
+    is_snapped::<Core<Table>>(&rt, rt.alloc(), &ROWS);
     rt.end();
 }

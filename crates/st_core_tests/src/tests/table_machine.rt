@@ -5,7 +5,7 @@ use super::host::Host;
 use super::row::Row;
 use super::seen::{Running, Seen};
 use super::table::Table;
-use st_core::{Core, Reason};
+use st_core::Core;
 use std::alloc::Global;
 use std::io::Print;
 use std::process::Abort;
@@ -21,44 +21,23 @@ pub const BEGIN: Begin<Table> = Begin {
     sent: &[],
 };
 
-/// What can be read of a table's machine in which nothing waits, and which has no message.
-pub fn at_rest(state: u32, held: u32, latest: u64) -> Seen {
-    Seen {
-        is_ready: false,
-        has_event: false,
-        has_message: false,
-        state,
-        held,
-        latest,
-        waiting: 0,
-        ended: None,
-    }
-}
+/// The same, to be borrowed: a body that borrows the constant would build it.
+pub static PLAIN: Begin<Table> = BEGIN;
 
-/// What can be read of a table's machine in which so many events are postponed, and no other waits.
-pub fn postponing(waiting: usize, state: u32, held: u32, latest: u64) -> Seen {
-    Seen {
-        waiting,
-        ..at_rest(state, held, latest)
-    }
-}
+/// What can be read of a table's machine that has only begun, at the moment 0, and has nothing to do.
+pub const AT_REST: Seen = Seen {
+    is_ready: false,
+    has_event: false,
+    has_message: false,
+    state: 0,
+    held: 7,
+    latest: 0,
+    waiting: 0,
+    ended: None,
+};
 
-/// What can be read of a table's machine that has ended.
-pub fn at_end(reason: Reason, word: u32, held: u32, latest: u64) -> Seen {
-    Seen {
-        ended: Some((reason, word)),
-        ..at_rest(0, held, latest)
-    }
-}
-
-/// What can be read of such a machine where it has a message that was not taken out yet.
-pub fn with_message(seen: Seen) -> Seen {
-    Seen {
-        is_ready: true,
-        has_message: true,
-        ..seen
-    }
-}
+/// The same, to be borrowed.
+pub static RESTING: Seen = AT_REST;
 
 /// Looks at the answers to the commands of rows, and at what they leave, with no time-out that runs.
 pub fn rows_agree(

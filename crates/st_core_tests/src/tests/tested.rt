@@ -3,40 +3,51 @@ use super::host::{Host, got, holds};
 use super::machine::{Machine, read_all};
 use super::row::Row;
 use super::seen::{Whole, is_all};
-use super::shown::{Shown, agree, read};
+use super::shown::{Shown, shows};
 use super::told::{Told, are_commands, commands, without_memory};
 use st_core::{Answer, Command, Refusal, Refused};
 use std::alloc::Global;
 use std::process::Abort;
 
 /// Makes the call of one command. A refusal changes nothing that can be read.
-fn try_tell<T: Machine>(rt: &Host<impl Abort>, machine: &mut T, told: Told) -> Answer<u32, u32> {
+fn try_tell<T: Machine>(rt: &Host<impl Abort>, machine: &mut T, told: Told) -> Shown {
     let before = read_all(rt, machine);
-    let answer = machine.call(told);
-    if read(&answer).refusal().is_some() {
+    let shown = machine.call(told);
+    if shown.refusal().is_some() {
         is_all(rt, &read_all(rt, machine), &before);
     }
-    answer
+    shown
+}
+
+/// Does a command again that found no memory: the content came back, and the same call is made again.
+fn tell_again<T: Machine>(
+    rt: &Host<impl Abort>,
+    machine: &mut T,
+    told: Told,
+    shown: &Shown,
+) -> Shown {
+    shows(rt, shown, &without_memory(told));
+    rt.retry();
+    let again = try_tell(rt, machine, told);
+    holds(rt, "it has taken memory", again.takes_memory());
+    again
 }
 
 /// Does one command by a call of its own. Where it finds no memory, the content comes back, and the
 /// same call is made again.
-pub fn tell<T: Machine>(rt: &Host<impl Abort>, machine: &mut T, told: Told) -> Answer<u32, u32> {
-    let answer = try_tell(rt, machine, told);
-    if !read(&answer).found_no_memory() {
-        return answer;
+pub fn tell<T: Machine>(rt: &Host<impl Abort>, machine: &mut T, told: Told) -> Shown {
+    let shown = try_tell(rt, machine, told);
+    if shown.found_no_memory() {
+        tell_again(rt, machine, told, &shown)
+    } else {
+        shown
     }
-    agree(rt, &answer, &without_memory(told));
-    rt.retry();
-    let again = try_tell(rt, machine, told);
-    holds(rt, "it has taken memory", read(&again).takes_memory());
-    again
 }
 
 /// Does one command, and looks at its answer.
 pub fn does<T: Machine>(rt: &Host<impl Abort>, machine: &mut T, told: Told, wanted: &Shown) {
-    let answer = tell(rt, machine, told);
-    agree(rt, &answer, wanted);
+    let shown = tell(rt, machine, told);
+    shows(rt, &shown, wanted);
 }
 
 /// Does the commands of rows, and looks at their answers.

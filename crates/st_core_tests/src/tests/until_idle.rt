@@ -3,10 +3,10 @@ use super::host::{Host, holds, same};
 use super::machine::{Machine, read_all};
 use super::row::Row;
 use super::row::Row::Tells;
-use super::seen::{is_all, sees};
+use super::seen::{Seen, is_all, sees};
 use super::shown::Shown::{Posted, Stopped};
 use super::table::Table;
-use super::table_machine::{BEGIN, at_rest};
+use super::table_machine::{AT_REST, PLAIN, RESTING};
 use super::tested::{does, play, tell};
 use super::told::Told::{Cast, Stop, Turn};
 use super::told::tag;
@@ -69,17 +69,44 @@ pub fn made(rt: &Host<impl Abort>, turns: Turns, reported: u64, end: TurnsEnd) {
     same(rt, "the turns", &turns, &Turns { reported, end });
 }
 
-/// Makes turns of two machines that are alike, of one by one call: at a moment, at most so many. So many are made, for
-/// this reason no more, and so many events wait then.
-fn both_turn<T: Machine>(
-    rt: &Host<impl Abort>,
-    machine: &mut T,
-    other: &mut T,
-    row: &(u64, u64, u64, TurnsEnd, usize),
-) {
+/// Turns by one call: at a moment, at most so many. So many are made, for this reason no more, and so many events wait
+/// then.
+type Turned = (u64, u64, u64, TurnsEnd, usize);
+
+/// Makes turns of two machines that are alike, of one by one call.
+fn both_turn<T: Machine>(rt: &Host<impl Abort>, machine: &mut T, other: &mut T, row: &Turned) {
     let (now, at_most, reported, end, waiting) = *row;
     made(rt, turned(rt, machine, other, now, at_most), reported, end);
     same(rt, "so many wait", &machine.see().waiting, &waiting);
+}
+
+/// Looks at a machine that has only begun, where no turn is made of it.
+fn turns_nothing<T: Machine>(rt: &Host<impl Abort>, machine: &mut T) {
+    same(rt, "the tag", &machine.tag_of(4), &tag(4));
+    made(rt, machine.call_turns(5, 3), 0, TurnsEnd::Idle);
+    sees(rt, &machine.see(), &RESTING);
+}
+
+/// Looks at turns of two machines that are alike, with the events of these posts.
+fn all_turn<T: Machine>(
+    rt: &Host<impl Abort>,
+    machine: &mut T,
+    other: &mut T,
+    posts: &[Row],
+    rows: &[Turned],
+) {
+    static END: Seen = Seen {
+        state: 1,
+        latest: 21,
+        ..AT_REST
+    };
+    play(rt, machine, posts);
+    play(rt, other, posts);
+    for row in rows {
+        both_turn(rt, machine, other, row);
+    }
+    sees(rt, &machine.see(), &END);
+    sees(rt, &other.see(), &END);
 }
 
 /// Looks at turns of a machine with no event, with the events of these posts, and at its end.
@@ -87,39 +114,29 @@ fn turns_until_idle<T: Machine>(
     rt: &Host<impl Abort>,
     alloc: Global,
     posts: &[Row],
-    rows: &[(u64, u64, u64, TurnsEnd, usize)],
+    rows: &[Turned],
 ) {
-    let mut machine = T::begun(rt, alloc, &BEGIN);
-    let mut other = T::begun(rt, alloc, &BEGIN);
-    same(rt, "the tag", &machine.tag_of(4), &tag(4));
-    made(rt, machine.call_turns(5, 3), 0, TurnsEnd::Idle);
-    sees(rt, &machine.see(), &at_rest(0, 7, 0));
-
-    play(rt, &mut machine, posts);
-    play(rt, &mut other, posts);
-    for row in rows {
-        both_turn(rt, &mut machine, &mut other, row);
-    }
-    sees(rt, &machine.see(), &at_rest(1, 7, 21));
-    sees(rt, &other.see(), &at_rest(1, 7, 21));
-
+    let mut machine = T::begun(rt, alloc, &PLAIN);
+    let mut other = T::begun(rt, alloc, &PLAIN);
+    turns_nothing(rt, &mut machine);
+    all_turn(rt, &mut machine, &mut other, posts, rows);
     does(rt, &mut machine, Stop(9), &Stopped(7));
     made(rt, machine.call_turns(22, 9), 0, TurnsEnd::Ended);
 }
 
 #[test]
 fn turns_are_made_until_nothing_is_left(rt: HostRuntime) {
-    let rt = Host::new(rt);
-    let posts = [
+    static POSTS: [Row; 3] = [
         Tells(Cast(3), Posted(1)),
         Tells(Cast(5), Posted(2)),
         Tells(Cast(5), Posted(3)),
     ];
-    let rows = [
+    static ROWS: [Turned; 3] = [
         (20, 2, 2, TurnsEnd::AtMost, 1),
         (1 << 63, 9, 0, TurnsEnd::Refused(Refusal::Moment), 1),
         (21, 9, 1, TurnsEnd::Idle, 0),
     ];
-    turns_until_idle::<Core<Table>>(&rt, rt.alloc(), &posts, &rows);
+    let rt = Host::new(rt);
+    turns_until_idle::<Core<Table>>(&rt, rt.alloc(), &POSTS, &ROWS);
     rt.end();
 }

@@ -1,11 +1,12 @@
 //! Time-outs cancelled and updated. Where an event has the content 4, the machine's data are 9 after it.
 use super::begin::Begin;
 use super::row::More::{Cancels, Enters, Sends, Sets, Updates};
+use super::row::Row;
 use super::row::Row::{Tells, Turns};
-use super::seen::Seen;
+use super::seen::{Running, Seen};
 use super::shown::Shown::{Idle, NotPosted, NotTurned, Posted, Ticked};
 use super::table::Table;
-use super::table_machine::{BEGIN, answers_are, at_rest, timers_are, with_message};
+use super::table_machine::{AT_REST, BEGIN, PLAIN, RESTING, answers_are, timers_are};
 use super::told::Told::{Cast, Tick, Turn};
 use st_core::Time::After;
 use st_core::Timer::Named;
@@ -18,71 +19,84 @@ const ONE_TIMER: Begin<Table> = Begin {
     ..BEGIN
 };
 
+/// The same, to be borrowed.
+static WITH_TIMER: Begin<Table> = ONE_TIMER;
+
 /// The expiry waits behind the event that updates, and stays; the event that it becomes has the new content.
 #[test]
 fn an_update_keeps_the_expiry_that_waits(rt: HostRuntime) {
-    let rows = [
+    static ROWS: [Row; 5] = [
         Tells(Cast(43), Posted(2)),
         Tells(Tick(5), Ticked(1)),
         Turns(5, 2, Kind::Cast, 0, 0, &[Updates(Named(5))]),
         Turns(5, 1, Kind::Timeout(Named(5)), 0, 0, &[]),
         Tells(Turn(5), Idle),
     ];
-    answers_are(rt, &ONE_TIMER, &rows, &at_rest(0, 9, 5));
+    static END: Seen = Seen {
+        held: 9,
+        latest: 5,
+        ..AT_REST
+    };
+    answers_are(rt, &WITH_TIMER, &ROWS, &END);
 }
 
 #[test]
 fn an_update_of_a_timer_that_does_not_run_sets_it_for_no_time(rt: HostRuntime) {
-    let rows = [
+    static ROWS: [Row; 4] = [
         Tells(Cast(43), Posted(1)),
         Turns(0, 1, Kind::Cast, 0, 0, &[Updates(Named(5))]),
         Turns(0, 2, Kind::Timeout(Named(5)), 0, 0, &[]),
         Tells(Turn(0), Idle),
     ];
-    answers_are(rt, &BEGIN, &rows, &at_rest(0, 9, 0));
+    static END: Seen = Seen { held: 9, ..AT_REST };
+    answers_are(rt, &PLAIN, &ROWS, &END);
 }
 
 /// Its number and its moment stay.
 #[test]
 fn of_a_setting_and_a_later_update_the_update_decides(rt: HostRuntime) {
-    let rows = [
+    static ROWS: [Row; 4] = [
         Tells(Cast(47), Posted(1)),
         Turns(0, 1, Kind::Cast, 0, 0, &[Sets(Named(5), After(10))]),
         Tells(Cast(44), Posted(3)),
         Turns(0, 3, Kind::Cast, 0, 0, &[Updates(Named(5))]),
     ];
-    let timers = [(Named(5), 2, Due::At(10))];
-    timers_are(rt, &BEGIN, &rows, &at_rest(0, 7, 0), &timers);
+    static TIMERS: [Running; 1] = [(Named(5), 2, Due::At(10))];
+    timers_are(rt, &PLAIN, &ROWS, &RESTING, &TIMERS);
 }
 
 #[test]
 fn of_an_update_and_a_later_setting_the_setting_decides(rt: HostRuntime) {
-    let rows = [
+    static ROWS: [Row; 4] = [
         Tells(Cast(47), Posted(1)),
         Turns(0, 1, Kind::Cast, 0, 0, &[Sets(Named(5), After(10))]),
         Tells(Cast(45), Posted(3)),
         Turns(0, 3, Kind::Cast, 0, 0, &[Sets(Named(5), After(20))]),
     ];
-    let timers = [(Named(5), 4, Due::At(20))];
-    timers_are(rt, &BEGIN, &rows, &at_rest(0, 7, 0), &timers);
+    static TIMERS: [Running; 1] = [(Named(5), 4, Due::At(20))];
+    timers_are(rt, &PLAIN, &ROWS, &RESTING, &TIMERS);
 }
 
 /// Its expiry waits no more, and the machine is not ready.
 #[test]
 fn a_time_out_that_has_expired_can_be_cancelled(rt: HostRuntime) {
-    let rows = [
+    static ROWS: [Row; 4] = [
         Tells(Cast(46), Posted(2)),
         Tells(Tick(5), Ticked(1)),
         Turns(5, 2, Kind::Cast, 0, 0, &[Cancels(Named(5))]),
         Tells(Turn(5), Idle),
     ];
-    answers_are(rt, &ONE_TIMER, &rows, &at_rest(0, 7, 5));
+    static END: Seen = Seen {
+        latest: 5,
+        ..AT_REST
+    };
+    answers_are(rt, &WITH_TIMER, &ROWS, &END);
 }
 
 /// The event that updates it has cancelled it already.
 #[test]
 fn an_update_of_the_event_time_out_sets_it_for_no_time(rt: HostRuntime) {
-    let rows = [
+    static ROWS: [Row; 6] = [
         Tells(Cast(29), Posted(1)),
         Turns(0, 1, Kind::Cast, 0, 0, &[Sets(Timer::Event, After(5))]),
         Tells(Cast(48), Posted(3)),
@@ -90,12 +104,17 @@ fn an_update_of_the_event_time_out_sets_it_for_no_time(rt: HostRuntime) {
         Turns(0, 4, Kind::Timeout(Timer::Event), 0, 0, &[]),
         Tells(Tick(5), Ticked(0)),
     ];
-    answers_are(rt, &BEGIN, &rows, &at_rest(0, 9, 5));
+    static END: Seen = Seen {
+        held: 9,
+        latest: 5,
+        ..AT_REST
+    };
+    answers_are(rt, &PLAIN, &ROWS, &END);
 }
 
 #[test]
 fn an_update_of_the_state_time_out_keeps_it_where_the_state_stays(rt: HostRuntime) {
-    let rows = [
+    static ROWS: [Row; 7] = [
         Tells(Cast(28), Posted(1)),
         Turns(0, 1, Kind::Cast, 0, 0, &[Sets(Timer::State, After(5))]),
         Tells(Cast(49), Posted(3)),
@@ -104,13 +123,18 @@ fn an_update_of_the_state_time_out_keeps_it_where_the_state_stays(rt: HostRuntim
         Tells(Tick(5), Ticked(1)),
         Turns(5, 2, Kind::Timeout(Timer::State), 0, 0, &[]),
     ];
-    answers_are(rt, &BEGIN, &rows, &at_rest(0, 9, 5));
+    static END: Seen = Seen {
+        held: 9,
+        latest: 5,
+        ..AT_REST
+    };
+    answers_are(rt, &PLAIN, &ROWS, &END);
 }
 
 /// The change has cancelled it already.
 #[test]
 fn an_update_of_the_state_time_out_at_a_state_change_sets_it_for_no_time(rt: HostRuntime) {
-    let rows = [
+    static ROWS: [Row; 6] = [
         Tells(Cast(28), Posted(1)),
         Turns(0, 1, Kind::Cast, 0, 0, &[Sets(Timer::State, After(5))]),
         Tells(Cast(50), Posted(3)),
@@ -118,33 +142,44 @@ fn an_update_of_the_state_time_out_at_a_state_change_sets_it_for_no_time(rt: Hos
         Turns(0, 4, Kind::Timeout(Timer::State), 1, 1, &[]),
         Tells(Tick(5), Ticked(0)),
     ];
-    answers_are(rt, &BEGIN, &rows, &at_rest(1, 9, 5));
+    static END: Seen = Seen {
+        state: 1,
+        held: 9,
+        latest: 5,
+        ..AT_REST
+    };
+    answers_are(rt, &PLAIN, &ROWS, &END);
 }
 
 /// The time-out whose event is handled runs no more.
 #[test]
 fn a_time_outs_own_event_updates_it_anew(rt: HostRuntime) {
-    let begin = Begin {
+    static START: Begin<Table> = Begin {
         arg: 11,
         ..ONE_TIMER
     };
-    let rows = [
+    static ROWS: [Row; 4] = [
         Tells(Tick(5), Ticked(1)),
         Turns(5, 1, Kind::Timeout(Named(5)), 0, 0, &[Updates(Named(5))]),
         Turns(5, 2, Kind::Timeout(Named(5)), 0, 0, &[]),
         Tells(Turn(5), Idle),
     ];
-    answers_are(rt, &begin, &rows, &at_rest(0, 9, 5));
+    static END: Seen = Seen {
+        held: 9,
+        latest: 5,
+        ..AT_REST
+    };
+    answers_are(rt, &START, &ROWS, &END);
 }
 
 /// After it no number is left.
 #[test]
 fn an_update_of_a_time_out_that_runs_needs_no_number(rt: HostRuntime) {
-    let begin = Begin {
+    static START: Begin<Table> = Begin {
         first: Some(9_223_372_036_854_775_806),
         ..ONE_TIMER
     };
-    let rows = [
+    static ROWS: [Row; 3] = [
         Tells(Cast(43), Posted(9_223_372_036_854_775_807)),
         Turns(
             0,
@@ -156,80 +191,88 @@ fn an_update_of_a_time_out_that_runs_needs_no_number(rt: HostRuntime) {
         ),
         Tells(Cast(0), NotPosted(Refusal::Exhausted, 0)),
     ];
-    let timers = [(Named(5), 9_223_372_036_854_775_806, Due::At(5))];
-    timers_are(rt, &begin, &rows, &at_rest(0, 7, 0), &timers);
+    static TIMERS: [Running; 1] = [(Named(5), 9_223_372_036_854_775_806, Due::At(5))];
+    timers_are(rt, &START, &ROWS, &RESTING, &TIMERS);
 }
 
 #[test]
 fn an_update_that_sets_needs_a_number(rt: HostRuntime) {
-    let begin = Begin {
+    static START: Begin<Table> = Begin {
         first: Some(9_223_372_036_854_775_807),
         ..BEGIN
     };
-    let rows = [
+    static ROWS: [Row; 2] = [
         Tells(Cast(43), Posted(9_223_372_036_854_775_807)),
         Tells(Turn(4), NotTurned(Refusal::Exhausted)),
     ];
-    answers_are(
-        rt,
-        &begin,
-        &rows,
-        &Seen {
-            is_ready: true,
-            has_event: true,
-            waiting: 1,
-            ..at_rest(0, 7, 0)
-        },
-    );
+    static END: Seen = Seen {
+        is_ready: true,
+        has_event: true,
+        waiting: 1,
+        ..AT_REST
+    };
+    answers_are(rt, &START, &ROWS, &END);
 }
 
 #[test]
 fn an_enter_call_updates(rt: HostRuntime) {
-    let begin = Begin {
+    static START: Begin<Table> = Begin {
         module: Table { number: 67 },
         ..ONE_TIMER
     };
-    let rows = [
+    static ROWS: [Row; 4] = [
         Tells(Cast(3), Posted(2)),
         Turns(0, 2, Kind::Cast, 0, 1, &[Enters, Updates(Named(5))]),
         Tells(Tick(5), Ticked(1)),
         Turns(5, 1, Kind::Timeout(Named(5)), 1, 1, &[]),
     ];
-    answers_are(rt, &begin, &rows, &at_rest(1, 9, 5));
+    static END: Seen = Seen {
+        state: 1,
+        held: 9,
+        latest: 5,
+        ..AT_REST
+    };
+    answers_are(rt, &START, &ROWS, &END);
 }
 
 #[test]
 fn an_enter_call_cancels(rt: HostRuntime) {
-    let begin = Begin {
+    static START: Begin<Table> = Begin {
         module: Table { number: 68 },
         ..ONE_TIMER
     };
-    let rows = [
+    static ROWS: [Row; 3] = [
         Tells(Cast(3), Posted(2)),
         Turns(0, 2, Kind::Cast, 0, 1, &[Enters, Cancels(Named(5))]),
         Tells(Tick(5), Ticked(0)),
     ];
-    answers_are(rt, &begin, &rows, &at_rest(1, 7, 5));
+    static END: Seen = Seen {
+        state: 1,
+        latest: 5,
+        ..AT_REST
+    };
+    answers_are(rt, &START, &ROWS, &END);
 }
 
 #[test]
 fn a_start_updates(rt: HostRuntime) {
-    let begin = Begin {
+    static START: Begin<Table> = Begin {
         arg: 10,
         set: &[(Named(5), Decision::Update)],
         ..BEGIN
     };
-    let rows = [
+    static ROWS: [Row; 2] = [
         Turns(0, 1, Kind::Timeout(Named(5)), 0, 0, &[]),
         Tells(Turn(0), Idle),
     ];
-    answers_are(rt, &begin, &rows, &at_rest(0, 9, 0));
+    static END: Seen = Seen { held: 9, ..AT_REST };
+    answers_are(rt, &START, &ROWS, &END);
 }
 
 /// Of two for one timer the last decides. The message waits until it is taken out.
 #[test]
 fn six_requests_are_made_in_one_list(rt: HostRuntime) {
-    let rows = [
+    static ROWS: [Row; 5] = [
         Tells(Cast(51), Posted(2)),
         Turns(
             0,
@@ -248,5 +291,13 @@ fn six_requests_are_made_in_one_list(rt: HostRuntime) {
         Tells(Tick(5), Ticked(1)),
         Turns(5, 1, Kind::Timeout(Named(5)), 0, 1, &[]),
     ];
-    answers_are(rt, &ONE_TIMER, &rows, &with_message(at_rest(1, 9, 5)));
+    static END: Seen = Seen {
+        is_ready: true,
+        has_message: true,
+        state: 1,
+        held: 9,
+        latest: 5,
+        ..AT_REST
+    };
+    answers_are(rt, &WITH_TIMER, &ROWS, &END);
 }

@@ -287,7 +287,7 @@ fn make_all(rt: &Host<impl Abort>, agenda: &mut Agenda<u64>, alloc: Global, call
 /// behind them, and a state change retries.
 #[test]
 fn events_come_in_their_order(rt: HostRuntime) {
-    const CALLS: [Call; 23] = [
+    static CALLS: [Call; 23] = [
         Call::NothingComes,
         Call::Next(1, None),
         Call::Push(10, 1),
@@ -340,7 +340,7 @@ fn events_come_in_their_order(rt: HostRuntime) {
 /// cancelled by it.
 #[test]
 fn a_zero_timeout_comes_before_what_was_not_received(rt: HostRuntime) {
-    const CALLS: [Call; 9] = [
+    static CALLS: [Call; 9] = [
         Call::Push(10, 1),
         Call::Push(20, 2),
         Call::Settle(Turn {
@@ -370,7 +370,7 @@ fn a_zero_timeout_comes_before_what_was_not_received(rt: HostRuntime) {
 /// left that a turn could handle.
 #[test]
 fn an_expiry_of_a_stopped_timer_is_passed_over(rt: HostRuntime) {
-    const CALLS: [Call; 8] = [
+    static CALLS: [Call; 8] = [
         Call::Push(10, 1),
         Call::Settle(Turn {
             settings: &[
@@ -404,7 +404,7 @@ fn an_expiry_of_a_stopped_timer_is_passed_over(rt: HostRuntime) {
 /// and comes once, with the last content.
 #[test]
 fn an_update_leaves_all_else(rt: HostRuntime) {
-    const CALLS: [Call; 20] = [
+    static CALLS: [Call; 20] = [
         Call::Push(10, 1),
         Call::Settle(Turn {
             settings: &[
@@ -462,7 +462,7 @@ fn an_update_leaves_all_else(rt: HostRuntime) {
 /// handled.
 #[test]
 fn an_update_of_a_stopped_timer_begins(rt: HostRuntime) {
-    const CALLS: [Call; 11] = [
+    static CALLS: [Call; 11] = [
         Call::Push(10, 1),
         Call::Settle(Turn {
             settings: &[Asks::Update(Timer::Named(1), 30)],
@@ -495,7 +495,7 @@ fn an_update_of_a_stopped_timer_begins(rt: HostRuntime) {
 /// nor the one whose event is handled, nor, at a state change, the state's.
 #[test]
 fn updates_take_numbers(rt: HostRuntime) {
-    const CALLS: [Call; 17] = [
+    static CALLS: [Call; 17] = [
         Call::Push(10, 1),
         Call::Settle(Turn {
             settings: &[
@@ -643,7 +643,7 @@ fn has_parts(rt: &impl Abort, copy: &Schedule<u64>) {
 /// order and no expiry of the stopped timer, and what comes next comes next still.
 #[test]
 fn all_is_copied_and_stays(rt: HostRuntime) {
-    const CALLS: [Call; 5] = [
+    static CALLS: [Call; 5] = [
         Call::Push(10, 1),
         Call::Push(20, 2),
         Call::Settle(Turn {

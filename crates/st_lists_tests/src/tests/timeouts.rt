@@ -19,7 +19,7 @@ use std::sync::ledger::{Blank, Ledger};
 
 #[test]
 fn each_call_answers(rt: HostRuntime) {
-    const ROW: [Call; 28] = [
+    static ROW: [Call; 28] = [
         Shows(FirstZero(None)),
         Shows(NextDue(None)),
         Reserve(3),
@@ -88,7 +88,7 @@ fn each_call_answers(rt: HostRuntime) {
 
 #[test]
 fn two_time_outs_for_one_moment_come_by_number(rt: HostRuntime) {
-    const ROW: [Call; 9] = [
+    static ROW: [Call; 9] = [
         Set {
             timer: Timer::Named(1),
             time: 20,
@@ -127,7 +127,7 @@ fn two_time_outs_for_one_moment_come_by_number(rt: HostRuntime) {
 
 #[test]
 fn a_timer_set_anew_goes_last(rt: HostRuntime) {
-    const ROW: [Call; 11] = [
+    static ROW: [Call; 11] = [
         Set {
             timer: Timer::Named(1),
             time: 20,
@@ -174,7 +174,7 @@ fn a_timer_set_anew_goes_last(rt: HostRuntime) {
 
 #[test]
 fn a_zero_time_out_waits_for_no_moment(rt: HostRuntime) {
-    const ROW: [Call; 8] = [
+    static ROW: [Call; 8] = [
         Set {
             timer: Timer::Named(5),
             time: 0,
@@ -205,7 +205,7 @@ fn a_zero_time_out_waits_for_no_moment(rt: HostRuntime) {
 
 #[test]
 fn an_expiry_comes_once(rt: HostRuntime) {
-    const ROW: [Call; 10] = [
+    static ROW: [Call; 10] = [
         Set {
             timer: Timer::State,
             time: 10,
@@ -238,7 +238,7 @@ fn an_expiry_comes_once(rt: HostRuntime) {
 
 #[test]
 fn another_content_leaves_all_else(rt: HostRuntime) {
-    const ROW: [Call; 21] = [
+    static ROW: [Call; 21] = [
         Set {
             timer: Timer::Event,
             time: 0,
@@ -293,7 +293,7 @@ fn another_content_leaves_all_else(rt: HostRuntime) {
 
 #[test]
 fn the_last_moment_and_the_longest_time(rt: HostRuntime) {
-    const ROW: [Call; 5] = [
+    static ROW: [Call; 5] = [
         Set {
             timer: Timer::Event,
             time: 4_294_967_295,
@@ -314,7 +314,7 @@ fn the_last_moment_and_the_longest_time(rt: HostRuntime) {
 
 #[test]
 fn a_refused_call_changes_nothing(rt: HostRuntime) {
-    const ROW: [Call; 12] = [
+    static ROW: [Call; 12] = [
         Set {
             timer: Timer::Event,
             time: 0,

@@ -4,7 +4,7 @@ use super::did::{Did, FINISHED};
 use super::host::{Host, holds, same};
 use super::plain::Plain;
 use super::row::Row;
-use super::shared::share;
+use super::shared::{Shared, share};
 use st_core::{Decision, Entry, Kind, Refusal, Time, Timer};
 use st_lock::{Cell, Journal, Machine, Next};
 use std::alloc::Global;
@@ -122,31 +122,42 @@ static TURNED: [Row; 3] = [
     Row::Turns(2, TOKEN_1, 3, Next::Rest, (1, Kind::Cast), SET),
 ];
 
+/// A machine is read at first, and while an event waits.
+fn is_read(rt: &Host<impl Abort>, threads: &impl Wait, shared: &mut Shared) {
+    let first = read(shared.machine(), threads);
+    holds(rt, "at first", first == (0, 0, None, None, false));
+    shared.plays(rt, threads, POSTED.as_slice());
+    let posted = read(shared.machine(), threads);
+    holds(rt, "an event waits", posted == (0, 1, None, None, true));
+}
+
+/// A machine is read once it has handled an event, and once it is stopped.
+fn is_stopped(rt: &Host<impl Abort>, threads: &impl Wait, shared: &mut Shared) {
+    shared.plays(rt, threads, TURNED.as_slice());
+    let turned = read(shared.machine(), threads);
+    holds(rt, "it is due", turned == (0, 0, Some(8), None, false));
+    let stopped = shared.machine().stop(threads, 9);
+    holds(rt, "its last word", stopped == Ok(7));
+    let ended = read(shared.machine(), threads);
+    holds(rt, "it ended", ended == (0, 0, None, Some((9, 7)), false));
+}
+
+/// A machine that was stopped hands its journal out, and what came in since.
+fn hands_out(rt: &Host<impl Abort>, threads: &impl Wait, machine: &Machine<Plain>) {
+    is(rt, &handed_out(rt, machine, threads), 3, [3].as_slice());
+    is(rt, &handed_out(rt, machine, threads), 3, [].as_slice());
+    let again = machine.stop(threads, 1);
+    holds(rt, "it ends once", again == Err(Refusal::Stopped(9)));
+}
+
 #[test]
 fn a_machine_is_read_and_hands_its_journal_out(rt: HostRuntime) {
     let threads = rt;
     let rt = Host::new(rt);
+    is_read(&rt, &threads, &mut share(&rt, rt.alloc(), true));
     let mut shared = share(&rt, rt.alloc(), true);
-    let first = read(shared.machine(), &threads);
-    holds(&rt, "at first", first == (0, 0, None, None, false));
-    shared.plays(&rt, &threads, POSTED.as_slice());
-    let posted = read(shared.machine(), &threads);
-    holds(&rt, "an event waits", posted == (0, 1, None, None, true));
-    drop(shared);
-    let mut shared = share(&rt, rt.alloc(), true);
-    shared.plays(&rt, &threads, TURNED.as_slice());
-    let turned = read(shared.machine(), &threads);
-    holds(&rt, "it is due", turned == (0, 0, Some(8), None, false));
-    let stopped = shared.machine().stop(&threads, 9);
-    holds(&rt, "its last word", stopped == Ok(7));
-    let ended = read(shared.machine(), &threads);
-    holds(&rt, "it ended", ended == (0, 0, None, Some((9, 7)), false));
-    let journal = handed_out(&rt, shared.machine(), &threads);
-    is(&rt, &journal, 3, [3].as_slice());
-    let rest = handed_out(&rt, shared.machine(), &threads);
-    is(&rt, &rest, 3, [].as_slice());
-    let again = shared.machine().stop(&threads, 1);
-    holds(&rt, "it ends once", again == Err(Refusal::Stopped(9)));
+    is_stopped(&rt, &threads, &mut shared);
+    hands_out(&rt, &threads, shared.machine());
     drop(shared);
     rt.end();
 }

@@ -9,21 +9,29 @@ use st_events::{
 use std::alloc::Global;
 use std::process::Abort;
 
-/// The tag of a request.
-fn tag(request: u64) -> Tag {
-    Tag {
-        machine: MachineId { slot: 2, serial: 5 },
-        request,
-    }
-}
+/// The machine that is asked.
+const ASKED: MachineId = MachineId { slot: 2, serial: 5 };
 
-/// The machine in a slot.
-fn machine(slot: usize) -> MachineId {
-    MachineId { slot, serial: 1 }
-}
+/// The first request.
+const FIRST: Tag = Tag {
+    machine: ASKED,
+    request: 1,
+};
+
+/// The second request.
+const SECOND: Tag = Tag {
+    machine: ASKED,
+    request: 2,
+};
+
+/// A machine to which something is sent.
+const NEAR: MachineId = MachineId { slot: 4, serial: 1 };
+
+/// Another one.
+const FAR: MachineId = MachineId { slot: 6, serial: 1 };
 
 /// Forty letters that set thirteen timers.
-const FORTY: [char; 40] = [
+static FORTY: [char; 40] = [
     'A', 'B', 'C', 'D', 'E', 'F', 'X', 'G', 'A', 'B', 'H', 'C', 'I', 'E', 'D', 'J', 'A', 'X', 'B',
     'B', 'F', 'K', 'C', 'A', 'H', 'L', 'G', 'E', 'A', 'I', 'C', 'X', 'J', 'D', 'B', 'A', 'X', 'L',
     'A', 'E',
@@ -47,8 +55,8 @@ fn timer(letter: char) -> Timer {
 /// 4, with its place as the content, and every other hibernates.
 fn action(place: usize, letter: char) -> Action<u64> {
     match letter {
-        'r' => Action::Reply(tag(1), 10),
-        's' => Action::Reply(tag(2), 20),
+        'r' => Action::Reply(FIRST, 10),
+        's' => Action::Reply(SECOND, 20),
         'p' => Action::Postpone(true),
         'k' => Action::Postpone(false),
         'i' => Action::NextEvent(Kind::Internal, 30),
@@ -63,8 +71,8 @@ fn action(place: usize, letter: char) -> Action<u64> {
         'd' => Action::Cancel(Timer::State),
         'u' => Action::Update(Timer::Named(1), 110),
         'v' => Action::Update(Timer::State, 120),
-        'm' => Action::Send(machine(4), 130),
-        'n' => Action::Send(machine(6), 140),
+        'm' => Action::Send(NEAR, 130),
+        'n' => Action::Send(FAR, 140),
         'A'..='Z' => Action::Set(timer(letter), Time::After(4), place as u64),
         _ => Action::Hibernate,
     }
@@ -390,7 +398,7 @@ fn sends(rt: &impl Abort, planned: &Planned<u64>, wanted: &[(MachineId, u64)]) {
 }
 
 /// Looks that this is asked for, and nothing else.
-fn asks(rt: &impl Abort, planned: &Planned<u64>, wanted: Wanted) {
+fn asks(rt: &impl Abort, planned: &Planned<u64>, wanted: &Wanted) {
     replies(rt, planned, wanted.replies);
     holds(
         rt,
@@ -428,8 +436,8 @@ fn postpones(rt: &Host<impl Abort>, alloc: Global, letters: &[char], wanted: boo
 /// Replies and inserts keep their order, and inserts may be taken from the back.
 fn an_order_is_kept(rt: &Host<impl Abort>, alloc: Global) {
     let mut seven = planned(rt, alloc, &['i', 'r', 'p', 'h', 't', 's', 'i']);
-    let wanted = Wanted {
-        replies: &[(tag(1), 10), (tag(2), 20)],
+    static SEVEN: Wanted<'static> = Wanted {
+        replies: &[(FIRST, 10), (SECOND, 20)],
         postpone: true,
         inserts: &[
             (Kind::Internal, 30),
@@ -438,29 +446,29 @@ fn an_order_is_kept(rt: &Host<impl Abort>, alloc: Global) {
         ],
         ..NOTHING
     };
-    asks(rt, &seven, wanted);
+    asks(rt, &seven, &SEVEN);
     let last = seven.inserts.pop().expect(rt, "there are three");
     holds(rt, "the kind of the last", last.kind == Kind::Internal);
     holds(rt, "the content of the last", last.content == 30);
-    let left = [(Kind::Internal, 30), (Kind::Timeout(Timer::State), 40)];
-    inserts(rt, &seven, &left);
+    static LEFT: [(Kind, u64); 2] = [(Kind::Internal, 30), (Kind::Timeout(Timer::State), 40)];
+    inserts(rt, &seven, &LEFT);
 }
 
 #[test]
 fn each_call_answers(rt: HostRuntime) {
     let rt = Host::new(rt);
-    asks(&rt, &planned(&rt, rt.alloc(), &[]), NOTHING);
+    asks(&rt, &planned(&rt, rt.alloc(), &[]), &NOTHING);
     // The last postpone decides.
     postpones(&rt, rt.alloc(), &['p'], true);
     postpones(&rt, rt.alloc(), &['p', 'k'], false);
     postpones(&rt, rt.alloc(), &['k', 'p', 'h'], true);
-    let wanted = Wanted {
-        replies: &[(tag(2), 20), (tag(1), 10)],
+    static BOTH: Wanted<'static> = Wanted {
+        replies: &[(SECOND, 20), (FIRST, 10)],
         inserts: &[(Kind::Timeout(Timer::State), 40), (Kind::Internal, 30)],
         ..NOTHING
     };
     let both = planned(&rt, rt.alloc(), &['s', 't', 'r', 'i']);
-    asks(&rt, &both, wanted);
+    asks(&rt, &both, &BOTH);
     an_order_is_kept(&rt, rt.alloc());
     rt.end();
 }
@@ -469,21 +477,21 @@ fn each_call_answers(rt: HostRuntime) {
 fn the_last_setting_of_each_timer_decides(rt: HostRuntime) {
     let rt = Host::new(rt);
     let both = planned(&rt, rt.alloc(), &['1', '2']);
-    let wanted = [
+    static BOTH: [(Timer, Decision, u64); 2] = [
         (Timer::Named(1), Decision::Set(Time::After(1)), 50),
         (Timer::Named(2), Decision::Set(Time::After(2)), 60),
     ];
-    settings(&rt, &both, &wanted);
+    settings(&rt, &both, &BOTH);
 
     // It stands where the last one stood, also where it stops the timer.
     let again = planned(&rt, rt.alloc(), &['1', '2', '9']);
-    let wanted = [
+    static AGAIN: [(Timer, Decision, u64); 2] = [
         (Timer::Named(2), Decision::Set(Time::After(2)), 60),
         (Timer::Named(1), Decision::Set(Time::After(9)), 70),
     ];
-    settings(&rt, &again, &wanted);
+    settings(&rt, &again, &AGAIN);
     let stopped = planned(&rt, rt.alloc(), &['9', 'e', '0', 'x', 'p', 'e']);
-    let wanted = Wanted {
+    static STOPPED: Wanted<'static> = Wanted {
         postpone: true,
         settings: &[
             (Timer::Named(1), Decision::Set(Time::Infinity), 80),
@@ -492,56 +500,56 @@ fn the_last_setting_of_each_timer_decides(rt: HostRuntime) {
         ],
         ..NOTHING
     };
-    asks(&rt, &stopped, wanted);
+    asks(&rt, &stopped, &STOPPED);
     rt.end();
 }
 
 #[test]
 fn refused_memory_changes_nothing(rt: HostRuntime) {
     let rt = Host::new(rt);
-    let letters = ['r', 'i', 's', 'k', 'm', '1', 't', 'p', 'x', '9'];
-    let ten = planned(&rt, rt.alloc(), &letters);
-    let wanted = Wanted {
-        replies: &[(tag(1), 10), (tag(2), 20)],
+    static LETTERS: [char; 10] = ['r', 'i', 's', 'k', 'm', '1', 't', 'p', 'x', '9'];
+    let ten = planned(&rt, rt.alloc(), &LETTERS);
+    static TEN: Wanted<'static> = Wanted {
+        replies: &[(FIRST, 10), (SECOND, 20)],
         postpone: true,
         inserts: &[(Kind::Internal, 30), (Kind::Timeout(Timer::State), 40)],
         settings: &[
             (Timer::State, Decision::Set(Time::After(3)), 100),
             (Timer::Named(1), Decision::Set(Time::After(9)), 70),
         ],
-        sends: &[(machine(4), 130)],
+        sends: &[(NEAR, 130)],
     };
-    asks(&rt, &ten, wanted);
+    asks(&rt, &ten, &TEN);
     rt.end();
 }
 
 #[test]
 fn an_enter_call_replies_and_sets_timers(rt: HostRuntime) {
     let rt = Host::new(rt);
-    asks(&rt, &entered(&rt, rt.alloc(), &[]), NOTHING);
+    asks(&rt, &entered(&rt, rt.alloc(), &[]), &NOTHING);
 
     let four = entered(&rt, rt.alloc(), &['x', 'h', 'r', 'e']);
-    let wanted = Wanted {
-        replies: &[(tag(1), 10)],
+    static FOUR: Wanted<'static> = Wanted {
+        replies: &[(FIRST, 10)],
         settings: &[
             (Timer::State, Decision::Set(Time::After(3)), 100),
             (Timer::Event, Decision::Set(Time::After(0)), 90),
         ],
         ..NOTHING
     };
-    asks(&rt, &four, wanted);
+    asks(&rt, &four, &FOUR);
 
     // Of a timer's settings the last decides, and stands where it stood.
     let six = entered(&rt, rt.alloc(), &['s', '1', 'h', 'r', '2', '9']);
-    let wanted = Wanted {
-        replies: &[(tag(2), 20), (tag(1), 10)],
+    static SIX: Wanted<'static> = Wanted {
+        replies: &[(SECOND, 20), (FIRST, 10)],
         settings: &[
             (Timer::Named(2), Decision::Set(Time::After(2)), 60),
             (Timer::Named(1), Decision::Set(Time::After(9)), 70),
         ],
         ..NOTHING
     };
-    asks(&rt, &six, wanted);
+    asks(&rt, &six, &SIX);
     rt.end();
 }
 
@@ -572,10 +580,10 @@ fn events_joined(
 #[test]
 fn an_enter_calls_settings_replace_the_events(rt: HostRuntime) {
     let rt = Host::new(rt);
-    let event = ['r', 'p', 'i', '1', 'e'];
-    let both = event_joined(&rt, rt.alloc(), &event, &['s', '0', 'h']);
-    let wanted = Wanted {
-        replies: &[(tag(1), 10), (tag(2), 20)],
+    static EVENT: [char; 5] = ['r', 'p', 'i', '1', 'e'];
+    let both = event_joined(&rt, rt.alloc(), &EVENT, &['s', '0', 'h']);
+    static BOTH: Wanted<'static> = Wanted {
+        replies: &[(FIRST, 10), (SECOND, 20)],
         postpone: true,
         inserts: &[(Kind::Internal, 30)],
         settings: &[
@@ -584,31 +592,31 @@ fn an_enter_calls_settings_replace_the_events(rt: HostRuntime) {
         ],
         ..NOTHING
     };
-    asks(&rt, &both, wanted);
+    asks(&rt, &both, &BOTH);
 
     // The first list alone decides whether the event is postponed.
     let kept = events_joined(&rt, rt.alloc(), &['i', 'k'], &['p', 't']);
-    let wanted = Wanted {
+    static KEPT: Wanted<'static> = Wanted {
         inserts: &[(Kind::Internal, 30), (Kind::Timeout(Timer::State), 40)],
         ..NOTHING
     };
-    asks(&rt, &kept, wanted);
+    asks(&rt, &kept, &KEPT);
     rt.end();
 }
 
 #[test]
 fn a_refused_join_changes_nothing(rt: HostRuntime) {
     let rt = Host::new(rt);
-    let first = ['r', 'i', 's', 't', '1', 'p', 'i', 'n', 'e', '2', 'x', 'r'];
-    let second = ['s', 't', 'm', 'k', 'i', '9', 'r'];
-    let both = events_joined(&rt, rt.alloc(), &first, &second);
-    let wanted = Wanted {
+    static EARLIER: [char; 12] = ['r', 'i', 's', 't', '1', 'p', 'i', 'n', 'e', '2', 'x', 'r'];
+    static LATER: [char; 7] = ['s', 't', 'm', 'k', 'i', '9', 'r'];
+    let both = events_joined(&rt, rt.alloc(), &EARLIER, &LATER);
+    static BOTH: Wanted<'static> = Wanted {
         replies: &[
-            (tag(1), 10),
-            (tag(2), 20),
-            (tag(1), 10),
-            (tag(2), 20),
-            (tag(1), 10),
+            (FIRST, 10),
+            (SECOND, 20),
+            (FIRST, 10),
+            (SECOND, 20),
+            (FIRST, 10),
         ],
         postpone: true,
         inserts: &[
@@ -624,9 +632,9 @@ fn a_refused_join_changes_nothing(rt: HostRuntime) {
             (Timer::State, Decision::Set(Time::After(3)), 100),
             (Timer::Named(1), Decision::Set(Time::After(9)), 70),
         ],
-        sends: &[(machine(6), 140), (machine(4), 130)],
+        sends: &[(FAR, 140), (NEAR, 130)],
     };
-    asks(&rt, &both, wanted);
+    asks(&rt, &both, &BOTH);
     rt.end();
 }
 
@@ -641,25 +649,39 @@ fn asked_by(
         settings: wanted,
         ..NOTHING
     };
-    asks(rt, &planned(rt, alloc, letters), wanted);
-    asks(rt, &entered(rt, alloc, letters), wanted);
+    asks(rt, &planned(rt, alloc, letters), &wanted);
+    asks(rt, &entered(rt, alloc, letters), &wanted);
 }
+
+/// What is asked of a timer, without the content, and the content.
+type Setting = (Timer, Decision, u64);
+
+/// A timer is set.
+const SET: Setting = (Timer::Named(1), Decision::Set(Time::After(1)), 50);
+
+/// It is cancelled.
+const CANCELLED: Setting = (Timer::Named(1), Decision::Cancel, 0);
+
+/// It is updated.
+const UPDATED: Setting = (Timer::Named(1), Decision::Update, 110);
+
+/// The state time-out is updated.
+const STATE_UPDATED: Setting = (Timer::State, Decision::Update, 120);
 
 #[test]
 fn of_all_that_is_asked_of_a_timer_the_last_decides(rt: HostRuntime) {
+    static ROWS: [(&[char], &[Setting]); 5] = [
+        (&['1', 'c', 'u'], &[UPDATED]),
+        (&['u', 'c', '1'], &[SET]),
+        (&['1', 'u', 'c'], &[CANCELLED]),
+        // Another timer's stays, and each stands where the last of its timer stood.
+        (&['u', 'x', 'c', 'v'], &[CANCELLED, STATE_UPDATED]),
+        (&['d', 'c', 'v', '1', 'u'], &[STATE_UPDATED, UPDATED]),
+    ];
     let rt = Host::new(rt);
-    let set = (Timer::Named(1), Decision::Set(Time::After(1)), 50);
-    let cancelled = (Timer::Named(1), Decision::Cancel, 0);
-    let updated = (Timer::Named(1), Decision::Update, 110);
-    let state_updated = (Timer::State, Decision::Update, 120);
-    asked_by(&rt, rt.alloc(), &['1', 'c', 'u'], &[updated]);
-    asked_by(&rt, rt.alloc(), &['u', 'c', '1'], &[set]);
-    asked_by(&rt, rt.alloc(), &['1', 'u', 'c'], &[cancelled]);
-    // Another timer's stays, and each stands where the last of its timer stood.
-    let two = [cancelled, state_updated];
-    asked_by(&rt, rt.alloc(), &['u', 'x', 'c', 'v'], &two);
-    let other = [state_updated, updated];
-    asked_by(&rt, rt.alloc(), &['d', 'c', 'v', '1', 'u'], &other);
+    for (letters, wanted) in &ROWS {
+        asked_by(&rt, rt.alloc(), *letters, *wanted);
+    }
     rt.end();
 }
 
@@ -667,47 +689,47 @@ fn of_all_that_is_asked_of_a_timer_the_last_decides(rt: HostRuntime) {
 fn what_is_sent_keeps_its_order(rt: HostRuntime) {
     let rt = Host::new(rt);
     let five = planned(&rt, rt.alloc(), &['m', 'r', 'n', 'u', 'm']);
-    let wanted = Wanted {
-        replies: &[(tag(1), 10)],
+    static FIVE: Wanted<'static> = Wanted {
+        replies: &[(FIRST, 10)],
         settings: &[(Timer::Named(1), Decision::Update, 110)],
-        sends: &[(machine(4), 130), (machine(6), 140), (machine(4), 130)],
+        sends: &[(NEAR, 130), (FAR, 140), (NEAR, 130)],
         ..NOTHING
     };
-    asks(&rt, &five, wanted);
+    asks(&rt, &five, &FIVE);
     rt.end();
 }
 
 #[test]
 fn what_an_enter_call_asks_of_a_timer_decides(rt: HostRuntime) {
     let rt = Host::new(rt);
-    let event = ['1', 'm', 'v', 'n', 'e'];
-    let both = event_joined(&rt, rt.alloc(), &event, &['d', 'u']);
-    let wanted = Wanted {
+    static EVENT: [char; 5] = ['1', 'm', 'v', 'n', 'e'];
+    let both = event_joined(&rt, rt.alloc(), &EVENT, &['d', 'u']);
+    static BOTH: Wanted<'static> = Wanted {
         settings: &[
             (Timer::Event, Decision::Set(Time::After(0)), 90),
             (Timer::State, Decision::Cancel, 0),
             (Timer::Named(1), Decision::Update, 110),
         ],
-        sends: &[(machine(4), 130), (machine(6), 140)],
+        sends: &[(NEAR, 130), (FAR, 140)],
         ..NOTHING
     };
-    asks(&rt, &both, wanted);
+    asks(&rt, &both, &BOTH);
 
     // A second list sends behind the first.
     let sent = events_joined(&rt, rt.alloc(), &['n', 'u'], &['m', '1', 'n']);
-    let wanted = Wanted {
+    static SENT: Wanted<'static> = Wanted {
         settings: &[(Timer::Named(1), Decision::Set(Time::After(1)), 50)],
-        sends: &[(machine(6), 140), (machine(4), 130), (machine(6), 140)],
+        sends: &[(FAR, 140), (NEAR, 130), (FAR, 140)],
         ..NOTHING
     };
-    asks(&rt, &sent, wanted);
+    asks(&rt, &sent, &SENT);
     rt.end();
 }
 
 #[test]
 fn the_last_setting_decides_also_in_long_lists(rt: HostRuntime) {
     let rt = Host::new(rt);
-    let lasts = [
+    static LASTS: [(char, u64); 13] = [
         ('F', 20),
         ('K', 21),
         ('H', 24),
@@ -722,18 +744,18 @@ fn the_last_setting_decides_also_in_long_lists(rt: HostRuntime) {
         ('A', 38),
         ('E', 39),
     ];
-    places(&rt, &planned(&rt, rt.alloc(), &FORTY), &lasts);
-    places(&rt, &entered(&rt, rt.alloc(), &FORTY), &lasts);
+    places(&rt, &planned(&rt, rt.alloc(), &FORTY), &LASTS);
+    places(&rt, &entered(&rt, rt.alloc(), &FORTY), &LASTS);
     rt.end();
 }
 
 #[test]
 fn the_last_setting_decides_also_in_long_plans(rt: HostRuntime) {
     let rt = Host::new(rt);
-    let twelve = ['M', 'B', 'N', 'A', 'O', 'X', 'A', 'P', 'B', 'Q', 'M', 'N'];
-    let both = event_joined(&rt, rt.alloc(), &FORTY, &twelve);
+    static TWELVE: [char; 12] = ['M', 'B', 'N', 'A', 'O', 'X', 'A', 'P', 'B', 'Q', 'M', 'N'];
+    let both = event_joined(&rt, rt.alloc(), &FORTY, &TWELVE);
     // Those of the forty whose timers none of the twelve sets, and then the last ones of the twelve.
-    let lasts = [
+    static LASTS: [(char, u64); 18] = [
         ('F', 20),
         ('K', 21),
         ('H', 24),
@@ -753,6 +775,6 @@ fn the_last_setting_decides_also_in_long_plans(rt: HostRuntime) {
         ('M', 10),
         ('N', 11),
     ];
-    places(&rt, &both, &lasts);
+    places(&rt, &both, &LASTS);
     rt.end();
 }

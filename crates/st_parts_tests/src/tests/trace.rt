@@ -27,6 +27,21 @@ impl StateNames<bool> for Names {
     }
 }
 
+/// A machine whose message is delivered.
+const NEAR: MachineId = MachineId { slot: 0, serial: 1 };
+
+/// Another one, with longer numbers.
+const FAR: MachineId = MachineId {
+    slot: 12,
+    serial: 345,
+};
+
+/// The first request.
+const FIRST: Tag = Tag {
+    machine: NEAR,
+    request: 1,
+};
+
 /// The journal of the rows. Where memory was refused, it is made again.
 pub fn journal_of(
     rt: &Host<impl Abort>,
@@ -133,12 +148,13 @@ const LOCKED_AGAIN: Turn = Turn {
 
 #[test]
 fn one_button_prints_two_lines(rt: HostRuntime) {
+    static ROWS: [(u64, Row); 2] = [(1, Row::Posts(1, Entry::Cast, 1)), (2, Row::Turns(PRESSED))];
     let rt = Host::new(rt);
     prints(
         &rt,
         rt.alloc(),
         0,
-        &[(1, Row::Posts(1, Entry::Cast, 1)), (2, Row::Turns(PRESSED))],
+        &ROWS,
         Totals {
             posts: 1,
             turns: 1,
@@ -157,26 +173,27 @@ summary posts 1 turns 1 finished 1 put_off 0
 
 #[test]
 fn a_door_that_opens_and_is_locked_again_prints_six_lines(rt: HostRuntime) {
+    static ROWS: [(u64, Row); 6] = [
+        (1, Row::Posts(1, Entry::Cast, 1)),
+        (2, Row::Turns(PRESSED)),
+        (3, Row::Posts(1, Entry::Cast, 3)),
+        (
+            4,
+            Row::Turns(Turn {
+                event: 3,
+                after: true,
+                ..PRESSED
+            }),
+        ),
+        (5, Row::Ticks(10_000, 1)),
+        (6, Row::Turns(LOCKED_AGAIN)),
+    ];
     let rt = Host::with_memory(rt);
     prints(
         &rt,
         rt.alloc(),
         0,
-        &[
-            (1, Row::Posts(1, Entry::Cast, 1)),
-            (2, Row::Turns(PRESSED)),
-            (3, Row::Posts(1, Entry::Cast, 3)),
-            (
-                4,
-                Row::Turns(Turn {
-                    event: 3,
-                    after: true,
-                    ..PRESSED
-                }),
-            ),
-            (5, Row::Ticks(10_000, 1)),
-            (6, Row::Turns(LOCKED_AGAIN)),
-        ],
+        &ROWS,
         Totals {
             posts: 2,
             turns: 3,
@@ -199,23 +216,24 @@ summary posts 2 turns 3 finished 3 put_off 0
 
 #[test]
 fn a_turn_that_sends_says_how_many_messages_and_a_take_out_says_to_whom(rt: HostRuntime) {
+    static ROWS: [(u64, Row); 3] = [
+        (1, Row::Posts(1, Entry::Cast, 1)),
+        (
+            2,
+            Row::Turns(Turn {
+                set: 0,
+                sent: 1,
+                ..PRESSED
+            }),
+        ),
+        (3, Row::Takes(1)),
+    ];
     let rt = Host::new(rt);
     prints(
         &rt,
         rt.alloc(),
         0,
-        &[
-            (1, Row::Posts(1, Entry::Cast, 1)),
-            (
-                2,
-                Row::Turns(Turn {
-                    set: 0,
-                    sent: 1,
-                    ..PRESSED
-                }),
-            ),
-            (3, Row::Takes(1)),
-        ],
+        &ROWS,
         Totals {
             posts: 1,
             turns: 1,
@@ -236,18 +254,13 @@ summary posts 1 turns 1 finished 1 put_off 0
 #[test]
 fn a_delivered_message_says_from_whom_it_comes(rt: HostRuntime) {
     let rt = Host::new(rt);
-    let first = MachineId { slot: 0, serial: 1 };
-    let far = MachineId {
-        slot: 12,
-        serial: 345,
-    };
     prints(
         &rt,
         rt.alloc(),
         0,
         &[
-            (1, Row::Delivers(first, 1, 1)),
-            (2, Row::Delivers(far, 18_446_744_073_709_551_615, 2)),
+            (1, Row::Delivers(NEAR, 1, 1)),
+            (2, Row::Delivers(FAR, 18_446_744_073_709_551_615, 2)),
             (3, Row::Takes(1)),
             (4, Row::Posts(1, Entry::Info, 4)),
         ],
@@ -271,12 +284,13 @@ summary posts 3 turns 0 finished 0 put_off 0
 
 #[test]
 fn entries_keep_their_numbers_after_a_cut(rt: HostRuntime) {
+    static ROWS: [(u64, Row); 2] = [(5, Row::Ticks(10_000, 1)), (6, Row::Turns(LOCKED_AGAIN))];
     let rt = Host::new(rt);
     prints(
         &rt,
         rt.alloc(),
         0,
-        &[(5, Row::Ticks(10_000, 1)), (6, Row::Turns(LOCKED_AGAIN))],
+        &ROWS,
         Totals {
             posts: 0,
             turns: 1,
@@ -295,89 +309,89 @@ summary posts 0 turns 1 finished 1 put_off 0
 
 #[test]
 fn each_word_has_its_own_rest(rt: HostRuntime) {
+    static ROWS: [(u64, Row); 17] = [
+        (1, Row::Posts(1, Entry::Call, 1)),
+        (2, Row::Posts(2, Entry::Cast, 2)),
+        (3, Row::Posts(1, Entry::Info, 3)),
+        (4, Row::Ticks(2, 0)),
+        (5, Row::Ticks(10, 2)),
+        (
+            6,
+            Row::Turns(Turn {
+                now: 5,
+                event: 1,
+                kind: Kind::Call(FIRST),
+                before: false,
+                replied: 2,
+                inserted: 1,
+                set: 3,
+                ..LEFT_OPEN
+            }),
+        ),
+        (
+            7,
+            Row::Turns(Turn {
+                event: 2,
+                kind: Kind::Cast,
+                done: Done::PutOff,
+                ..LEFT_OPEN
+            }),
+        ),
+        (
+            8,
+            Row::Turns(Turn {
+                event: 3,
+                ..LEFT_OPEN
+            }),
+        ),
+        (
+            9,
+            Row::Turns(Turn {
+                event: 4,
+                kind: Kind::Internal,
+                ..LEFT_OPEN
+            }),
+        ),
+        (
+            10,
+            Row::Turns(Turn {
+                event: 5,
+                kind: Kind::Timeout(Timer::Event),
+                ..LEFT_OPEN
+            }),
+        ),
+        (
+            11,
+            Row::Turns(Turn {
+                event: 6,
+                kind: Kind::Timeout(Timer::State),
+                after: false,
+                ..LEFT_OPEN
+            }),
+        ),
+        (
+            12,
+            Row::Turns(Turn {
+                event: 7,
+                kind: Kind::Timeout(Timer::Named(4_294_967_295)),
+                before: false,
+                after: false,
+                done: Done::Ended(9, 4),
+                ..LEFT_OPEN
+            }),
+        ),
+        (13, Row::Replies(1, true)),
+        (14, Row::Replies(1, false)),
+        (15, Row::Collects(1)),
+        (16, Row::CollectsReason(8, 9)),
+        (17, Row::Stops(70, 4)),
+    ];
     let rt = Host::with_memory(rt);
-    let tag = Tag::new(MachineId { slot: 0, serial: 1 }, 1);
     prints(
         &rt,
         rt.alloc(),
         3,
-        &[
-            (1, Row::Posts(1, Entry::Call, 1)),
-            (2, Row::Posts(2, Entry::Cast, 2)),
-            (3, Row::Posts(1, Entry::Info, 3)),
-            (4, Row::Ticks(2, 0)),
-            (5, Row::Ticks(10, 2)),
-            (
-                6,
-                Row::Turns(Turn {
-                    now: 5,
-                    event: 1,
-                    kind: Kind::Call(tag),
-                    before: false,
-                    replied: 2,
-                    inserted: 1,
-                    set: 3,
-                    ..LEFT_OPEN
-                }),
-            ),
-            (
-                7,
-                Row::Turns(Turn {
-                    event: 2,
-                    kind: Kind::Cast,
-                    done: Done::PutOff,
-                    ..LEFT_OPEN
-                }),
-            ),
-            (
-                8,
-                Row::Turns(Turn {
-                    event: 3,
-                    ..LEFT_OPEN
-                }),
-            ),
-            (
-                9,
-                Row::Turns(Turn {
-                    event: 4,
-                    kind: Kind::Internal,
-                    ..LEFT_OPEN
-                }),
-            ),
-            (
-                10,
-                Row::Turns(Turn {
-                    event: 5,
-                    kind: Kind::Timeout(Timer::Event),
-                    ..LEFT_OPEN
-                }),
-            ),
-            (
-                11,
-                Row::Turns(Turn {
-                    event: 6,
-                    kind: Kind::Timeout(Timer::State),
-                    after: false,
-                    ..LEFT_OPEN
-                }),
-            ),
-            (
-                12,
-                Row::Turns(Turn {
-                    event: 7,
-                    kind: Kind::Timeout(Timer::Named(4_294_967_295)),
-                    before: false,
-                    after: false,
-                    done: Done::Ended(9, 4),
-                    ..LEFT_OPEN
-                }),
-            ),
-            (13, Row::Replies(1, true)),
-            (14, Row::Replies(1, false)),
-            (15, Row::Collects(1)),
-            (16, Row::CollectsReason(8, 9)),
-            (17, Row::Stops(70, 4)),
-        ],
+        &ROWS,
         Totals {
             posts: 3,
             turns: 7,
@@ -411,21 +425,22 @@ summary posts 3 turns 7 finished 5 put_off 1
 
 #[test]
 fn a_number_that_is_longer_than_its_column_takes_the_bytes_that_it_needs(rt: HostRuntime) {
+    static ROWS: [(u64, Row); 2] = [
+        (
+            12_345_678_901,
+            Row::Posts(1_234_567, Entry::Info, 98_765_432_109),
+        ),
+        (
+            12_345_678_902,
+            Row::Ticks(18_446_744_073_709_551_615, 11_111_111_111),
+        ),
+    ];
     let rt = Host::with_memory(rt);
     prints(
         &rt,
         rt.alloc(),
         0,
-        &[
-            (
-                12_345_678_901,
-                Row::Posts(1_234_567, Entry::Info, 98_765_432_109),
-            ),
-            (
-                12_345_678_902,
-                Row::Ticks(18_446_744_073_709_551_615, 11_111_111_111),
-            ),
-        ],
+        &ROWS,
         Totals {
             posts: 1,
             turns: 0,

@@ -44,34 +44,19 @@ fn words_are_read_again_after_a_want_of_memory(rt: HostRuntime) {
 #[test]
 fn each_order_has_its_words(rt: HostRuntime) {
     let rt = Host::with_memory(rt);
-    let rows = [
-        (["statem", "run"].as_slice(), Order::Run),
-        (["statem", "trace"].as_slice(), Order::Trace),
-        (["statem", "pool"].as_slice(), Order::Pool(2)),
-        (
-            ["statem", "pool", "--workers", "1"].as_slice(),
-            Order::Pool(1),
-        ),
-        (
-            ["statem", "pool", "--workers", "16"].as_slice(),
-            Order::Pool(16),
-        ),
-        (["statem", "pool", "--workers=1"].as_slice(), Order::Pool(1)),
-        (
-            ["statem", "pool", "--workers=16"].as_slice(),
-            Order::Pool(16),
-        ),
-        (
-            ["statem", "pool", "--workers", "+4"].as_slice(),
-            Order::Pool(4),
-        ),
-        (
-            ["statem", "pool", "--workers=04"].as_slice(),
-            Order::Pool(4),
-        ),
+    static ROWS: [(&[&str], Order); 9] = [
+        (&["statem", "run"], Order::Run),
+        (&["statem", "trace"], Order::Trace),
+        (&["statem", "pool"], Order::Pool(2)),
+        (&["statem", "pool", "--workers", "1"], Order::Pool(1)),
+        (&["statem", "pool", "--workers", "16"], Order::Pool(16)),
+        (&["statem", "pool", "--workers=1"], Order::Pool(1)),
+        (&["statem", "pool", "--workers=16"], Order::Pool(16)),
+        (&["statem", "pool", "--workers", "+4"], Order::Pool(4)),
+        (&["statem", "pool", "--workers=04"], Order::Pool(4)),
     ];
-    for (words, wanted) in rows {
-        asks_for(&rt, rt.alloc(), words, wanted);
+    for (words, wanted) in &ROWS {
+        asks_for(&rt, rt.alloc(), *words, *wanted);
     }
     rt.end_with_memory();
 }
@@ -79,23 +64,23 @@ fn each_order_has_its_words(rt: HostRuntime) {
 #[test]
 fn other_words_are_at_fault(rt: HostRuntime) {
     let rt = Host::with_memory(rt);
-    let rows = [
-        ["statem"].as_slice(),
-        ["statem", "walk"].as_slice(),
-        ["statem", "run", "x"].as_slice(),
-        ["statem", "trace", "run"].as_slice(),
-        ["statem", "run", "--workers", "2"].as_slice(),
-        ["statem", "--workers", "2"].as_slice(),
-        ["statem", "pool", "4"].as_slice(),
-        ["statem", "pool", "--workers"].as_slice(),
-        ["statem", "pool", "--workers="].as_slice(),
-        ["statem", "pool", "--workers", "0"].as_slice(),
-        ["statem", "pool", "--workers", "17"].as_slice(),
-        ["statem", "pool", "--workers=17"].as_slice(),
-        ["statem", "pool", "--workers", "x"].as_slice(),
+    static ROWS: [&[&str]; 13] = [
+        &["statem"],
+        &["statem", "walk"],
+        &["statem", "run", "x"],
+        &["statem", "trace", "run"],
+        &["statem", "run", "--workers", "2"],
+        &["statem", "--workers", "2"],
+        &["statem", "pool", "4"],
+        &["statem", "pool", "--workers"],
+        &["statem", "pool", "--workers="],
+        &["statem", "pool", "--workers", "0"],
+        &["statem", "pool", "--workers", "17"],
+        &["statem", "pool", "--workers=17"],
+        &["statem", "pool", "--workers", "x"],
     ];
-    for words in rows {
-        let error = refusal_of(&rt, rt.alloc(), words);
+    for words in &ROWS {
+        let error = refusal_of(&rt, rt.alloc(), *words);
         same(&rt, "the status", &error.exit_code(), &2);
         let has_memory = error.kind() != ErrorKind::OutOfMemory;
         holds(&rt, "no memory is wanted", has_memory);
@@ -106,19 +91,19 @@ fn other_words_are_at_fault(rt: HostRuntime) {
 #[test]
 fn help_is_asked_for(rt: HostRuntime) {
     let rt = Host::with_memory(rt);
-    let rows = [
-        (["statem", "--help"].as_slice(), "trace"),
-        (["statem", "help"].as_slice(), "trace"),
-        (["statem", "run", "--help"].as_slice(), "script"),
-        (["statem", "trace", "--help"].as_slice(), "trace"),
-        (["statem", "pool", "--help"].as_slice(), "--workers <N>"),
+    static ROWS: [(&[&str], &str); 5] = [
+        (&["statem", "--help"], "trace"),
+        (&["statem", "help"], "trace"),
+        (&["statem", "run", "--help"], "script"),
+        (&["statem", "trace", "--help"], "trace"),
+        (&["statem", "pool", "--help"], "--workers <N>"),
     ];
-    for (words, told) in rows {
-        let error = refusal_of(&rt, rt.alloc(), words);
+    for (words, told) in &ROWS {
+        let error = refusal_of(&rt, rt.alloc(), *words);
         same(&rt, "the status", &error.exit_code(), &0);
         same(&rt, "why", &error.kind(), &ErrorKind::DisplayHelp);
         let text = got(&rt, "memory", error.to_string(rt.alloc()));
-        holds(&rt, "the help says it", text.contains(told));
+        holds(&rt, "the help says it", text.contains(*told));
     }
     rt.end_with_memory();
 }

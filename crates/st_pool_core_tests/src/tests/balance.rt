@@ -143,6 +143,31 @@ fn add_of(rt: &impl Abort, found: &mut Vec<Token>, id: MachineId, tokens: &[Toke
     }
 }
 
+/// Adds those of a lane's tokens that are a machine's to others.
+fn add_lane<T: Pooled>(
+    rt: &Host<impl Abort>,
+    found: &mut Vec<Token>,
+    id: MachineId,
+    pool: &T,
+    number: usize,
+) {
+    let tokens = lane(rt, pool, number).expect(rt, "there is such a lane");
+    add_of(rt, found, id, tokens.as_slice());
+}
+
+/// Adds the token of a hand to others, if it is a machine's.
+fn add_hand<T: Pooled>(
+    rt: &impl Abort,
+    found: &mut Vec<Token>,
+    id: MachineId,
+    pool: &T,
+    number: usize,
+) {
+    if let Some(token) = pool.in_hand(number) {
+        add_of(rt, found, id, [token].as_slice());
+    }
+}
+
 /// The tokens of a machine, wherever they stand: with callers, in a lane or in a hand.
 fn standing<T: Pooled>(
     rt: &Host<impl Abort>,
@@ -153,13 +178,21 @@ fn standing<T: Pooled>(
     let mut found = Vec::new(alloc);
     add_of(rt, &mut found, id, callers(rt, pool).as_slice());
     for number in 0..4 {
-        let tokens = lane(rt, pool, number).expect(rt, "there is such a lane");
-        add_of(rt, &mut found, id, tokens.as_slice());
-        if let Some(token) = pool.in_hand(number) {
-            add_of(rt, &mut found, id, [token].as_slice());
-        }
+        add_lane(rt, &mut found, id, pool, number);
+        add_hand(rt, &mut found, id, pool, number);
     }
     found
+}
+
+/// Looks that these tokens of a machine are its own, if it has one, and no other.
+fn stands_alone(rt: &impl Abort, found: &[Token], token: Option<Token>) {
+    match token {
+        Some(token) => {
+            let is_alone = *found == *[token].as_slice();
+            holds(rt, "its token stands in one place", is_alone);
+        }
+        None => holds(rt, "no token stands anywhere", found.is_empty()),
+    }
 }
 
 /// Looks that a machine's token stands in one place and no other token of it anywhere, and that a machine that has work
@@ -167,13 +200,7 @@ fn standing<T: Pooled>(
 fn is_balanced<T: Pooled>(rt: &Host<impl Abort>, alloc: Global, pool: &T, id: MachineId) {
     let found = standing(rt, alloc, pool, id);
     let token = pool.token_of(id);
-    match token {
-        Some(token) => {
-            let is_alone = found.as_slice() == [token].as_slice();
-            holds(rt, "its token stands in one place", is_alone);
-        }
-        None => holds(rt, "no token stands anywhere", found.is_empty()),
-    }
+    stands_alone(rt, found.as_slice(), token);
     let seen = pool.see(id).expect(rt, "there is such a machine");
     let is_fit = !seen.is_ready | token.is_some();
     holds(rt, "it has a token where it has work", is_fit);
@@ -190,29 +217,59 @@ fn five() -> [MachineId; 5] {
     ]
 }
 
-/// Does a step, and says whether it was a turn, and whether it delivered a message.
-fn went<T: Pooled>(pool: &mut T, step: Step<u32>) -> (bool, bool) {
-    let delivers = matches!(step, Step::Deliver(_));
+/// Says whether a step delivers a message.
+fn delivers(step: &Step<u32>) -> bool {
+    matches!(step, Step::Deliver(_))
+}
+
+/// Says whether an answer is a turn's report.
+fn is_turned(answer: &StepAnswer<u32, u32>) -> bool {
+    matches!(answer, StepAnswer::Turned(_))
+}
+
+/// Says whether a step was refused.
+fn is_refused(answer: &StepAnswer<u32, u32>) -> bool {
+    matches!(answer, StepAnswer::Refused(_))
+}
+
+/// How many turns there were, and how many deliveries.
+#[derive(Drop)]
+struct Counts {
+    turns: u64,
+    deliveries: u64,
+}
+
+/// Does a step, and counts whether it was a turn, and whether it delivered a message.
+fn goes<T: Pooled>(pool: &mut T, step: Step<u32>, counts: &mut Counts) {
+    let delivers = delivers(&step);
     let answer = pool.do_step(step);
-    let turned = matches!(answer, StepAnswer::Turned(_));
-    (turned, delivers & !matches!(answer, StepAnswer::Refused(_)))
+    let turned = u64::from(is_turned(&answer));
+    counts.turns = counts.turns.saturating_add(turned);
+    let delivered = u64::from(delivers & !is_refused(&answer));
+    counts.deliveries = counts.deliveries.saturating_add(delivered);
+}
+
+/// Looks that all machines are in balance.
+fn are_balanced<T: Pooled>(rt: &Host<impl Abort>, alloc: Global, pool: &T) {
+    for id in &five() {
+        is_balanced(rt, alloc, pool, *id);
+    }
 }
 
 /// Does many steps, and looks after each that all is in balance.
 fn stays_balanced<T: Pooled>(rt: &Host<impl Abort>, alloc: Global, mut pool: T) {
     let mut numbers = Numbers { state: 7 };
-    let (mut turns, mut deliveries): (u64, u64) = (0, 0);
+    let mut counts = Counts {
+        turns: 0,
+        deliveries: 0,
+    };
     for now in 0..600 {
         let step = numbers.step(&pool, now);
-        let (turned, delivered) = went(&mut pool, step);
-        turns = turns.saturating_add(u64::from(turned));
-        deliveries = deliveries.saturating_add(u64::from(delivered));
-        for id in &five() {
-            is_balanced(rt, alloc, &pool, *id);
-        }
+        goes(&mut pool, step, &mut counts);
+        are_balanced(rt, alloc, &pool);
     }
-    holds(rt, "there are 20 turns", turns >= 20);
-    holds(rt, "and 3 deliveries", deliveries >= 3);
+    holds(rt, "there are 20 turns", counts.turns >= 20);
+    holds(rt, "and 3 deliveries", counts.deliveries >= 3);
 }
 
 #[test]

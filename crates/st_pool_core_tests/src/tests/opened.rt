@@ -3,7 +3,7 @@ ghost use Rattle.std.specs.Prelude.{◌≤◌, ◌<◌, ◌^◌};
 
 use super::host::{Host, got, holds};
 use super::plain::Plain;
-use st_core::{Core, MachineId, Refusal, Refused, Start};
+use st_core::{Core, MachineId, Refusal, Start};
 use st_pool_core::PoolWorld;
 use std::alloc::Global;
 use std::process::Abort;
@@ -33,30 +33,44 @@ pub fn with_reserved<T>(rt: &Host<impl Abort>, alloc: Global, count: usize) -> V
     }
 }
 
-/// Makes the call of a start, whose first event gets this number. Where it finds no memory, it is made again.
-fn start(
-    rt: &Host<impl Abort>,
-    alloc: Global,
-    id: MachineId,
-    first: u64,
-) -> Result<Start<Plain>, Refused<Plain>>
+/// An element goes behind others, for which a place is reserved.
+pub fn add<T: Drop>(rt: &impl Abort, all: &mut Vec<T>, element: T) {
+    all.push(element).expect(rt, "a place is reserved");
+}
+
+/// Makes the call of a start, whose first event gets this number.
+fn start_once(alloc: Global, id: MachineId, first: u64) -> Result<Start<Plain>, Refusal>
     requires least { 1 ≤ first }
     requires greatest { first < 2 ^ 63 }
 {
-    let started = Core::start_from(alloc, Plain, id, &(), 0, first);
-    if matches!(&started, Err(refused) if refused.refusal == Refusal::NoMemory) {
-        rt.retry();
-        return Core::start_from(alloc, Plain, id, &(), 0, first);
+    match Core::start_from(alloc, Plain, id, &(), 0, first) {
+        Ok(started) => Ok(started),
+        Err(refused) => Err(refused.refusal),
     }
-    started
+}
+
+/// Makes the call of a start, whose first event gets this number. Where it finds no memory, it is made again.
+fn start(rt: &Host<impl Abort>, alloc: Global, id: MachineId, first: u64) -> Start<Plain>
+    requires least { 1 ≤ first }
+    requires greatest { first < 2 ^ 63 }
+{
+    match start_once(alloc, id, first) {
+        Ok(started) => started,
+        Err(refusal) => {
+            holds(rt, "it is started", refusal == Refusal::NoMemory);
+            rt.retry();
+            got(rt, "it is started", start_once(alloc, id, first))
+        }
+    }
 }
 
 /// The machine that was started.
 fn running(rt: &impl Abort, started: Start<Plain>) -> Core<Plain> {
-    match started {
-        Start::Running(core, _) => core,
-        _ => panic!(rt; "there is no machine"),
-    }
+    let Start::Running(core, report) = started else {
+        panic!(rt; "there is no machine")
+    };
+    drop(report);
+    core
 }
 
 /// Machines of these ids.
@@ -76,19 +90,30 @@ pub fn cores_from(
 {
     let mut cores = with_reserved(rt, alloc, ids.len());
     for id in ids {
-        let started = got(rt, "it is started", start(rt, alloc, *id, first));
-        cores
-            .push(running(rt, started))
-            .expect(rt, "a place is reserved");
+        let started = start(rt, alloc, *id, first);
+        add(rt, &mut cores, running(rt, started));
     }
     cores
 }
 
+/// What has a machine's id. It is looked at with no contract of the machine at hand, which makes the proof short.
+pub trait Identified {
+    /// The id.
+    fn own_id(&self) -> MachineId;
+}
+
+impl Identified for Core<Plain> {
+    fn own_id(&self) -> MachineId {
+        self.id()
+    }
+}
+
 /// Looks that these machines have these ids.
-pub fn are_of(rt: &impl Abort, cores: &[Core<Plain>], ids: &[MachineId]) {
+pub fn are_of<T: Identified>(rt: &impl Abort, cores: &[T], ids: &[MachineId]) {
     holds(rt, "how many machines", cores.len() == ids.len());
-    for (core, id) in cores.iter().zip(ids.iter()) {
-        holds(rt, "the machine's id", core.id() == *id);
+    for (place, core) in cores.iter().enumerate() {
+        let is_its_own = ids.get(place) == Some(&core.own_id());
+        holds(rt, "the machine's id", is_its_own);
     }
 }
 
@@ -101,14 +126,15 @@ pub fn opened_with(
     cores: Vec<Core<Plain>>,
     ids: &[MachineId],
 ) -> PoolWorld<Plain> {
-    let refused = match PoolWorld::new(alloc, workers, cores) {
-        Ok(pool) => return pool,
-        Err(refused) => refused,
-    };
-    is_made_again(rt, refused.refusal);
-    are_of(rt, refused.value.as_slice(), ids);
-    let again = PoolWorld::new(alloc, workers, refused.value);
-    got(rt, "one allocation alone is refused", again)
+    match PoolWorld::new(alloc, workers, cores) {
+        Ok(pool) => pool,
+        Err(refused) => {
+            is_made_again(rt, refused.refusal);
+            are_of(rt, refused.value.as_slice(), ids);
+            let again = PoolWorld::new(alloc, workers, refused.value);
+            got(rt, "one allocation alone is refused", again)
+        }
+    }
 }
 
 /// A pool of so many workers and machines of these ids, in which nothing was done.

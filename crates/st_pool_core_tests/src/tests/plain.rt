@@ -1,5 +1,5 @@
 //! A module whose contents each ask for something else.
-ghost use Rattle.std.specs.Prelude.{◌≡◌, ◌==◌, if◌then◌else◌, true, false, None, [], ◌∷◌, refl};
+ghost use Rattle.std.specs.Prelude.{◌≡◌, ◌==◌, if◌then◌else◌, true, false, None, [], ◌∷◌, refl, IfOk};
 ghost use Rattle.std.proofs.Common.{rules};
 ghost use Rattle.st_events.specs.declared.action.Action.TheVariants.{NextEvent, Postpone, Send, Set};
 ghost use Rattle.st_events.specs.declared.enter_outcome.EnterOutcome.TheVariants as enter_outcome;
@@ -16,13 +16,36 @@ use st_core::{
 use std::alloc::{AllocError, Global};
 
 /// The machine in the first place.
-const FIRST: MachineId = MachineId { slot: 0, serial: 1 };
+pub const FIRST: MachineId = MachineId { slot: 0, serial: 1 };
 
 /// The machine in the second place.
-const SECOND: MachineId = MachineId { slot: 1, serial: 2 };
+pub const SECOND: MachineId = MachineId { slot: 1, serial: 2 };
 
 /// The machine in the fifth place, which most pools have not.
-const FIFTH: MachineId = MachineId { slot: 4, serial: 5 };
+pub const FIFTH: MachineId = MachineId { slot: 4, serial: 5 };
+
+/// Keeps both, and does one action.
+fn does(alloc: Global, action: Action<u32>) -> Result<Outcome<u32, u32, u32>, AllocError>
+    ensures { IfOk result (λ outcome. outcome ≡ KeepStateAndData (action ∷ [])) }
+{
+    let mut actions = Actions::new(alloc);
+    actions.push(action)?;
+    Ok(Outcome::KeepStateAndData(actions))
+}
+
+/// Keeps both, and does two actions.
+fn does_both(
+    alloc: Global,
+    first: Action<u32>,
+    second: Action<u32>,
+) -> Result<Outcome<u32, u32, u32>, AllocError>
+    ensures { IfOk result (λ outcome. outcome ≡ KeepStateAndData (first ∷ second ∷ [])) }
+{
+    let mut actions = Actions::new(alloc);
+    actions.push(first)?;
+    actions.push(second)?;
+    Ok(Outcome::KeepStateAndData(actions))
+}
 
 /// States, data and contents are numbers. The state is 0 and the data 7, and `terminate` answers the data.
 ///
@@ -78,21 +101,16 @@ impl Module for Plain {
         _state: u32,
         _held: &u32,
     ) -> Result<Outcome<u32, u32, u32>, AllocError> {
-        let mut actions = Actions::new(alloc);
         match *content {
-            1 => return Ok(Outcome::Stop(9, None)),
-            2 => actions.push(Action::NextEvent(Kind::Internal, 0))?,
-            3 => actions.push(Action::Set(Timer::State, Time::After(5), 0))?,
-            4 => actions.push(Action::Postpone(true))?,
-            5 => {
-                actions.push(Action::Send(SECOND, 10))?;
-                actions.push(Action::Send(SECOND, 11))?;
-            }
-            6 => actions.push(Action::Send(FIRST, 12))?,
-            7 => actions.push(Action::Send(FIFTH, 13))?,
-            _ => {}
+            1 => Ok(Outcome::Stop(9, None)),
+            2 => does(alloc, Action::NextEvent(Kind::Internal, 0)),
+            3 => does(alloc, Action::Set(Timer::State, Time::After(5), 0)),
+            4 => does(alloc, Action::Postpone(true)),
+            5 => does_both(alloc, Action::Send(SECOND, 10), Action::Send(SECOND, 11)),
+            6 => does(alloc, Action::Send(FIRST, 12)),
+            7 => does(alloc, Action::Send(FIFTH, 13)),
+            _ => Ok(Outcome::KeepStateAndData(Actions::new(alloc))),
         }
-        Ok(Outcome::KeepStateAndData(actions))
     }
 
     fn enters(&self) -> bool {

@@ -1,6 +1,6 @@
 //! A pool as a test sees it: what it is told, and what can be read of it.
 use super::plain::Plain;
-use st_core::{MachineId, PlainList, Reason, Refusal, Refused};
+use st_core::{Core, MachineId, Module, PlainList, Reason, Refusal, Refused};
 use st_events::Token;
 use st_pool_core::{Message, PoolWorld, Step, StepAnswer};
 
@@ -48,6 +48,17 @@ pub trait Pooled: Drop {
     fn try_lane(&self, lane: usize) -> Result<Option<PlainList<Token>>, Refusal>;
 }
 
+/// What can be read of a machine with this count of commands.
+fn sight_of<M: Module>(core: &Core<M>, count: Option<u64>) -> Seen {
+    Seen {
+        count,
+        is_ready: core.is_ready(),
+        waiting: core.waiting(),
+        latest: core.latest(),
+        ended: core.ended(),
+    }
+}
+
 impl Pooled for PoolWorld<Plain> {
     fn do_step(&mut self, step: Step<u32>) -> StepAnswer<u32, u32> {
         self.step(step)
@@ -61,14 +72,10 @@ impl Pooled for PoolWorld<Plain> {
     }
 
     fn see(&self, id: MachineId) -> Option<Seen> {
-        let core = self.machine(id)?;
-        Some(Seen {
-            count: self.count(id),
-            is_ready: core.is_ready(),
-            waiting: core.waiting(),
-            latest: core.latest(),
-            ended: core.ended(),
-        })
+        match self.machine(id) {
+            Some(core) => Some(sight_of(core, self.count(id))),
+            None => None,
+        }
     }
 
     fn token_of(&self, id: MachineId) -> Option<Token> {

@@ -1,11 +1,11 @@
 //! Steps and pools that are refused, which changes nothing.
 use super::host::{Host, holds};
-use super::opened::{are_of, cores, machine_id, opened};
-use super::plain::Plain;
+use super::opened::{are_of, cores, opened};
+use super::plain::{FIFTH, FIRST, Plain, SECOND};
 use super::pooled::Pooled;
-use super::shown::{moved, posted, refusing, stopped};
+use super::shown::{Shown, refusing};
 use super::shows::shows;
-use super::told::{cast, content_in, copy_of, does};
+use super::told::{CAST, TOKEN, content_in, copy_of, does};
 use super::whole::read_all;
 use st_core::{Core, Entry, MOMENT_LIMIT, MachineId, Refusal, Refused, Tag};
 use st_events::Token;
@@ -13,32 +13,67 @@ use st_pool_core::{PoolWorld, Step};
 use std::alloc::Global;
 use std::process::Abort;
 
-/// The token of the machine in this place with this wake number.
-fn token(slot: usize, wake: u64) -> Token {
-    Token {
-        machine: machine_id(slot),
-        wake,
+/// The machine in the third place.
+const THIRD: MachineId = MachineId { slot: 2, serial: 3 };
+
+/// The machine in the fourth place.
+const FOURTH: MachineId = MachineId { slot: 3, serial: 4 };
+
+/// The first token of the second machine.
+const SECOND_TOKEN: Token = Token {
+    machine: SECOND,
+    wake: 1,
+};
+
+/// The first token of the fourth machine.
+const FOURTH_TOKEN: Token = Token {
+    machine: FOURTH,
+    wake: 1,
+};
+
+/// Tokens are issued and moved, and a machine is stopped.
+static BEFORE: [(Step<u32>, Shown); 7] = [
+    (CAST, Shown::Posted(1, Some(TOKEN))),
+    (Step::Give(TOKEN, 0), Shown::Moved),
+    (Step::Take(2, 0), Shown::Moved),
+    (
+        Step::Post(SECOND, Entry::Cast, 0),
+        Shown::Posted(1, Some(SECOND_TOKEN)),
+    ),
+    (Step::Stop(THIRD, 3), Shown::Stopped),
+    (
+        Step::Post(FOURTH, Entry::Cast, 0),
+        Shown::Posted(1, Some(FOURTH_TOKEN)),
+    ),
+    (Step::Give(FOURTH_TOKEN, 1), Shown::Moved),
+];
+
+/// Does steps, and looks at their answers.
+fn prepares<T: Pooled>(rt: &Host<impl Abort>, pool: &mut T, steps: &[(Step<u32>, Shown)]) {
+    for (row, (step, answer)) in steps.iter().enumerate() {
+        does(rt, row, pool, step, answer);
     }
 }
 
 /// A pool of two workers and four machines: the first one's token is in the second hand, the second one's with callers,
 /// the third one has ended, and the fourth one's token is in the first worker's lane.
 fn with_tokens(rt: &Host<impl Abort>, alloc: Global) -> PoolWorld<Plain> {
-    let ids = [machine_id(0), machine_id(1), machine_id(2), machine_id(3)];
-    let mut pool = opened(rt, alloc, 2, ids.as_slice());
-    let steps = [
-        (cast(machine_id(0)), posted(1, Some(token(0, 1)))),
-        (Step::Give(token(0, 1), 0), moved()),
-        (Step::Take(2, 0), moved()),
-        (cast(machine_id(1)), posted(1, Some(token(1, 1)))),
-        (Step::Stop(machine_id(2), 3), stopped()),
-        (cast(machine_id(3)), posted(1, Some(token(3, 1)))),
-        (Step::Give(token(3, 1), 1), moved()),
-    ];
-    for (row, (step, answer)) in steps.iter().enumerate() {
-        does(rt, row, &mut pool, step, answer);
-    }
+    let mut pool = opened(rt, alloc, 2, [FIRST, SECOND, THIRD, FOURTH].as_slice());
+    prepares(rt, &mut pool, BEFORE.as_slice());
     pool
+}
+
+/// Does a step that is refused for this reason. The content that it holds comes back.
+fn is_refused<T: Pooled>(
+    rt: &impl Abort,
+    row: usize,
+    pool: &mut T,
+    step: &Step<u32>,
+    refusal: Refusal,
+) {
+    let wanted = refusing(refusal, content_in(step));
+    let answer = pool.do_step(copy_of(step));
+    shows(rt, row, "why it is refused", answer == wanted);
 }
 
 /// Does steps that are refused for these reasons. The content that a step holds comes back, and nothing changes. None
@@ -46,73 +81,107 @@ fn with_tokens(rt: &Host<impl Abort>, alloc: Global) -> PoolWorld<Plain> {
 fn all_refused<T: Pooled>(rt: &Host<impl Abort>, mut pool: T, steps: &[(Step<u32>, Refusal)]) {
     let before = read_all(rt, &pool);
     for (row, (step, refusal)) in steps.iter().enumerate() {
-        let wanted = refusing(*refusal, content_in(step));
-        let answer = pool.do_step(copy_of(step));
-        shows(rt, row, "why it is refused", answer == wanted);
+        is_refused(rt, row, &mut pool, step, *refusal);
         let is_as_before = read_all(rt, &pool) == before;
         shows(rt, row, "a refusal changes nothing", is_as_before);
     }
 }
 
+/// A request of a machine that is not there.
+const TAG: Tag = Tag {
+    machine: FIFTH,
+    request: 1,
+};
+
+/// The token of a machine that is not there.
+const FIFTH_TOKEN: Token = Token {
+    machine: FIFTH,
+    wake: 1,
+};
+
+/// Steps of a machine, a lane or a worker that is not there.
+static NOT_THERE: [(Step<u32>, Refusal); 16] = [
+    (Step::Post(FIFTH, Entry::Cast, 8), Refusal::NotPossible),
+    (Step::Reply(FIFTH, TAG, 8), Refusal::NotPossible),
+    (Step::Tick(FIFTH, 0), Refusal::NotPossible),
+    (Step::Stop(FIFTH, 4), Refusal::NotPossible),
+    (Step::Collect(FIFTH, TAG), Refusal::NotPossible),
+    (Step::Give(FIFTH_TOKEN, 0), Refusal::NotPossible),
+    (Step::Give(SECOND_TOKEN, 3), Refusal::NotPossible),
+    (Step::Take(0, 1), Refusal::NotPossible),
+    (Step::Take(3, 1), Refusal::NotPossible),
+    (Step::Take(1, 3), Refusal::NotPossible),
+    (Step::Turn(0, 0), Refusal::NotPossible),
+    (Step::Turn(3, 0), Refusal::NotPossible),
+    (Step::PutBack(0), Refusal::NotPossible),
+    (Step::PutBack(3), Refusal::NotPossible),
+    (Step::Drop(0), Refusal::NotPossible),
+    (Step::Drop(3), Refusal::NotPossible),
+];
+
 #[test]
 fn what_is_not_there_is_refused(rt: HostRuntime) {
     let rt = Host::new(rt);
-    let id = machine_id(4);
-    let tag = Tag::new(id, 1);
-    let steps = [
-        (Step::Post(id, Entry::Cast, 8), Refusal::NotPossible),
-        (Step::Reply(id, tag, 8), Refusal::NotPossible),
-        (Step::Tick(id, 0), Refusal::NotPossible),
-        (Step::Stop(id, 4), Refusal::NotPossible),
-        (Step::Collect(id, tag), Refusal::NotPossible),
-        (Step::Give(token(4, 1), 0), Refusal::NotPossible),
-        (Step::Give(token(1, 1), 3), Refusal::NotPossible),
-        (Step::Take(0, 1), Refusal::NotPossible),
-        (Step::Take(3, 1), Refusal::NotPossible),
-        (Step::Take(1, 3), Refusal::NotPossible),
-        (Step::Turn(0, 0), Refusal::NotPossible),
-        (Step::Turn(3, 0), Refusal::NotPossible),
-        (Step::PutBack(0), Refusal::NotPossible),
-        (Step::PutBack(3), Refusal::NotPossible),
-        (Step::Drop(0), Refusal::NotPossible),
-        (Step::Drop(3), Refusal::NotPossible),
-    ];
-    all_refused(&rt, with_tokens(&rt, rt.alloc()), steps.as_slice());
+    let pool = with_tokens(&rt, rt.alloc());
+    all_refused(&rt, pool, NOT_THERE.as_slice());
     rt.end();
 }
+
+/// The second machine's token before its first.
+const SECOND_BEFORE: Token = Token {
+    machine: SECOND,
+    wake: 0,
+};
+
+/// The second machine's token behind its first.
+const SECOND_LATER: Token = Token {
+    machine: SECOND,
+    wake: 2,
+};
+
+/// A token of the third machine.
+const THIRD_TOKEN: Token = Token {
+    machine: THIRD,
+    wake: 0,
+};
+
+/// Steps that want a token where it is not.
+static ELSEWHERE: [(Step<u32>, Refusal); 11] = [
+    (Step::Give(TOKEN, 0), Refusal::NotPossible),
+    (Step::Give(FOURTH_TOKEN, 0), Refusal::NotPossible),
+    (Step::Give(SECOND_BEFORE, 0), Refusal::NotPossible),
+    (Step::Give(SECOND_LATER, 0), Refusal::NotPossible),
+    (Step::Give(THIRD_TOKEN, 0), Refusal::NotPossible),
+    (Step::Take(1, 0), Refusal::NotPossible),
+    (Step::Take(1, 2), Refusal::NotPossible),
+    (Step::Take(2, 1), Refusal::NotPossible),
+    (Step::Turn(1, 0), Refusal::NotPossible),
+    (Step::PutBack(1), Refusal::NotPossible),
+    (Step::Drop(1), Refusal::NotPossible),
+];
 
 #[test]
 fn what_is_elsewhere_is_refused(rt: HostRuntime) {
     let rt = Host::new(rt);
-    let steps = [
-        (Step::Give(token(0, 1), 0), Refusal::NotPossible),
-        (Step::Give(token(3, 1), 0), Refusal::NotPossible),
-        (Step::Give(token(1, 0), 0), Refusal::NotPossible),
-        (Step::Give(token(1, 2), 0), Refusal::NotPossible),
-        (Step::Give(token(2, 0), 0), Refusal::NotPossible),
-        (Step::Take(1, 0), Refusal::NotPossible),
-        (Step::Take(1, 2), Refusal::NotPossible),
-        (Step::Take(2, 1), Refusal::NotPossible),
-        (Step::Turn(1, 0), Refusal::NotPossible),
-        (Step::PutBack(1), Refusal::NotPossible),
-        (Step::Drop(1), Refusal::NotPossible),
-    ];
-    all_refused(&rt, with_tokens(&rt, rt.alloc()), steps.as_slice());
+    let pool = with_tokens(&rt, rt.alloc());
+    all_refused(&rt, pool, ELSEWHERE.as_slice());
     rt.end();
 }
+
+/// Steps that the machine itself refuses.
+static BY_A_MACHINE: [(Step<u32>, Refusal); 5] = [
+    (Step::Post(THIRD, Entry::Call, 8), Refusal::Stopped(3)),
+    (Step::Stop(THIRD, 4), Refusal::Stopped(3)),
+    (Step::Tick(THIRD, 0), Refusal::Stopped(3)),
+    (Step::Tick(FIRST, MOMENT_LIMIT), Refusal::Moment),
+    (Step::Turn(2, MOMENT_LIMIT), Refusal::Moment),
+];
 
 #[test]
 fn what_a_machine_refuses_is_refused(rt: HostRuntime) {
     let rt = Host::new(rt);
-    let ended = machine_id(2);
-    let steps = [
-        (Step::Post(ended, Entry::Call, 8), Refusal::Stopped(3)),
-        (Step::Stop(ended, 4), Refusal::Stopped(3)),
-        (Step::Tick(ended, 0), Refusal::Stopped(3)),
-        (Step::Tick(machine_id(0), MOMENT_LIMIT), Refusal::Moment),
-        (Step::Turn(2, MOMENT_LIMIT), Refusal::Moment),
-    ];
-    all_refused(&rt, with_tokens(&rt, rt.alloc()), steps.as_slice());
+    let pool = with_tokens(&rt, rt.alloc());
+    all_refused(&rt, pool, BY_A_MACHINE.as_slice());
     rt.end();
 }
 
@@ -141,18 +210,26 @@ fn not_opened(rt: &Host<impl Abort>, alloc: Global, workers: usize, ids: &[Machi
     are_of(rt, last.value.as_slice(), ids);
 }
 
+/// Pools of no worker, of too many, and of two machines with one id.
+fn are_not_possible(rt: &Host<impl Abort>, alloc: Global) {
+    not_opened(rt, alloc, 0, [FIRST, SECOND].as_slice());
+    not_opened(rt, alloc, 17, [FIRST, SECOND].as_slice());
+    not_opened(rt, alloc, 2, [FIRST, SECOND, FIRST].as_slice());
+}
+
+/// Looks at the counts of the second machine, to which nothing was done, and of a third one, which is not there.
+fn has_two(rt: &impl Abort, (there, absent): (Option<u64>, Option<u64>)) {
+    holds(rt, "nothing was done", there == Some(0));
+    holds(rt, "there is no third machine", absent == None);
+}
+
 #[test]
 fn pools_that_are_not_possible(rt: HostRuntime) {
     let rt = Host::new(rt);
-    let ids = [machine_id(0), machine_id(1)];
-    not_opened(&rt, rt.alloc(), 0, ids.as_slice());
-    not_opened(&rt, rt.alloc(), 17, ids.as_slice());
-    let doubled = [machine_id(0), machine_id(1), machine_id(0)];
-    not_opened(&rt, rt.alloc(), 2, doubled.as_slice());
-    let pool = opened(&rt, rt.alloc(), 16, ids.as_slice());
-    let there = pool.count(machine_id(1));
-    holds(&rt, "nothing was done", there == Some(0));
-    let absent = pool.count(machine_id(2));
-    holds(&rt, "there is no third machine", absent == None);
+    are_not_possible(&rt, rt.alloc());
+    let pool = opened(&rt, rt.alloc(), 16, [FIRST, SECOND].as_slice());
+    let counts = (pool.count(SECOND), pool.count(THIRD));
+    drop(pool);
+    has_two(&rt, counts);
     rt.end();
 }

@@ -1,6 +1,6 @@
 //! What a step is to answer.
 use super::shows::shows;
-use st_core::{Call, Done, Kind, Refusal, Refused, Report};
+use st_core::{Call, Collected, Done, Kind, Refusal, Refused, Report};
 use st_events::Token;
 use st_pool_core::StepAnswer;
 use std::process::Abort;
@@ -8,8 +8,24 @@ use std::process::Abort;
 /// What a step is to answer.
 #[derive(Drop)]
 pub enum Shown {
-    /// This answer.
-    Answer(StepAnswer<u32, u32>),
+    /// A post is accepted: its event gets this number, and this token is issued.
+    Posted(u64, Option<Token>),
+    /// So many time-outs expire, and this token is issued.
+    Ticked(u64, Option<Token>),
+    /// The token is moved.
+    Moved,
+    /// A token is retired without a turn.
+    Rested,
+    /// A machine is stopped, and 7 is its last word.
+    Stopped,
+    /// Whether a reply is taken.
+    Replied(bool),
+    /// What a collect hands out.
+    Collected(Collected<u32>),
+    /// A message is lost, for this reason.
+    Lost(Refusal),
+    /// A step is refused for this reason, with the content that it held.
+    Refused(Refusal, Option<u32>),
     /// A turn handles the event of this number and kind in the state 0, and finishes it.
     Handled(u64, Kind),
     /// A turn handles the event of this number and kind in the state 0, finishes it, and sends so many messages, which
@@ -20,34 +36,52 @@ pub enum Shown {
     Ended(u64, Kind),
 }
 
-/// A post is accepted: its event gets this number, and this token is issued.
-pub fn posted(number: u64, wake: Option<Token>) -> Shown {
-    Shown::Answer(StepAnswer::Posted { number, wake })
-}
-
-/// The token is moved.
-pub fn moved() -> Shown {
-    Shown::Answer(StepAnswer::Moved)
-}
-
-/// A message is lost, for this reason.
-pub fn lost(refusal: Refusal) -> Shown {
-    Shown::Answer(StepAnswer::Lost(refusal))
-}
+/// A step is not possible, and holds no content.
+pub const NOT_POSSIBLE: Shown = Shown::Refused(Refusal::NotPossible, None);
 
 /// An answer that refuses a step, with the content that it held.
 pub fn refusing(refusal: Refusal, content: Option<u32>) -> StepAnswer<u32, u32> {
     StepAnswer::Refused(Refused::new(refusal, content))
 }
 
-/// A step is not possible, and holds no content.
-pub fn not_possible() -> Shown {
-    Shown::Answer(refusing(Refusal::NotPossible, None))
+/// The same that is collected.
+fn copy_of(collected: &Collected<u32>) -> Collected<u32> {
+    match collected {
+        Collected::Waiting => Collected::Waiting,
+        Collected::Reply(content) => Collected::Reply(*content),
+        Collected::Stopped(reason) => Collected::Stopped(*reason),
+        Collected::Gone => Collected::Gone,
+    }
 }
 
-/// A machine is stopped, and 7 is its last word.
-pub fn stopped() -> Shown {
-    Shown::Answer(StepAnswer::Stopped(7))
+/// The answer that is wanted, where it is no turn's.
+fn answer_of(wanted: &Shown) -> Option<StepAnswer<u32, u32>> {
+    match wanted {
+        Shown::Posted(number, wake) => Some(StepAnswer::Posted {
+            number: *number,
+            wake: *wake,
+        }),
+        Shown::Ticked(expired, wake) => Some(StepAnswer::Ticked {
+            expired: *expired,
+            wake: *wake,
+        }),
+        Shown::Moved => Some(StepAnswer::Moved),
+        Shown::Rested => Some(StepAnswer::Rested),
+        Shown::Stopped => Some(StepAnswer::Stopped(7)),
+        Shown::Replied(taken) => Some(StepAnswer::Replied(*taken)),
+        Shown::Collected(collected) => Some(StepAnswer::Collected(copy_of(collected))),
+        Shown::Lost(refusal) => Some(StepAnswer::Lost(*refusal)),
+        Shown::Refused(refusal, content) => Some(refusing(*refusal, *content)),
+        Shown::Handled(_, _) | Shown::Sent(_, _, _) | Shown::Ended(_, _) => None,
+    }
+}
+
+/// Looks that a report has these calls.
+fn are_calls(rt: &impl Abort, row: usize, report: &Report<u32>, calls: &[Call<u32>]) {
+    for place in 0..calls.len() {
+        let stands = report.calls.get(place) == calls.get(place);
+        shows(rt, row, "the calls", stands);
+    }
 }
 
 /// Looks that a report says what is wanted of a row.
@@ -62,9 +96,14 @@ fn reports(
     shows(rt, row, "the event", report.event == Some(number));
     shows(rt, row, "how the turn ends", report.done == done);
     shows(rt, row, "how many calls", report.calls.len() == calls.len());
-    for place in 0..calls.len() {
-        let stands = report.calls.get(place) == calls.get(place);
-        shows(rt, row, "the calls", stands);
+    are_calls(rt, row, report, calls);
+}
+
+/// Looks that messages are numbered from 1 on.
+fn are_numbered(rt: &impl Abort, row: usize, sent: &[u64]) {
+    for (place, number) in sent.iter().enumerate() {
+        let is_next = *number == (place as u64).saturating_add(1);
+        shows(rt, row, "a message's number", is_next);
     }
 }
 
@@ -73,39 +112,37 @@ fn lists(rt: &impl Abort, row: usize, report: &Report<u32>, count: u64) {
     let sent = report.sent.as_slice();
     let is_counted = sent.len() as u64 == count;
     shows(rt, row, "how many messages are sent", is_counted);
-    for (number, place) in sent.iter().zip(0..count) {
-        shows(
-            rt,
-            row,
-            "a message's number",
-            *number == place.saturating_add(1),
-        );
-    }
+    are_numbered(rt, row, sent);
 }
 
 /// Looks that an answer is the one that is wanted of a row.
 pub fn agrees(rt: &impl Abort, row: usize, answer: &StepAnswer<u32, u32>, wanted: &Shown) {
-    match (answer, wanted) {
-        (_, Shown::Answer(other)) => shows(rt, row, "the answer", *answer == *other),
-        (StepAnswer::Turned(report), Shown::Handled(number, kind)) => {
-            handles(rt, row, report, (*number, *kind), 0);
-        }
-        (StepAnswer::Turned(report), Shown::Sent(number, kind, count)) => {
+    match answer_of(wanted) {
+        Some(other) => shows(rt, row, "the answer", *answer == other),
+        None => match answer {
+            StepAnswer::Turned(report) => turned(rt, row, report, wanted),
+            _ => shows(rt, row, "a turn with a report", false),
+        },
+    }
+}
+
+/// Looks that a turn's report is the one that is wanted of a row.
+fn turned(rt: &impl Abort, row: usize, report: &Report<u32>, wanted: &Shown) {
+    match wanted {
+        Shown::Handled(number, kind) => handles(rt, row, report, (*number, *kind), 0),
+        Shown::Sent(number, kind, count) => {
             handles(rt, row, report, (*number, *kind), *count);
         }
-        (StepAnswer::Turned(report), Shown::Ended(number, kind)) => {
-            let calls = [handle_of(*number, *kind), TERMINATE];
-            reports(
-                rt,
-                row,
-                report,
-                *number,
-                Done::Ended(9, 7),
-                calls.as_slice(),
-            );
-        }
+        Shown::Ended(number, kind) => ends(rt, row, report, (*number, *kind)),
         _ => shows(rt, row, "a turn with a report", false),
     }
+}
+
+/// Looks that a turn handles the event of this number and kind, and the machine ends for the reason 9, with the word 7.
+fn ends(rt: &impl Abort, row: usize, report: &Report<u32>, (number, kind): (u64, Kind)) {
+    let calls = [handle_of(number, kind), TERMINATE];
+    let done = Done::Ended(9, 7);
+    reports(rt, row, report, number, done, calls.as_slice());
 }
 
 /// Looks that a turn handles the event of this number and kind, finishes it, and sends so many messages.

@@ -1,35 +1,36 @@
 //! Steps of a pool: where one finds no memory, the pool is looked at, and the step is made again.
 use super::host::Host;
-use super::opened::machine_id;
+use super::plain::FIRST;
 use super::pooled::Pooled;
 use super::shown::{Shown, agrees, refusing};
 use super::shows::shows;
-use super::whole::read_all;
-use st_core::{Entry, MachineId, Refusal};
+use super::whole::{Whole, read_all};
+use st_core::{Entry, Refusal};
 use st_events::Token;
 use st_pool_core::{Step, StepAnswer};
 use std::process::Abort;
 
+/// The first two hands.
+pub type Hands = (Option<Token>, Option<Token>);
+
+/// No hand holds a token.
+pub const FREE: Hands = (None, None);
+
+/// The first machine's first token.
+pub const TOKEN: Token = Token {
+    machine: FIRST,
+    wake: 1,
+};
+
+/// The first hand holds the first machine's first token.
+pub const HELD: Hands = (Some(TOKEN), None);
+
 /// A step, what it is to answer, the first machine's count after it, and the first two hands.
 #[derive(Drop)]
-pub struct Wanted {
-    pub step: Step<u32>,
-    pub answer: Shown,
-    pub count: u64,
-    pub hands: [Option<Token>; 2],
-}
+pub struct Wanted(pub Step<u32>, pub Shown, pub u64, pub Hands);
 
-impl Wanted {
-    /// These are the first two hands after it.
-    pub fn holding(self, hands: [Option<Token>; 2]) -> Wanted {
-        Wanted { hands, ..self }
-    }
-}
-
-/// A caller posts a cast with the content 0.
-pub fn cast(id: MachineId) -> Step<u32> {
-    Step::Post(id, Entry::Cast, 0)
-}
+/// A caller posts a cast with the content 0 to the first machine.
+pub const CAST: Step<u32> = Step::Post(FIRST, Entry::Cast, 0);
 
 /// The same step.
 pub fn copy_of(step: &Step<u32>) -> Step<u32> {
@@ -62,6 +63,36 @@ pub fn found_no_memory(answer: &StepAnswer<u32, u32>) -> bool {
     matches!(answer, StepAnswer::Refused(refused) if refused.refusal == Refusal::NoMemory)
 }
 
+/// Looks that a step that finds no memory gives its content back.
+pub fn comes_back(rt: &impl Abort, row: usize, step: &Step<u32>, answer: &StepAnswer<u32, u32>) {
+    let refused = refusing(Refusal::NoMemory, content_in(step));
+    shows(rt, row, "its content comes back", *answer == refused);
+}
+
+/// Looks that nothing that can be read of a pool has changed.
+fn is_as_before<T: Pooled>(rt: &Host<impl Abort>, row: usize, pool: &T, before: &Whole) {
+    let is_as_before = read_all(rt, pool) == *before;
+    shows(rt, row, "a refusal changes nothing", is_as_before);
+}
+
+/// Where a step has found no memory, nothing that can be read has changed, the content came back, and the same step is
+/// made again.
+fn again<T: Pooled>(
+    rt: &Host<impl Abort>,
+    row: usize,
+    pool: &mut T,
+    step: &Step<u32>,
+    before: &Whole,
+    answer: &mut StepAnswer<u32, u32>,
+) {
+    if found_no_memory(answer) {
+        comes_back(rt, row, step, answer);
+        is_as_before(rt, row, pool, before);
+        rt.retry();
+        *answer = pool.do_step(copy_of(step));
+    }
+}
+
 /// Does one step. Where it finds no memory, nothing that can be read has changed, the content comes back, and the same
 /// step is made again.
 pub fn tell<T: Pooled>(
@@ -71,16 +102,9 @@ pub fn tell<T: Pooled>(
     step: &Step<u32>,
 ) -> StepAnswer<u32, u32> {
     let before = read_all(rt, pool);
-    let answer = pool.do_step(copy_of(step));
-    if !found_no_memory(&answer) {
-        return answer;
-    }
-    let refused = refusing(Refusal::NoMemory, content_in(step));
-    shows(rt, row, "its content comes back", answer == refused);
-    let is_as_before = read_all(rt, pool) == before;
-    shows(rt, row, "a refusal changes nothing", is_as_before);
-    rt.retry();
-    pool.do_step(copy_of(step))
+    let mut answer = pool.do_step(copy_of(step));
+    again(rt, row, pool, step, &before, &mut answer);
+    answer
 }
 
 /// Does one step, and looks at its answer.
@@ -95,25 +119,30 @@ pub fn does<T: Pooled>(
     agrees(rt, row, &answer, wanted);
 }
 
+/// Looks at the first machine's count, and at the first two hands.
+fn looks<T: Pooled>(rt: &impl Abort, row: usize, pool: &T, count: u64, hands: Hands) {
+    let seen = pool.see(FIRST).expect(rt, "the first machine is there");
+    let is_counted = seen.count == Some(count);
+    shows(rt, row, "the first machine's count", is_counted);
+    let are_held = (pool.in_hand(1), pool.in_hand(2)) == hands;
+    shows(rt, row, "the first two hands", are_held);
+}
+
 /// Does steps one after another, and looks at their answers, and at the first machine's count and the hands after each.
 pub fn does_all<T: Pooled>(rt: &Host<impl Abort>, pool: &mut T, wanted: &[Wanted]) {
-    for (row, one) in wanted.iter().enumerate() {
-        does(rt, row, pool, &one.step, &one.answer);
-        let seen = pool.see(machine_id(0));
-        let seen = seen.expect(rt, "the first machine is there");
-        let is_counted = seen.count == Some(one.count);
-        shows(rt, row, "the first machine's count", is_counted);
-        let are_held = [pool.in_hand(1), pool.in_hand(2)] == one.hands;
-        shows(rt, row, "the first two hands", are_held);
+    for (row, Wanted(step, answer, count, hands)) in wanted.iter().enumerate() {
+        does(rt, row, pool, step, answer);
+        looks(rt, row, pool, *count, *hands);
     }
 }
 
-/// A step and what it is to answer, where no hand holds a token after it.
-pub fn hands_free(step: Step<u32>, answer: Shown, count: u64) -> Wanted {
-    Wanted {
-        step,
-        answer,
-        count,
-        hands: [None, None],
-    }
+/// Does steps in a pool, and lets it go.
+pub fn does_one_list<T: Pooled>(rt: &Host<impl Abort>, mut pool: T, wanted: &[Wanted]) {
+    does_all(rt, &mut pool, wanted);
+}
+
+/// Does steps in a pool, and then others, and lets it go.
+pub fn does_both<T: Pooled>(rt: &Host<impl Abort>, mut pool: T, first: &[Wanted], then: &[Wanted]) {
+    does_all(rt, &mut pool, first);
+    does_all(rt, &mut pool, then);
 }

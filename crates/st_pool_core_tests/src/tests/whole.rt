@@ -79,39 +79,69 @@ fn message<T: Pooled>(pool: &T, worker: usize) -> Option<Message<u32>> {
     })
 }
 
+/// What can be read of the machines.
+fn machines<T: Pooled>(pool: &T) -> [Option<Seen>; 5] {
+    [
+        machine(pool, 0),
+        machine(pool, 1),
+        machine(pool, 2),
+        machine(pool, 3),
+        machine(pool, 4),
+    ]
+}
+
+/// The machines' outstanding tokens.
+fn tokens<T: Pooled>(pool: &T) -> [Option<(Token, bool)>; 5] {
+    [
+        token(pool, 0),
+        token(pool, 1),
+        token(pool, 2),
+        token(pool, 3),
+        token(pool, 4),
+    ]
+}
+
+/// The tokens of the lanes.
+fn lanes<T: Pooled>(rt: &Host<impl Abort>, pool: &T) -> [Option<PlainList<Token>>; 5] {
+    [
+        lane(rt, pool, 0),
+        lane(rt, pool, 1),
+        lane(rt, pool, 2),
+        lane(rt, pool, 3),
+        lane(rt, pool, 4),
+    ]
+}
+
+/// The tokens in the workers' hands.
+fn hands<T: Pooled>(pool: &T) -> [Option<Token>; 5] {
+    [
+        pool.in_hand(0),
+        pool.in_hand(1),
+        pool.in_hand(2),
+        pool.in_hand(3),
+        pool.in_hand(4),
+    ]
+}
+
+/// The messages that the workers carry.
+fn messages<T: Pooled>(pool: &T) -> [Option<Message<u32>>; 5] {
+    [
+        message(pool, 0),
+        message(pool, 1),
+        message(pool, 2),
+        message(pool, 3),
+        message(pool, 4),
+    ]
+}
+
 /// All that can be read of a pool.
 pub fn read_all<T: Pooled>(rt: &Host<impl Abort>, pool: &T) -> Whole {
-    let hand = |worker: usize| pool.in_hand(worker);
     Whole {
-        machines: [
-            machine(pool, 0),
-            machine(pool, 1),
-            machine(pool, 2),
-            machine(pool, 3),
-            machine(pool, 4),
-        ],
-        tokens: [
-            token(pool, 0),
-            token(pool, 1),
-            token(pool, 2),
-            token(pool, 3),
-            token(pool, 4),
-        ],
+        machines: machines(pool),
+        tokens: tokens(pool),
         callers: callers(rt, pool),
-        lanes: [
-            lane(rt, pool, 0),
-            lane(rt, pool, 1),
-            lane(rt, pool, 2),
-            lane(rt, pool, 3),
-            lane(rt, pool, 4),
-        ],
-        hands: [hand(0), hand(1), hand(2), hand(3), hand(4)],
-        carried: [
-            message(pool, 0),
-            message(pool, 1),
-            message(pool, 2),
-            message(pool, 3),
-            message(pool, 4),
-        ],
+        lanes: lanes(rt, pool),
+        hands: hands(pool),
+        carried: messages(pool),
     }
 }

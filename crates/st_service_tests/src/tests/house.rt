@@ -50,6 +50,17 @@ pub fn house<R: Threads, O: Observer<Clerk> + Drop + Send + Sync + 'static>(
     house.expect(rt, "a service")
 }
 
+/// A clerk's id and port.
+fn hired<R: Threads, O: Observer<Clerk> + Drop>(
+    rt: &impl Abort,
+    spawned: Spawned<Clerk, R, O>,
+) -> (MachineId, Hatch<R, O>) {
+    match spawned {
+        Spawned::Running(id, Some(port)) => (id, port),
+        _ => panic!(rt; "he is there"),
+    }
+}
+
 /// Starts a clerk, and answers his id and port.
 pub fn hires<R: Threads, O: Observer<Clerk> + Drop>(
     rt: &impl Abort,
@@ -57,10 +68,8 @@ pub fn hires<R: Threads, O: Observer<Clerk> + Drop>(
     name: Option<&str>,
     clerk: Clerk,
 ) -> (MachineId, Hatch<R, O>) {
-    match got(rt, "he is hired", house.spawn(name, clerk, &())) {
-        Spawned::Running(id, Some(port)) => (id, port),
-        _ => panic!(rt; "he is there"),
-    }
+    let spawned = got(rt, "he is hired", house.spawn(name, clerk, &()));
+    hired(rt, spawned)
 }
 
 /// Tells a clerk an order.

@@ -1,10 +1,11 @@
 //! A hundred bells, which set, set anew and cancel the time-outs of each other, and are served by workers.
-use super::belfry::{Belfry, HOUR, Threads, no_bell};
+use super::belfry::{Belfry, BellPool, HOUR, Threads, no_bell};
 use super::bell::Order;
 use super::host::{Host, got, holds, same};
 use st_core::Time;
 use st_hall::MachineId;
 use st_pool::Scheduler;
+use st_ticker::TickedPoolEnd;
 use std::process::Abort;
 use std::time::Instant;
 
@@ -60,36 +61,52 @@ fn come_each<R: Threads>(rt: &impl Abort, belfry: &Belfry<R>, bells: &[MachineId
     }
 }
 
-/// A hundred bells tell each other when to ring.
-fn rings_a_hundred<R: Threads>(rt: &Host<impl Abort + AllocGlobal>, threads: R) {
-    let belfry = no_bell(rt, threads);
+/// A hundred bells are made.
+fn hundred<R: Threads>(rt: &Host<impl Abort + AllocGlobal>, belfry: &Belfry<R>) -> Vec<MachineId> {
     let mut bells = Vec::new(rt.alloc());
     for _ in 0..100 {
         let id = belfry.starts(rt, HOUR);
         bells.push(id).expect(rt, "a place");
     }
-    let mut pool = belfry.pool(rt);
+    bells
+}
+
+/// The bells tell each other when to ring, and ring.
+fn rings<R: Threads>(
+    rt: &Host<impl Abort + AllocGlobal>,
+    threads: R,
+    belfry: &Belfry<R>,
+    bells: &[MachineId],
+    pool: &BellPool<R>,
+) {
     let scheduler = pool.pool().scheduler().expect(rt, "a scheduler");
     let start = got(rt, "the clock is read", Instant::now(&threads));
-    tell_each(rt, &belfry, bells.as_slice(), &scheduler);
-    ring_each(rt, &belfry, bells.as_slice());
+    tell_each(rt, belfry, bells, &scheduler);
+    ring_each(rt, belfry, bells);
     // A quarter of them ring 50 milliseconds after they were told.
     belfry.is_not_early(rt, start, 49);
     pool.pool().drain();
-    let end = got(rt, "there is memory", pool.close());
+}
+
+/// A pool ends: so many ticks were made, and no token is left.
+fn ends(rt: &impl Abort, end: TickedPoolEnd<Order>) {
     same(rt, "ticks in all", &end.ticks, &50);
     holds(
         rt,
         "no token is left",
         end.left == None && end.pool.left.is_empty(),
     );
+}
+
+/// A hundred bells tell each other when to ring.
+fn rings_a_hundred<R: Threads>(rt: &Host<impl Abort + AllocGlobal>, threads: R) {
+    let belfry = no_bell(rt, threads);
+    let bells = hundred(rt, &belfry);
+    let mut pool = belfry.pool(rt);
+    rings(rt, threads, &belfry, bells.as_slice(), &pool);
+    ends(rt, got(rt, "there is memory", pool.close()));
     ring_each(rt, &belfry, bells.as_slice());
     come_each(rt, &belfry, bells.as_slice());
-    drop(end);
-    drop(scheduler);
-    drop(pool);
-    drop(bells);
-    drop(belfry);
 }
 
 #[test]

@@ -48,21 +48,47 @@ fn starts<R: Threads>(
     panic!(rt; "one allocation alone is refused")
 }
 
+/// A clerk's port, which is opened now where there was no memory for it.
+fn port_of<R: Threads>(
+    rt: &Host<impl Abort>,
+    house: &Counted<R>,
+    id: MachineId,
+    port: Option<Hatch<R, Counting>>,
+) -> Hatch<R, Counting> {
+    match port {
+        Some(hatch) => hatch,
+        None => {
+            rt.retry();
+            got(rt, "a port", house.port(id))
+        }
+    }
+}
+
+/// Who is hired, with his port.
+fn welcomes<R: Threads>(
+    rt: &Host<impl Abort>,
+    house: &Counted<R>,
+    spawned: Spawned<Clerk, R, Counting>,
+) -> (MachineId, Hatch<R, Counting>) {
+    match spawned {
+        Spawned::Running(id, port) => (id, port_of(rt, house, id, port)),
+        _ => panic!(rt; "he is there"),
+    }
+}
+
+/// There was no memory, and nobody was hired.
+fn is_alone<R: Threads>(rt: &Host<impl Abort>, house: &Counted<R>, refused: Unspawned<Clerk>) {
+    holds(rt, "there was no memory", is_want(refused));
+    holds(rt, "nobody was hired", house.is_empty());
+    rt.retry();
+}
+
 /// A clerk is hired. Where there is no memory, nobody was, and he is hired again; or the port is opened then.
 fn hires<R: Threads>(rt: &Host<impl Abort>, house: &Counted<R>) -> (MachineId, Hatch<R, Counting>) {
     for _ in 0..2 {
         match house.spawn(Some("anna"), ALONE, &()) {
-            Ok(Spawned::Running(id, Some(hatch))) => return (id, hatch),
-            Ok(Spawned::Running(id, None)) => {
-                rt.retry();
-                return (id, got(rt, "a port", house.port(id)));
-            }
-            Ok(_) => panic!(rt; "he is there"),
-            Err(refused) => {
-                holds(rt, "there was no memory", is_want(refused));
-                holds(rt, "nobody was hired", house.is_empty());
-                rt.retry();
-            }
+            Ok(spawned) => return welcomes(rt, house, spawned),
+            Err(refused) => is_alone(rt, house, refused),
         }
     }
     panic!(rt; "one allocation alone is refused")
@@ -91,19 +117,30 @@ fn tells<R: Threads>(rt: &Host<impl Abort>, hatch: &mut Hatch<R, Counting>, orde
     panic!(rt; "one allocation alone is refused")
 }
 
-/// The sum that a clerk replies with.
+/// The sum that a clerk replied with.
+fn sum_of(rt: &Host<impl Abort>, called: Called<Clerk>) -> u32 {
+    match called {
+        Called::Reply(Order::Sum(sum)) => sum,
+        _ => panic!(rt; "he replies"),
+    }
+}
+
+/// The sum that a clerk replies with, where his reply was not collected for want of memory: it is collected again.
+fn collects<R: Threads>(rt: &Host<impl Abort>, threads: R, called: Called<Clerk>) -> u32 {
+    match called {
+        Called::Uncollected(id, Refusal::NoMemory) => {
+            rt.retry();
+            sum_of(rt, st_client::receive(&threads, id))
+        }
+        called => sum_of(rt, called),
+    }
+}
+
+/// The sum that a clerk replies with. Where there is no memory to ask him, he is asked again.
 fn asks<R: Threads>(rt: &Host<impl Abort>, threads: R, hatch: &mut Hatch<R, Counting>) -> u32 {
     for _ in 0..2 {
         match hatch.call(Order::Ask) {
-            Ok(Called::Reply(Order::Sum(sum))) => return sum,
-            Ok(Called::Uncollected(id, Refusal::NoMemory)) => {
-                rt.retry();
-                match st_client::receive(&threads, id) {
-                    Called::Reply(Order::Sum(sum)) => return sum,
-                    _ => panic!(rt; "he replies"),
-                }
-            }
-            Ok(_) => panic!(rt; "he replies"),
+            Ok(called) => return collects(rt, threads, called),
             Err(_) => rt.retry(),
         }
     }
@@ -121,34 +158,46 @@ fn shuts<R: Threads>(rt: &Host<impl Abort>, house: &mut Counted<R>) -> ShutDown<
     panic!(rt; "one allocation alone is refused")
 }
 
-/// Each call, in turn.
-fn goes_through<R: Threads>(rt: &Host<impl Abort>, threads: R, alloc: Global) {
-    let tally = tally(rt, alloc);
-    let mut house = starts(rt, threads, alloc, &tally);
-    let (_, mut hatch) = hires(rt, &house);
-    tells(rt, &mut hatch, Order::Add(4));
-    tells(rt, &mut hatch, Order::Later(1));
+/// Waits until a clerk's sum is this.
+fn comes_to<R: Threads>(
+    rt: &Host<impl Abort>,
+    threads: R,
+    hatch: &mut Hatch<R, Counting>,
+    sum: u32,
+) {
     for _ in 0..40_000 {
-        if asks(rt, threads, &mut hatch) == 5 {
+        if asks(rt, threads, hatch) == sum {
             break;
         }
         std::thread::sleep(&threads, std::time::Duration::from_millis(1));
     }
-    same(rt, "the sum", &asks(rt, threads, &mut hatch), &5);
-    let end = shuts(rt, &mut house);
-    holds(
-        rt,
-        "it ends",
-        hatch.machine().ended(&threads) == Some((7, 5)),
-    );
-    // Each event from the first on was handled, and its report was told once.
+    same(rt, "the sum", &asks(rt, threads, hatch), &sum);
+}
+
+/// Each event from the first on was handled, and its report was told once.
+fn told_each(rt: &Host<impl Abort>, tally: &Tally) {
     let reports = tally.reports.load(Ordering::SeqCst).min(1_000_000);
     let numbers = tally.numbers.load(Ordering::SeqCst);
     same(rt, "each is told", &numbers, &(reports * (reports + 1) / 2));
-    drop(end);
-    drop(hatch);
-    drop(house);
-    drop(tally);
+}
+
+/// A clerk works, and the service ends.
+fn works<R: Threads>(rt: &Host<impl Abort>, threads: R, house: &mut Counted<R>) {
+    let (_, mut hatch) = hires(rt, house);
+    tells(rt, &mut hatch, Order::Add(4));
+    tells(rt, &mut hatch, Order::Later(1));
+    comes_to(rt, threads, &mut hatch, 5);
+    let _end = shuts(rt, house);
+    let ended = hatch.machine().ended(&threads);
+    holds(rt, "it ends", ended == Some((7, 5)));
+}
+
+/// Each call, in turn.
+fn goes_through<R: Threads>(rt: &Host<impl Abort>, threads: R, alloc: Global) {
+    let tally = tally(rt, alloc);
+    let mut house = starts(rt, threads, alloc, &tally);
+    works(rt, threads, &mut house);
+    told_each(rt, &tally);
 }
 
 #[test]

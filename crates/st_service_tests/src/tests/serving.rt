@@ -1,9 +1,49 @@
 //! Clerks are hired, told, asked, and refuse what is too much.
 use super::host::{Host, got, holds, same};
-use super::house::{ALONE, OPTIONS, Threads, asks, hires, house, is_busy, sums, tells};
+use super::house::{
+    ALONE, Hatch, House, OPTIONS, Threads, asks, hires, house, is_busy, sums, tells,
+};
 use crate::{Clerk, Order};
-use st_service::{Called, Journals, Nobody, Options, Refusal, Refused, Unspawned};
+use st_service::{
+    Called, Journals, MachineId, Nobody, Options, Refusal, Refused, RequestId, Unspawned,
+};
 use std::process::Abort;
+
+/// A clerk is told, and asked for the sum. He is asked once more, and nobody waits for that reply.
+fn adds<R: Threads>(rt: &impl Abort, hatch: &mut Hatch<R, Nobody>) -> RequestId<Clerk> {
+    for more in 1..=10 {
+        tells(rt, hatch, Order::Add(more));
+    }
+    same(rt, "the sum", &asks(rt, hatch), &55);
+    got(rt, "he is told a message", hatch.info(Order::Add(1)));
+    let request = got(rt, "he is asked", hatch.send_request(Order::Ask));
+    same(rt, "the next sum", &asks(rt, hatch), &56);
+    request
+}
+
+/// His journal has so many posts, from the fewest to the most.
+fn is_kept<R: Threads>(rt: &impl Abort, hatch: &mut Hatch<R, Nobody>, fewest: usize, most: usize) {
+    let look = got(rt, "there is memory", hatch.look());
+    holds(
+        rt,
+        "he was told so often",
+        look.mine == 14 && hatch.count() == 14,
+    );
+    let numbers = look.numbers.len();
+    holds(
+        rt,
+        "what is kept of him",
+        fewest <= numbers && numbers <= most,
+    );
+}
+
+/// The one clerk is known by his name, which nobody else can take.
+fn is_known<R: Threads>(rt: &impl Abort, house: &House<R, Nobody>, id: MachineId) {
+    same(rt, "by name", &house.whereis("anna"), &Ok(id));
+    holds(rt, "one clerk", house.len() == 1 && !house.is_empty());
+    let taken = house.spawn(Some("anna"), ALONE, &());
+    holds(rt, "the name is taken", is_taken(taken.err(), id));
+}
 
 /// A clerk is told, and asked for the sum, by name too, and shut down. His journal has so many posts, from the
 /// fewest to the most.
@@ -20,34 +60,11 @@ fn is_told_and_asked<R: Threads>(
     };
     let mut house = house(rt, threads, options, Nobody);
     let (id, mut hatch) = hires(rt, &house, Some("anna"), ALONE);
-    for more in 1..=10 {
-        tells(rt, &mut hatch, Order::Add(more));
-    }
-    same(rt, "the sum", &asks(rt, &mut hatch), &55);
-    got(rt, "he is told a message", hatch.info(Order::Add(1)));
-    let request = got(rt, "he is asked", hatch.send_request(Order::Ask));
-    same(rt, "the next sum", &asks(rt, &mut hatch), &56);
-    let look = got(rt, "there is memory", hatch.look());
-    holds(
-        rt,
-        "he was told so often",
-        look.mine == 14 && hatch.count() == 14,
-    );
-    let numbers = look.numbers.len();
-    holds(
-        rt,
-        "what is kept of him",
-        fewest <= numbers && numbers <= most,
-    );
-    same(rt, "by name", &house.whereis("anna"), &Ok(id));
-    holds(rt, "one clerk", house.len() == 1 && !house.is_empty());
-    let taken = house.spawn(Some("anna"), ALONE, &());
-    holds(rt, "the name is taken", is_taken(taken.err(), id));
+    let _request = adds(rt, &mut hatch);
+    is_kept(rt, &mut hatch, fewest, most);
+    is_known(rt, &house, id);
     let end = got(rt, "there is memory", house.shut_down(7));
     holds(rt, "one was stopped", end.stopped == 1 && end.events == 0);
-    drop(request);
-    drop(hatch);
-    drop(house);
 }
 
 #[test]
@@ -75,7 +92,7 @@ fn a_clerk_with_his_whole_journal_is_told_and_asked(rt: HostRuntime) {
 }
 
 /// A start was refused, since the name is taken by this machine.
-fn is_taken(refused: Option<Unspawned<Clerk>>, id: st_service::MachineId) -> bool {
+fn is_taken(refused: Option<Unspawned<Clerk>>, id: MachineId) -> bool {
     match refused {
         Some(Unspawned::Refused(Refused { refusal, .. })) => {
             refusal == Refusal::AlreadyStarted(id)
@@ -93,9 +110,6 @@ fn makes_his_turns<R: Threads>(rt: &Host<impl Abort + AllocGlobal>, threads: R) 
     }
     let end = got(rt, "there is memory", house.shut_down(7));
     same(rt, "no worker had a turn", &end.turns, &0);
-    drop(end);
-    drop(hatch);
-    drop(house);
 }
 
 #[test]
@@ -106,27 +120,29 @@ fn who_calls_a_clerk_at_rest_makes_his_turn(rt: HostRuntime) {
     rt.end_with_memory();
 }
 
-/// A call leaves an event, which a worker handles.
-fn leaves_a_turn<R: Threads>(rt: &Host<impl Abort + AllocGlobal>, threads: R) {
-    let house = house(rt, threads, OPTIONS, Nobody);
-    let (_, mut hatch) = hires(rt, &house, None, ALONE);
-    let taken = got(rt, "he is asked", hatch.call(Order::Take(5)));
-    holds(
-        rt,
-        "the sum before",
-        matches!(taken, Called::Reply(Order::Sum(0))),
-    );
-    let machine = hatch.machine();
+/// Waits until no event waits at a clerk.
+fn is_served<R: Threads>(rt: &impl Abort, threads: R, house: &House<R, Nobody>, id: MachineId) {
+    let machine = got(rt, "he is there", house.machine(id));
     for _ in 0..40_000 {
         if machine.waiting(&threads) == 0 {
             break;
         }
         std::thread::sleep(&threads, std::time::Duration::from_millis(1));
     }
+}
+
+/// A call leaves an event, which a worker handles.
+fn leaves_a_turn<R: Threads>(rt: &Host<impl Abort + AllocGlobal>, threads: R) {
+    let house = house(rt, threads, OPTIONS, Nobody);
+    let (id, mut hatch) = hires(rt, &house, None, ALONE);
+    let taken = got(rt, "he is asked", hatch.call(Order::Take(5)));
+    holds(
+        rt,
+        "the sum before",
+        matches!(taken, Called::Reply(Order::Sum(0))),
+    );
+    is_served(rt, threads, &house, id);
     same(rt, "it was added", &asks(rt, &mut hatch), &5);
-    drop(taken);
-    drop(hatch);
-    drop(house);
 }
 
 #[test]
@@ -143,8 +159,6 @@ fn lets_time_pass<R: Threads>(rt: &Host<impl Abort + AllocGlobal>, threads: R) {
     let (_, mut hatch) = hires(rt, &house, None, ALONE);
     tells(rt, &mut hatch, Order::Later(2));
     sums(rt, threads, &mut hatch, 1);
-    drop(hatch);
-    drop(house);
 }
 
 #[test]
@@ -153,6 +167,25 @@ fn a_time_out_comes_by_itself(rt: HostRuntime) {
     let rt = Host::with_memory(rt);
     lets_time_pass(&rt, threads);
     rt.end_with_memory();
+}
+
+/// A clerk who has shut his window has three orders wait, and refuses a fourth.
+fn refuses_a_fourth<R: Threads>(rt: &impl Abort, hatch: &mut Hatch<R, Nobody>) {
+    tells(rt, hatch, Order::Shut);
+    same(rt, "nothing yet", &asks(rt, hatch), &0);
+    for _ in 0..3 {
+        tells(rt, hatch, Order::Add(5));
+    }
+    is_busy(rt, hatch.cast(Order::Add(6)), Order::Add(6));
+    holds(rt, "nor is he asked", hatch.call(Order::Ask).is_err());
+    same(rt, "nothing was posted", &hatch.count(), &5);
+}
+
+/// He has added what waited, and takes more.
+fn takes_again<R: Threads>(rt: &impl Abort, hatch: &mut Hatch<R, Nobody>) {
+    same(rt, "what waited was added", &asks(rt, hatch), &15);
+    tells(rt, hatch, Order::Add(6));
+    same(rt, "and more", &asks(rt, hatch), &21);
 }
 
 /// A clerk at whom as many events wait as may refuses one more, and takes it later.
@@ -164,30 +197,11 @@ fn is_busy_for_a_while<R: Threads>(rt: &Host<impl Abort + AllocGlobal>, threads:
     let house = house(rt, threads, few, Nobody);
     let (shut, mut hatch) = hires(rt, &house, None, ALONE);
     let (_, mut other) = hires(rt, &house, None, ALONE);
-    tells(rt, &mut hatch, Order::Shut);
-    same(rt, "nothing yet", &asks(rt, &mut hatch), &0);
-    for _ in 0..3 {
-        tells(rt, &mut hatch, Order::Add(5));
-    }
-    is_busy(rt, hatch.cast(Order::Add(6)), Order::Add(6));
-    holds(rt, "nor is he asked", hatch.call(Order::Ask).is_err());
-    same(rt, "nothing was posted", &hatch.count(), &5);
+    refuses_a_fourth(rt, &mut hatch);
     // A message from another machine comes in all the same.
     tells(rt, &mut other, Order::Tell(shut));
-    let machine = got(rt, "he is there", house.machine(shut));
-    for _ in 0..40_000 {
-        if machine.waiting(&threads) == 0 {
-            break;
-        }
-        std::thread::sleep(&threads, std::time::Duration::from_millis(1));
-    }
-    same(rt, "what waited was added", &asks(rt, &mut hatch), &15);
-    tells(rt, &mut hatch, Order::Add(6));
-    same(rt, "and more", &asks(rt, &mut hatch), &21);
-    drop(machine);
-    drop(other);
-    drop(hatch);
-    drop(house);
+    is_served(rt, threads, &house, shut);
+    takes_again(rt, &mut hatch);
 }
 
 #[test]

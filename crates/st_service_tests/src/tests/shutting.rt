@@ -1,31 +1,34 @@
 //! Clerks are shut down while they work.
 use super::host::{Host, got, holds, same};
-use super::house::{ALONE, OPTIONS, Threads, hires, house, tells};
+use super::house::{ALONE, Hatch, House, OPTIONS, Threads, hires, house, tells};
 use crate::{Clerk, Order};
 use st_service::{MachineId, Nobody, Options, Refusal, Refused, Unposted, Unspawned};
 use std::process::Abort;
 
-/// A thousand clerks who have something to do are shut down.
-fn shuts_a_thousand<R: Threads>(rt: &Host<impl Abort + AllocGlobal>, threads: R) {
-    let mut house = house(rt, threads, OPTIONS, Nobody);
+/// A thousand clerks who have something to do.
+fn thousand<R: Threads>(
+    rt: &Host<impl Abort + AllocGlobal>,
+    house: &House<R, Nobody>,
+) -> Vec<Hatch<R, Nobody>> {
     let mut hatches = Vec::new(rt.alloc());
     for _ in 0..1_000 {
-        let (_, mut hatch) = hires(rt, &house, None, ALONE);
+        let (_, mut hatch) = hires(rt, house, None, ALONE);
         tells(rt, &mut hatch, Order::Spin);
         hatches.push(hatch).expect(rt, "a place");
     }
-    let end = got(rt, "there is memory", house.shut_down(7));
-    holds(
-        rt,
-        "each was stopped with what it was at",
-        end.stopped == 1_000 && end.events == 1_000 && end.unstopped == 0,
-    );
-    for hatch in hatches.iter_mut() {
-        let ended = hatch.machine().ended(&threads);
-        holds(rt, "it has ended", ended == Some((7, 0)));
-        let refused = Unposted::Refused(Refused::new(Refusal::Stopped(7), Order::Spin));
-        same(rt, "it refuses", &hatch.cast(Order::Spin), &Err(refused));
-    }
+    hatches
+}
+
+/// A clerk has ended, and refuses what he is told.
+fn has_ended<R: Threads>(rt: &impl Abort, threads: R, hatch: &mut Hatch<R, Nobody>) {
+    let ended = hatch.machine().ended(&threads);
+    holds(rt, "it has ended", ended == Some((7, 0)));
+    let refused = Unposted::Refused(Refused::new(Refusal::Stopped(7), Order::Spin));
+    same(rt, "it refuses", &hatch.cast(Order::Spin), &Err(refused));
+}
+
+/// A service that was shut down starts nobody, and has nobody to stop.
+fn stays_shut<R: Threads>(rt: &impl Abort, house: &mut House<R, Nobody>) {
     let closed = house.spawn(None, ALONE, &());
     holds(
         rt,
@@ -34,10 +37,22 @@ fn shuts_a_thousand<R: Threads>(rt: &Host<impl Abort + AllocGlobal>, threads: R)
     );
     let again = got(rt, "there is memory", house.shut_down(8));
     holds(rt, "none is stopped again", again.stopped == 0);
-    drop(again);
-    drop(end);
-    drop(hatches);
-    drop(house);
+}
+
+/// A thousand clerks who have something to do are shut down.
+fn shuts_a_thousand<R: Threads>(rt: &Host<impl Abort + AllocGlobal>, threads: R) {
+    let mut house = house(rt, threads, OPTIONS, Nobody);
+    let mut hatches = thousand(rt, &house);
+    let end = got(rt, "there is memory", house.shut_down(7));
+    holds(
+        rt,
+        "each was stopped with what it was at",
+        end.stopped == 1_000 && end.events == 1_000 && end.unstopped == 0,
+    );
+    for hatch in hatches.iter_mut() {
+        has_ended(rt, threads, hatch);
+    }
+    stays_shut(rt, &mut house);
 }
 
 #[test]

@@ -1,6 +1,6 @@
 //! How much a list asks for, and each kind of action taken out of it.
 use super::super::host::{Host, got, holds, same};
-use super::{decided, has, list, machine, tag};
+use super::{FAR, FIRST, NEAR, SECOND, decided, has, list};
 use st_actions::{Counts, count, count_last, take_insert, take_reply, take_send, take_setting};
 use st_events::{Actions, Decision, Kind, MachineId, Tag, Time, Timer};
 use std::alloc::Global;
@@ -63,68 +63,102 @@ const NONE: Counts = Counts {
     postpone: None,
 };
 
+/// What a list asks for: its letters, those that are left of them, and what is counted.
+struct Row {
+    letters: &'static [char],
+    left: &'static [char],
+    counts: Counts,
+}
+
+/// Looks that each row is counted.
+fn are_counted(rt: &Host<impl Abort>, alloc: Global, rows: &[Row]) {
+    for row in rows {
+        is_counted(rt, alloc, row.letters, row.left, row.counts);
+    }
+}
+
 #[test]
 fn what_is_asked_for_is_counted(rt: HostRuntime) {
+    static ROWS: [Row; 3] = [
+        Row {
+            letters: &[],
+            left: &[],
+            counts: NONE,
+        },
+        Row {
+            letters: &['p', '0', 'k'],
+            left: &['p', '0', 'k'],
+            counts: Counts {
+                settings: 1,
+                postpone: Some(false),
+                ..NONE
+            },
+        },
+        // Of each timer the last setting is left.
+        Row {
+            letters: &['1', 'r', 'k', 'i', '2', 's', 'p', 't', '9', 'i'],
+            left: &['h', 'r', 'k', 'i', '2', 's', 'p', 't', '9', 'i'],
+            counts: Counts {
+                replies: 2,
+                inserts: 3,
+                settings: 2,
+                numbers: 5,
+                postpone: Some(true),
+                ..NONE
+            },
+        },
+    ];
     let rt = Host::new(rt);
-    is_counted(&rt, rt.alloc(), &[], &[], NONE);
-    let one = Counts {
-        settings: 1,
-        postpone: Some(false),
-        ..NONE
-    };
-    is_counted(&rt, rt.alloc(), &['p', '0', 'k'], &['p', '0', 'k'], one);
-
-    // Of each timer the last setting is left.
-    let letters = ['1', 'r', 'k', 'i', '2', 's', 'p', 't', '9', 'i'];
-    let left = ['h', 'r', 'k', 'i', '2', 's', 'p', 't', '9', 'i'];
-    let wanted = Counts {
-        replies: 2,
-        inserts: 3,
-        settings: 2,
-        numbers: 5,
-        postpone: Some(true),
-        ..NONE
-    };
-    is_counted(&rt, rt.alloc(), &letters, &left, wanted);
+    are_counted(&rt, rt.alloc(), &ROWS);
     rt.end();
 }
 
 #[test]
 fn cancels_updates_and_sends_are_counted(rt: HostRuntime) {
+    static ROWS: [Row; 4] = [
+        // An update takes no number in any case.
+        Row {
+            letters: &['1', 'u'],
+            left: &['h', 'u'],
+            counts: Counts {
+                settings: 1,
+                updates: 1,
+                ..NONE
+            },
+        },
+        Row {
+            letters: &['u', '1'],
+            left: &['h', '1'],
+            counts: Counts {
+                settings: 1,
+                numbers: 1,
+                ..NONE
+            },
+        },
+        Row {
+            letters: &['c', 'v', 'm', 'u', 'd', '1', 'n', 'i'],
+            left: &['h', 'h', 'm', 'h', 'd', '1', 'n', 'i'],
+            counts: Counts {
+                inserts: 1,
+                settings: 2,
+                sends: 2,
+                numbers: 2,
+                ..NONE
+            },
+        },
+        Row {
+            letters: &['1', 'v', 'm', 'c', 'u', 'x', 'v', 'n', 'u'],
+            left: &['h', 'h', 'm', 'h', 'h', 'h', 'v', 'n', 'u'],
+            counts: Counts {
+                settings: 2,
+                updates: 2,
+                sends: 2,
+                ..NONE
+            },
+        },
+    ];
     let rt = Host::new(rt);
-    // An update takes no number in any case.
-    let one = Counts {
-        settings: 1,
-        updates: 1,
-        ..NONE
-    };
-    is_counted(&rt, rt.alloc(), &['1', 'u'], &['h', 'u'], one);
-    let started = Counts {
-        settings: 1,
-        numbers: 1,
-        ..NONE
-    };
-    is_counted(&rt, rt.alloc(), &['u', '1'], &['h', '1'], started);
-
-    let letters = ['c', 'v', 'm', 'u', 'd', '1', 'n', 'i'];
-    let left = ['h', 'h', 'm', 'h', 'd', '1', 'n', 'i'];
-    let wanted = Counts {
-        inserts: 1,
-        settings: 2,
-        sends: 2,
-        numbers: 2,
-        ..NONE
-    };
-    is_counted(&rt, rt.alloc(), &letters, &left, wanted);
-    let letters = ['1', 'v', 'm', 'c', 'u', 'x', 'v', 'n', 'u'];
-    let left = ['h', 'h', 'm', 'h', 'h', 'h', 'v', 'n', 'u'];
-    let wanted = Counts {
-        settings: 2,
-        updates: 2,
-        sends: 2,
-        ..NONE
-    };
-    is_counted(&rt, rt.alloc(), &letters, &left, wanted);
+    are_counted(&rt, rt.alloc(), &ROWS);
     rt.end();
 }
 
@@ -192,17 +226,17 @@ fn sends_leave(rt: &impl Abort, actions: &mut Actions<u64>, wanted: &[(MachineId
 fn each_kind_leaves_its_places(rt: HostRuntime) {
     let rt = Host::new(rt);
     let mut actions = list(&rt, rt.alloc(), &['r', 'i', '1', 's', 't', 'p', '0']);
-    let wanted = [(tag(1), 10), (tag(2), 20)];
-    replies_leave(&rt, &mut actions, &wanted);
+    static REPLIES: [(Tag, u64); 2] = [(FIRST, 10), (SECOND, 20)];
+    replies_leave(&rt, &mut actions, &REPLIES);
     has(&rt, &actions, &['h', 'i', '1', 'h', 't', 'p', '0']);
-    let wanted = [(Kind::Timeout(Timer::State), 40), (Kind::Internal, 30)];
-    inserts_leave(&rt, &mut actions, &wanted);
+    static INSERTS: [(Kind, u64); 2] = [(Kind::Timeout(Timer::State), 40), (Kind::Internal, 30)];
+    inserts_leave(&rt, &mut actions, &INSERTS);
     has(&rt, &actions, &['h', 'h', '1', 'h', 'h', 'p', '0']);
-    let wanted = [
+    static SETTINGS: [(Timer, Decision, u64); 2] = [
         (Timer::Named(1), Decision::Set(Time::After(1)), 50),
         (Timer::Named(1), Decision::Set(Time::Infinity), 80),
     ];
-    settings_leave(&rt, &mut actions, &wanted);
+    settings_leave(&rt, &mut actions, &SETTINGS);
     has(&rt, &actions, &['h', 'h', 'h', 'h', 'h', 'p', 'h']);
     drop(actions);
     rt.end();
@@ -212,15 +246,15 @@ fn each_kind_leaves_its_places(rt: HostRuntime) {
 fn cancels_updates_and_sends_leave_their_places(rt: HostRuntime) {
     let rt = Host::new(rt);
     let mut actions = list(&rt, rt.alloc(), &['u', 'm', 'c', 'r', 'n', '0']);
-    let wanted = [
+    static SETTINGS: [(Timer, Decision, u64); 3] = [
         (Timer::Named(1), Decision::Update, 110),
         (Timer::Named(1), Decision::Cancel, 0),
         (Timer::Named(1), Decision::Set(Time::Infinity), 80),
     ];
-    settings_leave(&rt, &mut actions, &wanted);
+    settings_leave(&rt, &mut actions, &SETTINGS);
     has(&rt, &actions, &['h', 'm', 'h', 'r', 'n', 'h']);
-    let wanted = [(machine(4), 130), (machine(6), 140)];
-    sends_leave(&rt, &mut actions, &wanted);
+    static SENDS: [(MachineId, u64); 2] = [(NEAR, 130), (FAR, 140)];
+    sends_leave(&rt, &mut actions, &SENDS);
     has(&rt, &actions, &['h', 'h', 'h', 'r', 'h', 'h']);
     drop(actions);
     rt.end();
