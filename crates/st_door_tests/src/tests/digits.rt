@@ -5,14 +5,17 @@ use st_door::Digits;
 use std::alloc::Global;
 use std::process::Abort;
 
+/// A list of these digits, which is made again.
+fn digits_again(rt: &Host<impl Abort>, alloc: Global, digits: &[u8]) -> Digits {
+    rt.retry();
+    Digits::copied(alloc, digits).expect(rt, "memory")
+}
+
 /// A list of these digits.
 pub fn digits(rt: &Host<impl Abort>, alloc: Global, digits: &[u8]) -> Digits {
     match Digits::copied(alloc, digits) {
         Ok(copy) => copy,
-        Err(_) => {
-            rt.retry();
-            Digits::copied(alloc, digits).expect(rt, "memory")
-        }
+        Err(_) => digits_again(rt, alloc, digits),
     }
 }
 
@@ -22,17 +25,19 @@ pub fn has_digits(rt: &Host<impl Abort>, list: &Digits, digits: &[u8]) {
     same(rt, "how many digits there are", &list.len(), &digits.len());
 }
 
+/// Puts a digit at the end of a list again, which stayed as it was.
+fn push_again(rt: &Host<impl Abort>, list: &mut Digits, digit: u8, before: &[u8]) {
+    has_digits(rt, list, before);
+    rt.retry();
+    let pushed = list.push(digit).is_ok();
+    holds(rt, "one allocation alone is refused", pushed);
+}
+
 /// Puts a digit at the end of a list. Where there is no memory, the list stays, and the call is made again.
 fn push(rt: &Host<impl Abort>, list: &mut Digits, digit: u8, before: &[u8]) {
     has_digits(rt, list, before);
     if list.push(digit).is_err() {
-        has_digits(rt, list, before);
-        rt.retry();
-        holds(
-            rt,
-            "one allocation alone is refused",
-            list.push(digit).is_ok(),
-        );
+        push_again(rt, list, digit, before);
     }
 }
 

@@ -2,7 +2,7 @@
 
 use super::host::{Host, same};
 use super::streams::{Failure, PLAIN, Way, ends, shows};
-use super::worked::ALL;
+use super::worked::{ALL, Worked};
 use st_door::ScriptFault;
 use std::alloc::{AllocError, Global};
 use std::io::Print;
@@ -86,22 +86,28 @@ fn a_write_that_takes_nothing_ends_the_script(rt: HostRuntime) {
     fail_writes(&rt, Failure::TakesNothing);
 }
 
+/// Sees that a worked script prints the same a byte at a time.
+fn is_the_same(rt: &Host<impl Abort>, alloc: Global, worked: &Worked) {
+    let (way, wanted) = (at_most(1), Ok(worked.status));
+    let output = worked.output.as_bytes();
+    ends(rt, alloc, worked.script, way, wanted, output);
+}
+
 #[test]
 fn each_worked_script_is_the_same_a_byte_at_a_time(rt: HostRuntime) {
     let rt = Host::new(rt);
     if rt.end() {
         return;
     }
-    for worked in ALL {
-        let output = worked.output.as_bytes();
-        ends(
-            &rt,
-            rt.alloc(),
-            worked.script,
-            at_most(1),
-            Ok(worked.status),
-            output,
-        );
+    for worked in &ALL {
+        is_the_same(&rt, rt.alloc(), worked);
+    }
+}
+
+/// Sees that a script ends at each read that fails: there is a byte a read, and the end.
+fn ends_at_each_read(rt: &Host<impl Abort>, alloc: Global, script: &[u8]) {
+    for count in 0..=script.len() {
+        ends_at_read(rt, alloc, script, failing_read(1, count + 1));
     }
 }
 
@@ -111,11 +117,22 @@ fn each_worked_script_ends_at_each_read_that_fails(rt: HostRuntime) {
     if rt.end() {
         return;
     }
-    for worked in ALL {
-        // A byte a read, and the end.
-        for count in 0..=worked.script.len() {
-            ends_at_read(&rt, rt.alloc(), worked.script, failing_read(1, count + 1));
-        }
+    for worked in &ALL {
+        ends_at_each_read(&rt, rt.alloc(), worked.script);
+    }
+}
+
+/// Sees that a script with this output ends at each write that fails, a byte a write.
+fn ends_at_each_write(
+    rt: &Host<impl Abort>,
+    alloc: Global,
+    script: &[u8],
+    output: &[u8],
+    failure: Failure,
+) {
+    for count in 0..output.len() {
+        let way = failing_write(1, count + 1, failure);
+        ends_at_write(rt, alloc, script, way, &output[..count]);
     }
 }
 
@@ -124,12 +141,9 @@ fn fail_each_write(rt: &Host<impl Abort + Print + AllocGlobal>, failure: Failure
     if rt.end() {
         return;
     }
-    for worked in ALL {
+    for worked in &ALL {
         let output = worked.output.as_bytes();
-        for count in 0..output.len() {
-            let way = failing_write(1, count + 1, failure);
-            ends_at_write(rt, rt.alloc(), worked.script, way, &output[..count]);
-        }
+        ends_at_each_write(rt, rt.alloc(), worked.script, output, failure);
     }
 }
 
@@ -166,30 +180,32 @@ fn text_of(alloc: Global, fault: ScriptFault) -> Result<String, AllocError> {
     format!(in alloc; "{fault}")
 }
 
+/// The text of a fault, which is printed again.
+fn text_again(rt: &Host<impl Abort>, alloc: Global, fault: ScriptFault) -> String {
+    rt.retry();
+    text_of(alloc, fault).expect(rt, "memory")
+}
+
 /// Sees what text a fault has. Where memory was refused, it is printed again.
 fn has_text(rt: &Host<impl Abort>, alloc: Global, fault: ScriptFault, text: &str) {
     let printed = match text_of(alloc, fault) {
-        Err(AllocError) => {
-            rt.retry();
-            text_of(alloc, fault)
-        }
-        printed => printed,
+        Ok(printed) => printed,
+        Err(AllocError) => text_again(rt, alloc, fault),
     };
-    let printed = printed.expect(rt, "memory");
     same(rt, "the text of a fault", &printed.as_str(), &text);
 }
 
 #[test]
 fn each_fault_has_its_text(rt: HostRuntime) {
-    let rt = Host::new(rt);
-    let rows = [
+    static TEXTS: [(ScriptFault, &str); 4] = [
         (ScriptFault::Read, "read fault"),
         (ScriptFault::TooLong, "input too long"),
         (ScriptFault::Write, "write fault"),
         (ScriptFault::Memory, "no memory"),
     ];
-    for (fault, text) in rows {
-        has_text(&rt, rt.alloc(), fault, text);
+    let rt = Host::new(rt);
+    for (fault, text) in &TEXTS {
+        has_text(&rt, rt.alloc(), *fault, text);
     }
     rt.end();
 }

@@ -4,6 +4,7 @@ use super::host::{Host, holds, same};
 use super::streams::{PLAIN, Way, ends, ends_in_memory, prints, shows, with_reserved};
 use st_door::{INPUT_LIMIT, Mode, ScriptFault};
 use std::alloc::{AllocError, Global};
+use std::process::Abort;
 
 #[test]
 fn a_line_has_256_bytes_at_most(rt: HostRuntime) {
@@ -75,20 +76,30 @@ fn a_reason_has_10_digits_and_is_4294967295_at_most(rt: HostRuntime) {
     );
 }
 
+/// Sees that an input is too long.
+fn is_too_long(rt: &Host<impl Abort>, alloc: Global, input: &[u8]) {
+    let wanted = Err(ScriptFault::TooLong);
+    ends(rt, alloc, input, PLAIN, wanted, b"");
+    ends_in_memory(rt, alloc, Mode::Run, input, wanted, b"");
+}
+
+/// Sees that an input has 1,048,576 bytes at most.
+fn has_a_limit(rt: &Host<impl Abort>, alloc: Global) {
+    same(rt, "the limit", &INPUT_LIMIT, &1_048_576);
+    let mut input = with_reserved(alloc, 1_048_577);
+    let resized = input.resize(1_048_577, b'\n');
+    holds(rt, "there is memory", resized.is_ok());
+    prints(rt, alloc, &input.as_slice()[1..], "", 0);
+    is_too_long(rt, alloc, input.as_slice());
+}
+
 #[test]
 fn an_input_has_1048576_bytes_at_most(rt: HostRuntime) {
     let rt = Host::new(rt);
     if rt.end() {
         return;
     }
-    same(&rt, "the limit", &INPUT_LIMIT, &1_048_576);
-    let mut input = with_reserved(rt.alloc(), 1_048_577);
-    let resized = input.resize(1_048_577, b'\n');
-    holds(&rt, "there is memory", resized.is_ok());
-    prints(&rt, rt.alloc(), &input.as_slice()[1..], "", 0);
-    let wanted = Err(ScriptFault::TooLong);
-    ends(&rt, rt.alloc(), input.as_slice(), PLAIN, wanted, b"");
-    ends_in_memory(&rt, rt.alloc(), Mode::Run, input.as_slice(), wanted, b"");
+    has_a_limit(&rt, rt.alloc());
 }
 
 /// The last of the hexadecimal digits that show a number.
@@ -115,51 +126,83 @@ fn add(list: &mut Vec<u8>, parts: &[&[u8]]) -> Result<(), AllocError> {
     Ok(())
 }
 
-/// A script that starts 65,537 doors, and its output.
-fn many_doors(alloc: Global) -> Result<(Vec<u8>, Vec<u8>), AllocError> {
-    let mut script = with_reserved(alloc, 1_000_000);
-    let mut output = with_reserved(alloc, 3_000_000);
-    for number in 0..65_536 {
-        let name = name_of(number);
-        add(&mut script, &[b"new ", &name, b" 1\n"])?;
-        add(&mut output, &[&name, b" locked buttons 0 waiting 0\n"])?;
+/// A script that grows, and its output.
+#[derive(Drop)]
+struct Long {
+    script: Vec<u8>,
+    output: Vec<u8>,
+}
+
+impl Long {
+    /// A script with no line. Memory is reserved for so many bytes of it, and of its output.
+    fn new(alloc: Global, script: usize, output: usize) -> Long {
+        Long {
+            script: with_reserved(alloc, script),
+            output: with_reserved(alloc, output),
+        }
     }
-    add(&mut script, &[b"new e 1\n"])?;
-    add(&mut output, &[b"line 65537 refused 11\n"])?;
-    Ok((script, output))
+
+    /// Adds a line, and what that prints.
+    fn add(&mut self, line: &[&[u8]], printed: &[&[u8]]) -> Result<(), AllocError> {
+        add(&mut self.script, line)?;
+        add(&mut self.output, printed)
+    }
+
+    /// Starts so many doors.
+    fn start(&mut self, doors: usize) -> Result<(), AllocError> {
+        for number in 0..doors {
+            let name = name_of(number);
+            let printed = [name.as_slice(), b" locked buttons 0 waiting 0\n"];
+            self.add(&[b"new ", &name, b" 1\n"], &printed)?;
+        }
+        Ok(())
+    }
+
+    /// Each door of the ring sends a button to the next, and the last to the first, where so many wait then.
+    fn relay(&mut self, waiting: &[u8]) -> Result<(), AllocError> {
+        for number in 0..RING {
+            let (name, next) = (name_of(number), name_of((number + 1) % RING));
+            let printed = [next.as_slice(), b" open buttons 0 waiting ", waiting, b"\n"];
+            self.add(&[b"relay ", &name, b" ", &next, b" 1\n"], &printed)?;
+        }
+        Ok(())
+    }
+
+    /// Shows each door of the ring.
+    fn show(&mut self) -> Result<(), AllocError> {
+        for number in 0..RING {
+            let name = name_of(number);
+            let printed = [name.as_slice(), b" open buttons 0 waiting 0\n"];
+            self.add(&[b"show ", &name, b"\n"], &printed)?;
+        }
+        Ok(())
+    }
+}
+
+/// Adds lines that start 65,537 doors.
+fn add_many_doors(long: &mut Long) -> Result<(), AllocError> {
+    long.start(65_536)?;
+    long.add(&[b"new e 1\n"], &[b"line 65537 refused 11\n"])
 }
 
 /// How many doors stand in a ring.
 const RING: usize = 1_000;
 
-/// A script in which each of many doors sends a button to the next, and the last to the first, twice; and its output. The first
-/// button opens a door, the second one waits there until it is locked, and opens it again.
-fn many_relays(alloc: Global) -> Result<(Vec<u8>, Vec<u8>), AllocError> {
-    let mut script = with_reserved(alloc, 100_000);
-    let mut output = with_reserved(alloc, 100_000);
-    for number in 0..RING {
-        let name = name_of(number);
-        add(&mut script, &[b"new ", &name, b" 1\n"])?;
-        add(&mut output, &[&name, b" locked buttons 0 waiting 0\n"])?;
-    }
-    for waiting in [b'0', b'1'] {
-        for number in 0..RING {
-            let (name, next) = (name_of(number), name_of((number + 1) % RING));
-            add(&mut script, &[b"relay ", &name, b" ", &next, b" 1\n"])?;
-            add(
-                &mut output,
-                &[&next, b" open buttons 0 waiting ", &[waiting], b"\n"],
-            )?;
-        }
-    }
-    add(&mut script, &[b"at 10000\n"])?;
-    add(&mut output, &[b"at 10000 expired 1000\n"])?;
-    for number in 0..RING {
-        let name = name_of(number);
-        add(&mut script, &[b"show ", &name, b"\n"])?;
-        add(&mut output, &[&name, b" open buttons 0 waiting 0\n"])?;
-    }
-    Ok((script, output))
+/// Adds lines by which each of many doors sends a button to the next, and the last to the first, twice. The first button opens
+/// a door, the second one waits there until it is locked, and opens it again.
+fn add_many_relays(long: &mut Long) -> Result<(), AllocError> {
+    long.start(RING)?;
+    long.relay(b"0")?;
+    long.relay(b"1")?;
+    long.add(&[b"at 10000\n"], &[b"at 10000 expired 1000\n"])?;
+    long.show()
+}
+
+/// Sees that a long script prints its output, for so many bytes of which memory is reserved, and has this status.
+fn prints_all(rt: &Host<impl Abort>, alloc: Global, long: &Long, reserved: usize, status: u8) {
+    let way = Way { reserved, ..PLAIN };
+    let (script, output) = (long.script.as_slice(), long.output.as_slice());
+    ends(rt, alloc, script, way, Ok(status), output);
 }
 
 #[test]
@@ -168,19 +211,9 @@ fn a_button_goes_round_1000_doors(rt: HostRuntime) {
     if rt.end() {
         return;
     }
-    let (script, output) = many_relays(rt.alloc()).expect(&rt, "memory");
-    let way = Way {
-        reserved: 100_000,
-        ..PLAIN
-    };
-    ends(
-        &rt,
-        rt.alloc(),
-        script.as_slice(),
-        way,
-        Ok(0),
-        output.as_slice(),
-    );
+    let mut long = Long::new(rt.alloc(), 100_000, 100_000);
+    add_many_relays(&mut long).expect(&rt, "memory");
+    prints_all(&rt, rt.alloc(), &long, 100_000, 0);
 }
 
 #[test]
@@ -189,17 +222,7 @@ fn there_are_65536_doors_at_most(rt: HostRuntime) {
     if rt.end() {
         return;
     }
-    let (script, output) = many_doors(rt.alloc()).expect(&rt, "memory");
-    let way = Way {
-        reserved: 3_000_000,
-        ..PLAIN
-    };
-    ends(
-        &rt,
-        rt.alloc(),
-        script.as_slice(),
-        way,
-        Ok(1),
-        output.as_slice(),
-    );
+    let mut long = Long::new(rt.alloc(), 1_000_000, 3_000_000);
+    add_many_doors(&mut long).expect(&rt, "memory");
+    prints_all(&rt, rt.alloc(), &long, 3_000_000, 1);
 }

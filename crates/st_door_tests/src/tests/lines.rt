@@ -8,22 +8,15 @@ const MALFORMED: &str = "line 1 malformed\n";
 
 #[test]
 fn a_tab_parts_no_words(rt: HostRuntime) {
+    static SCRIPTS: [&[u8]; 5] = [b"show\ta", b"new\ta 1", b"new a\t1", b"names\t", b"\t"];
     let rt = Host::new(rt);
-    let scripts = [
-        b"show\ta".as_slice(),
-        b"new\ta 1",
-        b"new a\t1",
-        b"names\t",
-        b"\t",
-    ];
-    all_show(&rt, &scripts, MALFORMED, 1);
+    all_show(&rt, &SCRIPTS, MALFORMED, 1);
 }
 
 #[test]
 fn bytes_above_127_stand_in_comments_alone(rt: HostRuntime) {
-    let rt = Host::new(rt);
-    let scripts = [
-        b"\x80".as_slice(),
+    static SCRIPTS: [&[u8]; 7] = [
+        b"\x80",
         b"\xff names",
         b"new \xc3\xa4 1",
         b"new a\xff 1",
@@ -31,7 +24,8 @@ fn bytes_above_127_stand_in_comments_alone(rt: HostRuntime) {
         b"at \xb1",
         b"names\xa0",
     ];
-    all_show(&rt, &scripts, MALFORMED, 1);
+    let rt = Host::new(rt);
+    all_show(&rt, &SCRIPTS, MALFORMED, 1);
 }
 
 #[test]
@@ -42,22 +36,21 @@ fn bytes_above_127_may_stand_in_comments(rt: HostRuntime) {
 
 #[test]
 fn a_name_begins_with_a_small_letter(rt: HostRuntime) {
-    let rt = Host::new(rt);
-    let scripts = [
-        b"new Front 1".as_slice(),
+    static SCRIPTS: [&[u8]; 5] = [
+        b"new Front 1",
         b"new fronT 1",
         b"new 1a 1",
         b"new _ 1",
         b"new - 1",
     ];
-    all_show(&rt, &scripts, MALFORMED, 1);
+    let rt = Host::new(rt);
+    all_show(&rt, &SCRIPTS, MALFORMED, 1);
 }
 
 #[test]
 fn each_word_has_its_form(rt: HostRuntime) {
-    let rt = Host::new(rt);
-    let scripts = [
-        b"at 018446744073709551615".as_slice(),
+    static SCRIPTS: [&[u8]; 10] = [
+        b"at 018446744073709551615",
         b"new abcdefghijklmnopqrstuvwxyz0123456 1",
         b"new a 01234567890123456",
         b"button a +1",
@@ -68,25 +61,22 @@ fn each_word_has_its_form(rt: HostRuntime) {
         b"length 1",
         b"Length a",
     ];
-    all_show(&rt, &scripts, MALFORMED, 1);
+    let rt = Host::new(rt);
+    all_show(&rt, &SCRIPTS, MALFORMED, 1);
 }
 
 #[test]
 fn a_line_ends_with_one_carriage_return(rt: HostRuntime) {
+    static SCRIPTS: [&[u8]; 2] = [b"names\r\n", b"names\r"];
     let rt = Host::new(rt);
-    all_show(&rt, &[b"names\r\n".as_slice(), b"names\r"], "names\n", 0);
+    all_show(&rt, &SCRIPTS, "names\n", 0);
 }
 
 #[test]
 fn a_line_ends_with_one_carriage_return_at_most(rt: HostRuntime) {
+    static SCRIPTS: [&[u8]; 4] = [b"names\r\r\n", b"names\r\r", b"\r\r\n", b"names\r \n"];
     let rt = Host::new(rt);
-    let scripts = [
-        b"names\r\r\n".as_slice(),
-        b"names\r\r",
-        b"\r\r\n",
-        b"names\r \n",
-    ];
-    all_show(&rt, &scripts, MALFORMED, 1);
+    all_show(&rt, &SCRIPTS, MALFORMED, 1);
 }
 
 #[test]
@@ -104,9 +94,8 @@ fn a_last_line_may_be_a_carriage_return(rt: HostRuntime) {
 /// Each script is refused at its last line, which tells how many lines stand before it.
 #[test]
 fn only_an_empty_last_piece_is_no_line(rt: HostRuntime) {
-    let rt = Host::new(rt);
-    let rows = [
-        (b"show a".as_slice(), "line 1 refused 8\n"),
+    static ROWS: [(&[u8], &str); 7] = [
+        (b"show a", "line 1 refused 8\n"),
         (b"show a\n", "line 1 refused 8\n"),
         (b"\nshow a", "line 2 refused 8\n"),
         (b"\r\nshow a", "line 2 refused 8\n"),
@@ -114,7 +103,8 @@ fn only_an_empty_last_piece_is_no_line(rt: HostRuntime) {
         (b"names\n\r\nshow a", "names\nline 3 refused 8\n"),
         (b"names\n\nshow a", "names\nline 3 refused 8\n"),
     ];
-    for (script, output) in rows {
+    let rt = Host::new(rt);
+    for (script, output) in &ROWS {
         prints(&rt, rt.alloc(), script, output, 1);
     }
     rt.end();

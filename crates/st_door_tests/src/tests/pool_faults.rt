@@ -1,7 +1,7 @@
 //! Reads, writes and allocations that fail.
 use super::host::Host;
 use super::pool_streams::{Way, by, ends};
-use super::worked::ALL;
+use super::worked::{ALL, Worked};
 use st_door::ScriptFault;
 use st_door_pool::Runtime;
 use std::process::Abort;
@@ -46,6 +46,18 @@ fn ends_at_each_write<R: Runtime>(
     }
 }
 
+/// Sees that a worked script ends at each read and each write that fails.
+fn ends_at_each_failure<R: Runtime>(
+    rt: &Host<impl Abort + AllocGlobal>,
+    threads: R,
+    worked: &Worked,
+) {
+    ends_at_each_read(rt, threads, worked.script);
+    let output = worked.output.as_bytes();
+    ends_at_each_write(rt, threads, worked.script, output, false);
+    ends_at_each_write(rt, threads, worked.script, output, true);
+}
+
 #[test]
 fn each_worked_script_ends_at_each_failure(rt: HostRuntime) {
     let threads = rt;
@@ -53,11 +65,8 @@ fn each_worked_script_ends_at_each_failure(rt: HostRuntime) {
     if rt.end() {
         return;
     }
-    for worked in ALL {
-        ends_at_each_read(&rt, threads, worked.script);
-        let output = worked.output.as_bytes();
-        ends_at_each_write(&rt, threads, worked.script, output, false);
-        ends_at_each_write(&rt, threads, worked.script, output, true);
+    for worked in &ALL {
+        ends_at_each_failure(&rt, threads, worked);
     }
 }
 

@@ -169,6 +169,29 @@ pub fn run_once<R: Runtime>(
     )
 }
 
+/// Sees that a front of the output was written where no memory was found.
+fn wrote_a_front(rt: &Host<impl Abort>, held: &[u8], output: &[u8]) {
+    let is_front = output.starts_with(held);
+    holds(rt, "a front is written where memory is refused", is_front);
+    rt.retry();
+}
+
+/// Runs a script that has this output. Where no memory was found, a front of that was written, and it is run once more.
+fn run<R: Runtime>(
+    rt: &Host<impl Abort + AllocGlobal>,
+    threads: R,
+    script: &[u8],
+    way: Way,
+    output: &[u8],
+) -> (Result<u8, ScriptFault>, Vec<u8>) {
+    let (answer, held) = run_once(threads, rt.alloc(), script, way);
+    if answer != Err(ScriptFault::Memory) {
+        return (answer, held);
+    }
+    wrote_a_front(rt, held.as_slice(), output);
+    run_once(threads, rt.alloc(), script, way)
+}
+
 /// Sees that a script ends with this answer when these bytes are written. Where no memory was found, a front of them was
 /// written, and the script is run once more.
 pub fn ends<R: Runtime>(
@@ -179,13 +202,7 @@ pub fn ends<R: Runtime>(
     wanted: Result<u8, ScriptFault>,
     output: &[u8],
 ) {
-    let (mut answer, mut held) = run_once(threads, rt.alloc(), script, way);
-    if answer == Err(ScriptFault::Memory) {
-        let is_front = output.starts_with(held.as_slice());
-        holds(rt, "a front is written where memory is refused", is_front);
-        rt.retry();
-        (answer, held) = run_once(threads, rt.alloc(), script, way);
-    }
+    let (answer, held) = run(rt, threads, script, way, output);
     same(rt, "what is written", &held.as_slice(), &output);
     same(rt, "the answer", &answer, &wanted);
 }

@@ -3,7 +3,7 @@ ghost use Rattle.std.specs.Prelude.{◌≡◌, ◌<◌};
 ghost use Rattle.std.specs.Io.{ReadsAtMost};
 
 use super::host::{Host, holds, same};
-use st_door::{Counted, Mode, ScriptFault, run_in_memory, run_script};
+use st_door::{Counted, Mode, RunOutput, ScriptFault, run_in_memory, run_script};
 use std::alloc::Global;
 use std::io::{self, ErrorKind, Print, Read, Write};
 use std::marker::Brand;
@@ -152,6 +152,35 @@ fn run_once(alloc: Global, script: &[u8], way: Way) -> (Result<u8, ScriptFault>,
     )
 }
 
+/// Sees that a front of the output was written where no memory was found.
+fn wrote_a_front(rt: &Host<impl Abort>, writer: &Writer, output: &[u8]) {
+    let is_front = output.starts_with(writer.held.as_slice());
+    holds(rt, "a front is written where memory is refused", is_front);
+    rt.retry();
+}
+
+/// Runs a script that has this output. Where no memory was found, a front of that was written, and it is run once more.
+fn run(
+    rt: &Host<impl Abort>,
+    alloc: Global,
+    script: &[u8],
+    way: Way,
+    output: &[u8],
+) -> (Result<u8, ScriptFault>, Writer) {
+    let (answer, writer) = run_once(alloc, script, way);
+    if answer != Err(ScriptFault::Memory) {
+        return (answer, writer);
+    }
+    wrote_a_front(rt, &writer, output);
+    run_once(alloc, script, way)
+}
+
+/// A writer that takes all is handed each line by one write, in traces too.
+fn comes_by_lines(rt: &impl Abort, writer: &Writer, way: Way) {
+    let comes_by_lines = writer.by_lines || way.most < usize::MAX;
+    holds(rt, "each line comes by one write", comes_by_lines);
+}
+
 /// Sees that a script ends with this answer when these bytes are written. Where no memory was found, a
 /// front of them was written, and the script is run once more.
 pub fn ends(
@@ -162,18 +191,43 @@ pub fn ends(
     wanted: Result<u8, ScriptFault>,
     output: &[u8],
 ) {
-    let (mut answer, mut writer) = run_once(alloc, script, way);
-    if answer == Err(ScriptFault::Memory) {
-        let is_front = output.starts_with(writer.held.as_slice());
-        holds(rt, "a front is written where memory is refused", is_front);
-        rt.retry();
-        (answer, writer) = run_once(alloc, script, way);
-    }
+    let (answer, writer) = run(rt, alloc, script, way, output);
     same(rt, "what is written", &writer.held.as_slice(), &output);
     same(rt, "the answer", &answer, &wanted);
-    // A writer that takes all is handed each line by one write, in traces too.
-    let comes_by_lines = writer.by_lines || way.most < usize::MAX;
-    holds(rt, "each line comes by one write", comes_by_lines);
+    comes_by_lines(rt, &writer, way);
+}
+
+/// Sees that a run in memory came to this answer, and to this output.
+fn came_to(
+    rt: &impl Abort,
+    done: &Result<RunOutput, ScriptFault>,
+    wanted: &Result<u8, ScriptFault>,
+    output: &[u8],
+) {
+    match done {
+        Ok(done) => {
+            same(rt, "the output", &done.output.as_slice(), &output);
+            same(rt, "the status", &Ok(done.status), wanted);
+        }
+        Err(fault) => same(rt, "the fault", &Err(*fault), wanted),
+    }
+}
+
+/// Runs a script whose bytes are in memory. Where no memory was found, it is run once more.
+fn run_there(
+    rt: &Host<impl Abort>,
+    alloc: Global,
+    mode: Mode,
+    script: &[u8],
+) -> Result<RunOutput, ScriptFault> {
+    match run_in_memory(alloc, mode, script) {
+        Ok(done) => Ok(done),
+        Err(ScriptFault::Memory) => {
+            rt.retry();
+            run_in_memory(alloc, mode, script)
+        }
+        Err(fault) => Err(fault),
+    }
 }
 
 /// Sees that a script whose bytes are in memory ends with this answer, and with this output. Where no memory was found, it
@@ -186,18 +240,8 @@ pub fn ends_in_memory(
     wanted: Result<u8, ScriptFault>,
     output: &[u8],
 ) {
-    let mut done = run_in_memory(alloc, mode, script);
-    if let Err(ScriptFault::Memory) = done {
-        rt.retry();
-        done = run_in_memory(alloc, mode, script);
-    }
-    match done {
-        Ok(done) => {
-            same(rt, "the output", &done.output.as_slice(), &output);
-            same(rt, "the status", &Ok(done.status), &wanted);
-        }
-        Err(fault) => same(rt, "the fault", &Err(fault), &wanted),
-    }
+    let done = run_there(rt, alloc, mode, script);
+    came_to(rt, &done, &wanted, output);
 }
 
 /// Sees that a script prints this and has this status, also where its bytes are in memory.

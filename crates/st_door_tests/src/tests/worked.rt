@@ -528,7 +528,7 @@ const RELAYS: Worked = Worked {
 };
 
 /// All of them.
-pub const ALL: &[Worked] = &[
+pub static ALL: [Worked; 19] = [
     EMPTY,
     OPENING,
     LAST_BUTTONS,
