@@ -3,7 +3,9 @@ use super::again::{is_given_back, is_made_again};
 use super::doors::{Doors, no_door, only_port};
 use super::host::{Host, got, holds};
 use super::served::serve;
-use st_client::{Called, Collected, Machine, Port, RequestId, Token, Wake, call, check};
+use st_client::{
+    Called, Collected, Machine, Port, Refusal, Refused, RequestId, Token, Wake, call, check,
+};
 use st_door::{Door, DoorContent};
 use std::process::Abort;
 use std::sync::{Arc, Wait};
@@ -42,6 +44,18 @@ fn at_once(rt: &impl Abort, port: &Port<Door>, is_greedy: bool) -> AtOnce {
     AtOnce { machine, is_greedy }
 }
 
+/// What is kept for a request, which is asked for again for want of memory.
+fn kept_again(
+    rt: &Host<impl Abort>,
+    threads: &impl Wait,
+    id: &RequestId<Door>,
+    refusal: Refusal,
+) -> Collected<DoorContent> {
+    is_made_again(rt, refusal);
+    let again = check(threads, id);
+    got(rt, "one allocation alone is refused", again)
+}
+
 /// What is kept for a request. Where there is no memory, it stays, and is asked for again.
 fn kept(
     rt: &Host<impl Abort>,
@@ -50,12 +64,31 @@ fn kept(
 ) -> Collected<DoorContent> {
     match check(threads, id) {
         Ok(collected) => collected,
-        Err(refusal) => {
-            is_made_again(rt, refusal);
-            let again = check(threads, id);
-            got(rt, "one allocation alone is refused", again)
-        }
+        Err(refusal) => kept_again(rt, threads, id, refusal),
     }
+}
+
+/// What is kept for a request that could not be handed out for want of memory.
+fn kept_uncollected(
+    rt: &Host<impl Abort>,
+    threads: &impl Wait,
+    id: &RequestId<Door>,
+    refusal: Refusal,
+) -> Collected<DoorContent> {
+    is_made_again(rt, refusal);
+    kept(rt, threads, id)
+}
+
+/// What is kept for a request to a door that was not served for want of memory, and is served by this token.
+fn kept_unscheduled(
+    rt: &Host<impl Abort>,
+    threads: &impl Wait,
+    id: &RequestId<Door>,
+    left: Token,
+) -> Collected<DoorContent> {
+    rt.retry();
+    serve(rt, threads, id.machine(), left);
+    kept(rt, threads, id)
 }
 
 /// What a call came to. Where its reply could not be handed out, or its door not served, for want of memory, the request
@@ -63,22 +96,30 @@ fn kept(
 fn came_to(
     rt: &Host<impl Abort>,
     threads: &impl Wait,
-    called: Called<Door>,
+    called: &Called<Door>,
 ) -> Collected<DoorContent> {
     match called {
-        Called::Reply(content) => Collected::Reply(content),
-        Called::Stopped(reason) => Collected::Stopped(reason),
+        Called::Reply(content) => Collected::Reply(*content),
+        Called::Stopped(reason) => Collected::Stopped(*reason),
         Called::Gone => Collected::Gone,
-        Called::Uncollected(id, refusal) => {
-            is_made_again(rt, refusal);
-            kept(rt, threads, &id)
-        }
-        Called::Unscheduled(id, left) => {
-            rt.retry();
-            serve(rt, threads, id.machine(), left);
-            kept(rt, threads, &id)
-        }
+        Called::Uncollected(id, refusal) => kept_uncollected(rt, threads, id, *refusal),
+        Called::Unscheduled(id, left) => kept_unscheduled(rt, threads, id, *left),
     }
+}
+
+/// A call found no memory: nothing was posted, and it is called again. What that came to.
+fn calls_again(
+    rt: &Host<impl Abort>,
+    threads: &impl Wait,
+    port: &mut Port<Door>,
+    wake: &AtOnce,
+    refused: Refused<DoorContent>,
+) -> Collected<DoorContent> {
+    is_given_back(rt, &refused, DoorContent::CodeLength);
+    holds(rt, "nothing was posted", port.count() == 0);
+    let again = call(threads, port, wake, refused.value);
+    let called = got(rt, "one allocation alone is refused", again);
+    came_to(rt, threads, &called)
 }
 
 /// Calls for the length of the code. Where there is no memory, nothing was posted, and it is called again.
@@ -88,19 +129,9 @@ fn calls(
     port: &mut Port<Door>,
     wake: &AtOnce,
 ) -> Collected<DoorContent> {
-    let length = DoorContent::CodeLength;
-    match call(threads, port, wake, length) {
-        Ok(called) => came_to(rt, threads, called),
-        Err(refused) => {
-            is_given_back(rt, &refused, length);
-            holds(rt, "nothing was posted", port.count() == 0);
-            let again = call(threads, port, wake, refused.value);
-            came_to(
-                rt,
-                threads,
-                got(rt, "one allocation alone is refused", again),
-            )
-        }
+    match call(threads, port, wake, DoorContent::CodeLength) {
+        Ok(called) => came_to(rt, threads, &called),
+        Err(refused) => calls_again(rt, threads, port, wake, refused),
     }
 }
 
@@ -116,9 +147,6 @@ fn comes_to(
     let wake = at_once(rt, &port, is_greedy);
     let came = calls(rt, threads, &mut port, &wake);
     holds(rt, "what the call comes to", came == wanted);
-    drop(wake);
-    drop(port);
-    drop(doors);
 }
 
 #[test]

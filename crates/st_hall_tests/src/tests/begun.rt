@@ -36,7 +36,7 @@ pub fn filled<R: Wait + Drop>(
 }
 
 /// The id of a machine that was started, and has no work.
-fn running(rt: &impl Abort, started: Started) -> MachineId {
+pub fn running(rt: &impl Abort, started: Started) -> MachineId {
     match started {
         Started::Running { id, wake: None } => id,
         _ => panic!(rt; "it runs, and has no work"),
@@ -63,9 +63,7 @@ pub fn port<R: Wait + Drop>(
     id: MachineId,
 ) -> Port<Plain> {
     let machine = hall.machine(id).expect(rt, "it is there");
-    let port = Machine::port(&machine, threads).expect(rt, "a port");
-    drop(machine);
-    port
+    Machine::port(&machine, threads).expect(rt, "a port")
 }
 
 /// A port of each of so many machines of a hall that was filled.

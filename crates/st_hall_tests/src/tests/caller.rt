@@ -49,9 +49,6 @@ impl Caller {
     pub fn length(mut self, threads: &impl Wait) -> Result<usize, Option<u32>> {
         let content = DoorContent::CodeLength;
         let called = call(threads, &mut self.port, &*self.tray, content);
-        let came = came_to(&called);
-        drop(called);
-        drop(self);
-        came
+        came_to(&called)
     }
 }

@@ -54,7 +54,6 @@ fn is_at_rest(rt: &impl Abort, threads: &impl Wait, port: &mut Port<Plain>, entr
     let look = got(rt, "there is memory", port.look(threads));
     holds(rt, "it has no work", look.waiting == 0);
     holds(rt, "its entries", look.entries == entries);
-    drop(look);
 }
 
 /// Looks that the machines of some ports rest, whose journals have so many entries each.
@@ -76,7 +75,6 @@ fn is_mine(rt: &impl Abort, threads: &impl Wait, port: &mut Port<Plain>, posts: 
     holds(rt, "they are mine", look.mine == posts);
     let numbers = look.numbers.as_slice().len() as u64;
     holds(rt, "their numbers are mine", numbers == posts);
-    drop(look);
 }
 
 /// Casts twice more through each of some ports, which have posted so many events, with nobody to serve them.

@@ -53,6 +53,20 @@ fn gathers(
     sent.left
 }
 
+/// A check was refused for want of memory: nothing is taken out, and it is checked again.
+fn shows_again(
+    rt: &Host<impl Abort>,
+    threads: &impl Wait,
+    door: &mut Doorway,
+    before: usize,
+    word: &str,
+    wanted: Checked<DoorContent, char>,
+) {
+    holds(rt, "nothing is taken out", door.gathered.size() == before);
+    let again = check_any(threads, &mut door.gathered);
+    holds(rt, word, again == Ok(wanted));
+}
+
 /// Checks what is gathered, and looks what comes of it. Where there is no memory, nothing is taken out, and it is checked
 /// again.
 fn shows(
@@ -67,11 +81,39 @@ fn shows(
         Ok(checked) => holds(rt, word, checked == wanted),
         Err(refusal) => {
             is_made_again(rt, refusal);
-            holds(rt, "nothing is taken out", door.gathered.size() == before);
-            let again = check_any(threads, &mut door.gathered);
-            holds(rt, word, again == Ok(wanted));
+            shows_again(rt, threads, door, before, word, wanted);
         }
     }
+}
+
+/// Gathers two requests, which wait. The door's token.
+fn two_wait(rt: &Host<impl Abort>, threads: &impl Wait, door: &mut Doorway) -> Token {
+    let none = Checked::NoRequest;
+    shows(rt, threads, door, "none at first", none);
+    let left = gathers(rt, threads, door, 'a');
+    gathers(rt, threads, door, 'b');
+    shows(rt, threads, door, "both wait", Checked::NoReply);
+    left.expect(rt, "a token")
+}
+
+/// The door of two requests is served. The first reply is taken out, and a third request added before the door is stopped.
+fn first_is_answered(rt: &Host<impl Abort>, threads: &impl Wait, door: &mut Doorway, token: Token) {
+    serve(rt, threads, door.port.machine(), token);
+    let first = Checked::Response(DoorContent::Length(4), 'a');
+    shows(rt, threads, door, "the first reply", first);
+    gathers(rt, threads, door, 'c');
+    let stopped = door.port.machine().stop(threads, 3);
+    got(rt, "it is stopped", stopped);
+}
+
+/// The second request was answered before the door was stopped, and the third was not.
+fn others_are_told(rt: &Host<impl Abort>, threads: &impl Wait, door: &mut Doorway) {
+    let second = Checked::Response(DoorContent::Length(4), 'b');
+    shows(rt, threads, door, "the second reply", second);
+    let third = Checked::Stopped(3, 'c');
+    shows(rt, threads, door, "the third is told", third);
+    let none = Checked::NoRequest;
+    shows(rt, threads, door, "none at last", none);
 }
 
 #[test]
@@ -79,27 +121,21 @@ fn requests_to_a_door_are_gathered(rt: HostRuntime) {
     let threads = rt;
     let rt = Host::new(rt);
     let mut door = only_door(&rt, &threads, rt.alloc(), false);
-    let none = Checked::NoRequest;
-    shows(&rt, &threads, &mut door, "none at first", none);
-    let left = gathers(&rt, &threads, &mut door, 'a');
-    gathers(&rt, &threads, &mut door, 'b');
-    shows(&rt, &threads, &mut door, "both wait", Checked::NoReply);
-    let token = left.expect(&rt, "a token");
-    serve(&rt, &threads, door.port.machine(), token);
-    let length = DoorContent::Length(4);
-    let first = Checked::Response(length, 'a');
-    shows(&rt, &threads, &mut door, "the first reply", first);
-    gathers(&rt, &threads, &mut door, 'c');
-    let stopped = door.port.machine().stop(&threads, 3);
-    got(&rt, "it is stopped", stopped);
-    let second = Checked::Response(length, 'b');
-    shows(&rt, &threads, &mut door, "the second reply", second);
-    let third = Checked::Stopped(3, 'c');
-    shows(&rt, &threads, &mut door, "the third is told", third);
-    let none = Checked::NoRequest;
-    shows(&rt, &threads, &mut door, "none at last", none);
+    let token = two_wait(&rt, &threads, &mut door);
+    first_is_answered(&rt, &threads, &mut door, token);
+    others_are_told(&rt, &threads, &mut door);
     drop(door);
     rt.end();
+}
+
+/// The second request is taken out once it is replied to, and the first one waits.
+fn second_is_taken_out(rt: &Host<impl Abort>, threads: &impl Wait, door: &mut Doorway) {
+    replies(rt, threads, door, "the second request is replied to", true);
+    let reply = Checked::Response(DoorContent::Length(9), 'b');
+    shows(rt, threads, door, "the second reply", reply);
+    holds(rt, "one is left", door.gathered.size() == 1);
+    let waits = Checked::NoReply;
+    shows(rt, threads, door, "the first waits", waits);
 }
 
 #[test]
@@ -109,18 +145,7 @@ fn the_first_that_does_not_wait_is_taken_out(rt: HostRuntime) {
     let mut door = only_door(&rt, &threads, rt.alloc(), false);
     gathers(&rt, &threads, &mut door, 'a');
     gathers(&rt, &threads, &mut door, 'b');
-    replies(
-        &rt,
-        &threads,
-        &door,
-        "the second request is replied to",
-        true,
-    );
-    let reply = Checked::Response(DoorContent::Length(9), 'b');
-    shows(&rt, &threads, &mut door, "the second reply", reply);
-    holds(&rt, "one is left", door.gathered.size() == 1);
-    let waits = Checked::NoReply;
-    shows(&rt, &threads, &mut door, "the first waits", waits);
+    second_is_taken_out(&rt, &threads, &mut door);
     drop(door);
     rt.end();
 }

@@ -24,21 +24,38 @@ fn running(rt: &impl Abort, started: Start<Plain>) -> Core<Plain> {
     core
 }
 
-/// A machine that has one number left.
-fn machine(rt: &Host<impl Abort + AllocGlobal>, mark: &Arc<Mark>) -> Arc<Machine<Plain>> {
+/// What a machine is made of that has one number left.
+fn core(rt: &Host<impl Abort + AllocGlobal>, mark: &Arc<Mark>) -> Core<Plain> {
     let plain = Plain::new(mark).expect(rt, "an owner");
     let started = Core::start_from(rt.alloc(), plain, id(0, 1), &(), 0, LAST);
-    let core = running(rt, got(rt, "it is started", started));
-    let (machine, token) = got(rt, "it is made", Machine::new(rt.alloc(), core));
+    running(rt, got(rt, "it is started", started))
+}
+
+/// A machine that has one number left.
+fn machine(rt: &Host<impl Abort + AllocGlobal>, mark: &Arc<Mark>) -> Arc<Machine<Plain>> {
+    let made = Machine::new(rt.alloc(), core(rt, mark));
+    let (machine, token) = got(rt, "it is made", made);
     holds(rt, "it has no work", token == None);
     Arc::new(rt.alloc(), machine).expect(rt, "an owner")
+}
+
+/// A machine as workers serve it.
+fn sole<R: Runtime>(
+    rt: &Host<impl Abort + AllocGlobal>,
+    threads: R,
+    machine: &Arc<Machine<Plain>>,
+) -> Arc<Sole<R>> {
+    let sole = Sole {
+        rt: threads,
+        machine: Arc::try_clone(machine).expect(rt, "an owner"),
+    };
+    Arc::new(rt.alloc(), sole).expect(rt, "an owner")
 }
 
 /// Posts an event with a machine's last number, which is to insert one more, and answers the token that was issued.
 fn posted(rt: &impl Abort, threads: &impl Wait, machine: &Arc<Machine<Plain>>) -> Token {
     let mut port = Machine::port(machine, threads).expect(rt, "a port");
     let (_, token) = posts(rt, threads, &mut port);
-    drop(port);
     token
 }
 
@@ -55,6 +72,29 @@ fn goes_round<R: Runtime>(
     pool.drain();
 }
 
+/// Closes a pool whose token went round, and came to rest.
+fn is_over<R: Runtime>(rt: &impl Abort, pool: &mut Pool<R, u32>) {
+    let end = got(rt, "there is memory", pool.close());
+    holds(rt, "it went round", end.turns > 1_000);
+    holds(rt, "no token is left", end.left.is_empty());
+}
+
+/// Two workers serve a machine in vain by its token, until it is stopped.
+fn serves_in_vain<R: Runtime>(
+    rt: &Host<impl Abort + AllocGlobal>,
+    threads: R,
+    gate: &Arc<Turnstile>,
+    machine: &Arc<Machine<Plain>>,
+    token: Token,
+) {
+    let sole = sole(rt, threads, machine);
+    let pool = Pool::start(threads, rt.alloc(), 2, &sole, gate);
+    let mut pool = pool.expect(rt, "a pool");
+    holds(rt, "it is scheduled", pool.schedule(token) == Ok(()));
+    goes_round(rt, threads, &pool, &**gate, &**machine);
+    is_over(rt, &mut pool);
+}
+
 #[test]
 fn a_token_goes_round_while_its_turn_is_refused(rt: HostRuntime) {
     let threads = rt;
@@ -62,23 +102,9 @@ fn a_token_goes_round_while_its_turn_is_refused(rt: HostRuntime) {
     let mark = mark(&rt, true);
     let machine = machine(&rt, &mark);
     let token = posted(&rt, &threads, &machine);
-    let sole = Sole {
-        rt: threads,
-        machine: Arc::try_clone(&machine).expect(&rt, "an owner"),
-    };
-    let sole = Arc::new(rt.alloc(), sole).expect(&rt, "an owner");
     let gate = Turnstile::new(rt.alloc(), &mark, false).expect(&rt, "a gate");
-    let pool = Pool::start(threads, rt.alloc(), 2, &sole, &gate);
-    let mut pool = pool.expect(&rt, "a pool");
-    holds(&rt, "it is scheduled", pool.schedule(token) == Ok(()));
-    goes_round(&rt, threads, &pool, &*gate, &*machine);
-    let end = got(&rt, "there is memory", pool.close());
-    holds(&rt, "it went round", end.turns > 1_000);
-    holds(&rt, "no token is left", end.left.is_empty());
-    drop(end);
-    drop(pool);
+    serves_in_vain(&rt, threads, &gate, &machine, token);
     drop(gate);
-    drop(sole);
     drop(machine);
     drop(mark);
     rt.end_with_memory();

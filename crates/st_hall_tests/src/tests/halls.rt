@@ -8,19 +8,39 @@ use st_hall::{Hall, Hand, MachineId, Refusal, Token};
 use std::process::Abort;
 use std::sync::{Arc, Wait};
 
-/// Serves a machine that has two events by its token. A turn at a moment that is too late leaves the token outstanding.
-fn is_served_twice<R: Wait + Drop>(rt: &impl Abort, hall: &Hall<Plain, R>, token: Token) {
+/// Gives the machine of a token a turn, and looks whether the token comes back.
+pub fn turns<R: Wait + Drop>(
+    rt: &impl Abort,
+    hall: &Hall<Plain, R>,
+    token: Token,
+    word: &str,
+    wanted: Option<Token>,
+) {
+    let turned = hall.turn(token, 5, &mut Hand::new());
+    holds(rt, word, turned == wanted);
+}
+
+/// A turn at a moment that is too late leaves the token outstanding.
+fn is_too_late<R: Wait + Drop>(rt: &impl Abort, hall: &Hall<Plain, R>, token: Token) {
     let late = hall.serve(token, 1 << 63, &mut Hand::new());
     holds(rt, "it is too late for a turn", late.token == Some(token));
     holds(rt, "it says so", late.refusal == Some(Refusal::Moment));
-    let first = hall.turn(token, 5, &mut Hand::new());
-    holds(rt, "one more event waits", first == Some(token));
-    let second = hall.turn(token, 5, &mut Hand::new());
-    holds(rt, "no event waits", second == None);
+}
+
+/// A token that was retired serves nothing.
+fn is_retired<R: Wait + Drop>(rt: &impl Abort, hall: &Hall<Plain, R>, token: Token) {
     let third = hall.serve(token, 5, &mut Hand::new());
     holds(rt, "the token was retired", third.token == None);
     let is_told = third.refusal == Some(Refusal::NotQueued);
     holds(rt, "it says so too", is_told);
+}
+
+/// Serves a machine that has two events by its token, until that is retired.
+fn is_served_twice<R: Wait + Drop>(rt: &impl Abort, hall: &Hall<Plain, R>, token: Token) {
+    is_too_late(rt, hall, token);
+    turns(rt, hall, token, "one more event waits", Some(token));
+    turns(rt, hall, token, "no event waits", None);
+    is_retired(rt, hall, token);
 }
 
 /// Stops a machine.
@@ -33,7 +53,25 @@ fn stop<R: Wait + Drop>(
     let machine = hall.machine(id).expect(rt, "it is there");
     holds(rt, "its id", machine.id() == id);
     holds(rt, "the last word", machine.stop(threads, 3) == Ok(7));
-    drop(machine);
+}
+
+/// Removes the machine of an id, and looks what comes of it.
+fn removes<R: Wait + Drop>(
+    rt: &impl Abort,
+    hall: &Hall<Plain, R>,
+    id: MachineId,
+    word: &str,
+    wanted: Result<(), Refusal>,
+) {
+    holds(rt, word, hall.remove_stopped(id) == wanted);
+}
+
+/// Looks that a name and an id name nothing.
+fn is_gone<R: Wait + Drop>(rt: &impl Abort, hall: &Hall<Plain, R>, id: MachineId, name: &str) {
+    let named = hall.whereis(name);
+    holds(rt, "its name is gone", named == Err(Refusal::NoSuchName));
+    let found = hall.machine(id).err();
+    holds(rt, "it is gone", found == Some(Refusal::NoSuchMachine));
 }
 
 /// Removes a machine once it has ended, and looks that its name and its id name nothing then.
@@ -44,16 +82,40 @@ fn is_removed<R: Wait + Drop>(
     id: MachineId,
     name: &str,
 ) {
-    let early = hall.remove_stopped(id);
-    holds(rt, "it runs", early == Err(Refusal::NotStopped));
+    removes(rt, hall, id, "it runs", Err(Refusal::NotStopped));
     stop(rt, threads, hall, id);
-    holds(rt, "it is removed", hall.remove_stopped(id) == Ok(()));
-    let late = hall.remove_stopped(id);
-    holds(rt, "it was removed", late == Err(Refusal::NoSuchMachine));
-    let named = hall.whereis(name);
-    holds(rt, "its name is gone", named == Err(Refusal::NoSuchName));
-    let found = hall.machine(id).err();
-    holds(rt, "it is gone", found == Some(Refusal::NoSuchMachine));
+    removes(rt, hall, id, "it is removed", Ok(()));
+    let late = Err(Refusal::NoSuchMachine);
+    removes(rt, hall, id, "it was removed", late);
+    is_gone(rt, hall, id, name);
+}
+
+/// Starts the first machine of a hall, and finds it by its name.
+fn is_found<R: Wait + Drop>(
+    rt: &Host<impl Abort + AllocGlobal>,
+    hall: &Hall<Plain, R>,
+) -> MachineId {
+    holds(rt, "it is empty at first", hall.is_empty());
+    let id = start(rt, hall, &mark(rt, true), Some("front"));
+    holds(rt, "it is found", hall.whereis("front") == Ok(id));
+    holds(rt, "it is the only one", hall.len() == 1);
+    id
+}
+
+/// Serves a machine by one token, and removes it while its next token is outstanding.
+fn is_served_and_removed<R: Wait + Drop>(
+    rt: &impl Abort,
+    threads: &impl Wait,
+    hall: &Hall<Plain, R>,
+    id: MachineId,
+) {
+    let mut port = port(rt, threads, hall, id);
+    let (_, first) = posts(rt, threads, &mut port);
+    is_served_twice(rt, hall, first);
+    let (_, second) = posts(rt, threads, &mut port);
+    holds(rt, "the tokens differ", second != first);
+    is_removed(rt, threads, hall, id, "front");
+    turns(rt, hall, second, "its token rests", None);
 }
 
 #[test]
@@ -61,23 +123,9 @@ fn a_machine_is_found_served_and_removed(rt: HostRuntime) {
     let threads = rt;
     let rt = Host::with_memory(rt);
     let hall = hall(&rt, threads);
-    holds(&rt, "it is empty at first", hall.is_empty());
-    let id = start(&rt, &hall, &mark(&rt, true), Some("front"));
-    holds(&rt, "it is found", hall.whereis("front") == Ok(id));
-    holds(&rt, "it is the only one", hall.len() == 1);
-    let mut port = port(&rt, &threads, &hall, id);
-    let (_, first) = posts(&rt, &threads, &mut port);
-    is_served_twice(&rt, &hall, first);
-    let (_, second) = posts(&rt, &threads, &mut port);
-    holds(&rt, "the tokens differ", second != first);
-    is_removed(&rt, &threads, &hall, id, "front");
-    holds(
-        &rt,
-        "its token rests",
-        hall.turn(second, 5, &mut Hand::new()) == None,
-    );
+    let id = is_found(&rt, &hall);
+    is_served_and_removed(&rt, &threads, &hall, id);
     holds(&rt, "it is empty at last", hall.is_empty());
-    drop(port);
     drop(hall);
     rt.end_with_memory();
 }
@@ -88,27 +136,40 @@ fn is_named(rt: &impl Abort, found: &(String, MachineId), name: &str, id: Machin
     holds(rt, "its machine", found.1 == id);
 }
 
+/// Starts three machines of one mark under names.
+fn start_three<R: Wait + Drop>(rt: &Host<impl Abort + AllocGlobal>, hall: &Hall<Plain, R>) {
+    let mark = mark(rt, true);
+    for name in ["front", "back", "side"] {
+        start(rt, hall, &mark, Some(name));
+    }
+}
+
+/// Lets the second name go, which can be done once.
+fn is_let_go<R: Wait + Drop>(rt: &impl Abort, hall: &Hall<Plain, R>) {
+    let first = hall.unregister("back");
+    holds(rt, "the name is let go", first == Ok(()));
+    let second = hall.unregister("back");
+    let is_gone = second == Err(Refusal::NoSuchName);
+    holds(rt, "the name was let go", is_gone);
+}
+
+/// Looks that the first name and the third one are left, in order.
+fn are_left<R: Wait + Drop>(rt: &Host<impl Abort + AllocGlobal>, hall: &Hall<Plain, R>) {
+    let names = got(rt, "there is memory", hall.names(rt.alloc()));
+    holds(rt, "two names are left", names.len() == 2);
+    is_named(rt, &names[0], "front", id(0, 1));
+    is_named(rt, &names[1], "side", id(2, 3));
+}
+
 #[test]
 fn names_stand_in_order(rt: HostRuntime) {
     let threads = rt;
     let rt = Host::with_memory(rt);
     let hall = hall(&rt, threads);
-    let mark = mark(&rt, true);
-    for name in ["front", "back", "side"] {
-        start(&rt, &hall, &mark, Some(name));
-    }
-    let first = hall.unregister("back");
-    holds(&rt, "the name is let go", first == Ok(()));
-    let second = hall.unregister("back");
-    let is_gone = second == Err(Refusal::NoSuchName);
-    holds(&rt, "the name was let go", is_gone);
+    start_three(&rt, &hall);
+    is_let_go(&rt, &hall);
     holds(&rt, "three machines are left", hall.len() == 3);
-    let names = got(&rt, "there is memory", hall.names(rt.alloc()));
-    holds(&rt, "two names are left", names.len() == 2);
-    is_named(&rt, &names[0], "front", id(0, 1));
-    is_named(&rt, &names[1], "side", id(2, 3));
-    drop(names);
-    drop(mark);
+    are_left(&rt, &hall);
     drop(hall);
     rt.end_with_memory();
 }
@@ -121,6 +182,19 @@ fn is_full<R: Wait + Drop>(rt: &impl Abort, hall: &Hall<Plain, R>, mark: &Arc<Ma
     holds(rt, "there is no place", refusal == Refusal::Full);
 }
 
+/// Removes a machine of a full hall, whose place the next one takes.
+fn takes_its_place<R: Wait + Drop>(
+    rt: &impl Abort,
+    threads: &impl Wait,
+    hall: &Hall<Plain, R>,
+    mark: &Arc<Mark>,
+) {
+    stop(rt, threads, hall, id(7, 8));
+    removes(rt, hall, id(7, 8), "it is removed", Ok(()));
+    let next = start(rt, hall, mark, None);
+    holds(rt, "the next takes its place", next == id(7, 65_537));
+}
+
 #[test]
 fn a_hall_of_65_536_machines_is_full(rt: HostRuntime) {
     let threads = rt;
@@ -129,11 +203,7 @@ fn a_hall_of_65_536_machines_is_full(rt: HostRuntime) {
     let hall = filled(&rt, threads, &mark, 65_536);
     is_full(&rt, &*hall, &mark);
     holds(&rt, "all are there", hall.len() == 65_536);
-    stop(&rt, &threads, &*hall, id(7, 8));
-    let removed = hall.remove_stopped(id(7, 8));
-    holds(&rt, "it is removed", removed == Ok(()));
-    let next = start(&rt, &*hall, &mark, None);
-    holds(&rt, "the next takes its place", next == id(7, 65_537));
+    takes_its_place(&rt, &threads, &*hall, &mark);
     is_full(&rt, &*hall, &mark);
     drop(hall);
     drop(mark);

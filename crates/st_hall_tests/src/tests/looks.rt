@@ -1,9 +1,10 @@
 //! A look through a port beside the journal's last turn.
 use super::begun::{hall, mark, port, start};
 use super::cast::posts;
+use super::halls::turns;
 use super::host::{Host, got, holds};
 use super::plain::Plain;
-use st_hall::{Hand, Machine, Port};
+use st_hall::{Hall, Machine, Port, Token};
 use st_lock::{Answer, Command, JournalEntry, Turned};
 use std::process::Abort;
 use std::sync::Wait;
@@ -38,9 +39,7 @@ fn last_turn(rt: &impl Abort, threads: &impl Wait, machine: &Machine<Plain>) -> 
     let journal = got(rt, "there is memory", machine.journal(threads, "plain"));
     let last = journal.entries.as_slice().last();
     let last = last.expect(rt, "it was served");
-    let turn = turn_of(last).expect(rt, "the last command was a turn with an event");
-    drop(journal);
-    turn
+    turn_of(last).expect(rt, "the last command was a turn with an event")
 }
 
 /// Looks at a machine that was posted one event: what is seen is what the last turn reported, which handled this event.
@@ -58,9 +57,36 @@ fn seen_after(rt: &impl Abort, threads: &impl Wait, port: &mut Port<Plain>, even
     holds(rt, "what the last turn reported", reported == last);
     holds(rt, "the data", look.held == 7);
     holds(rt, "one is mine", look.mine == 1);
-    let waiting = look.waiting;
-    drop(look);
-    waiting
+    look.waiting
+}
+
+/// The first turn handled the event that was posted, and inserted one.
+fn first_is_seen<R: Wait + Drop>(
+    rt: &impl Abort,
+    threads: &impl Wait,
+    hall: &Hall<Plain, R>,
+    port: &mut Port<Plain>,
+    number: u64,
+    token: Token,
+) {
+    turns(rt, hall, token, "one more event waits", Some(token));
+    let waiting = seen_after(rt, threads, port, number);
+    holds(rt, "the event that it inserted", waiting == 1);
+}
+
+/// The second turn handled the event that was inserted behind one of this number.
+fn second_is_seen<R: Wait + Drop>(
+    rt: &impl Abort,
+    threads: &impl Wait,
+    hall: &Hall<Plain, R>,
+    port: &mut Port<Plain>,
+    number: u64,
+    token: Token,
+) {
+    turns(rt, hall, token, "no event waits", None);
+    let inserted = number.saturating_add(1);
+    let waiting = seen_after(rt, threads, port, inserted);
+    holds(rt, "no event was inserted", waiting == 0);
 }
 
 #[test]
@@ -71,18 +97,8 @@ fn a_look_shows_what_the_last_turn_reported(rt: HostRuntime) {
     let id = start(&rt, &hall, &mark(&rt, true), None);
     let mut port = port(&rt, &threads, &hall, id);
     let (number, token) = posts(&rt, &threads, &mut port);
-    let first = hall.turn(token, 5, &mut Hand::new());
-    holds(&rt, "one more event waits", first == Some(token));
-    let waiting = seen_after(&rt, &threads, &mut port, number);
-    holds(&rt, "the event that it inserted", waiting == 1);
-    holds(
-        &rt,
-        "no event waits",
-        hall.turn(token, 5, &mut Hand::new()) == None,
-    );
-    let inserted = number.saturating_add(1);
-    let waiting = seen_after(&rt, &threads, &mut port, inserted);
-    holds(&rt, "no event was inserted", waiting == 0);
+    first_is_seen(&rt, &threads, &hall, &mut port, number, token);
+    second_is_seen(&rt, &threads, &hall, &mut port, number, token);
     drop(port);
     drop(hall);
     rt.end_with_memory();

@@ -3,9 +3,23 @@ use super::begun::id;
 use super::host::{Host, holds, same};
 use super::ring::Ring;
 use super::rings::{RingHall, posts_number, ring_hall, ring_port, starts};
-use st_hall::{Hand, MachineId, Port, Refusal, Token, Undelivered};
+use st_hall::{Hand, Machine, MachineId, Port, Refusal, Token, Undelivered};
 use std::process::Abort;
 use std::sync::Wait;
+
+/// A hall gives the machine of a token a turn; the token comes back, and no message is carried.
+fn turns<R: Wait + Drop>(
+    rt: &impl Abort,
+    hall: &RingHall<R>,
+    token: Token,
+    hand: &mut Hand<u32>,
+    word: &str,
+) {
+    hand.woken = None;
+    let turned = hall.turn(token, 5, hand);
+    holds(rt, word, turned == Some(token));
+    holds(rt, "nothing is in the hand", hand.message.is_none());
+}
 
 /// A hall gives the machine of a token a turn, and delivers the message that it sends; then the machine rests.
 fn sends_one<R: Wait + Drop>(
@@ -14,15 +28,9 @@ fn sends_one<R: Wait + Drop>(
     token: Token,
     hand: &mut Hand<u32>,
 ) {
-    hand.woken = None;
-    let turned = hall.turn(token, 5, hand);
-    holds(rt, "its message is left", turned == Some(token));
-    holds(rt, "nothing is in the hand", hand.message.is_none());
+    turns(rt, hall, token, hand, "its message is left");
     holds(rt, "nothing was woken", hand.woken == None);
-    hand.woken = None;
-    let carried = hall.turn(token, 5, hand);
-    holds(rt, "its message is taken", carried == Some(token));
-    holds(rt, "nothing is in the hand", hand.message.is_none());
+    turns(rt, hall, token, hand, "its message is taken");
 }
 
 /// The machine of a token, whose hand has this woken token, rests.
@@ -51,7 +59,33 @@ fn casts_one<R: Wait + Drop>(
     let token = posts_number(rt, threads, port, 1);
     sends_one(rt, hall, token, &mut hand);
     rests(rt, hall, token, &mut hand, woken);
-    drop(hand);
+}
+
+/// The machine of a token, to which two messages came, has two turns by one hand.
+fn has_two<R: Wait + Drop>(rt: &impl Abort, hall: &RingHall<R>, token: Token) {
+    let mut hand = Hand::new();
+    let first = hall.turn(token, 5, &mut hand);
+    holds(rt, "one more waits", first == Some(token));
+    hand.woken = None;
+    holds(rt, "it rests", hall.turn(token, 5, &mut hand) == None);
+}
+
+/// A machine sends two messages to another, and the first one wakes it.
+fn sends_two<R: Wait + Drop>(
+    rt: &impl Abort,
+    threads: &impl Wait,
+    hall: &RingHall<R>,
+    sender: MachineId,
+    target: MachineId,
+) {
+    let mut port = ring_port(rt, threads, hall, sender);
+    let token = Token {
+        machine: target,
+        wake: 1,
+    };
+    casts_one(rt, threads, hall, &mut port, Some(token));
+    casts_one(rt, threads, hall, &mut port, None);
+    has_two(rt, hall, token);
 }
 
 #[test]
@@ -61,20 +95,7 @@ fn a_message_wakes_its_target(rt: HostRuntime) {
     let hall = ring_hall(&rt, threads);
     let target = starts(&rt, &hall, id(0, 1));
     let sender = starts(&rt, &hall, target);
-    let mut port = ring_port(&rt, &threads, &hall, sender);
-    let token = Token {
-        machine: target,
-        wake: 1,
-    };
-    casts_one(&rt, &threads, &hall, &mut port, Some(token));
-    casts_one(&rt, &threads, &hall, &mut port, None);
-    let mut hand = Hand::new();
-    let first = hall.turn(token, 5, &mut hand);
-    holds(&rt, "one more waits", first == Some(token));
-    hand.woken = None;
-    holds(&rt, "it rests", hall.turn(token, 5, &mut hand) == None);
-    drop(hand);
-    drop(port);
+    sends_two(&rt, &threads, &hall, sender, target);
     drop(hall);
     rt.end_with_memory();
 }
@@ -89,6 +110,52 @@ fn are_lost<R: Wait + Drop>(rt: &impl Abort, hall: &RingHall<R>, stopped: u64, m
     same(rt, "what is lost", &hall.undelivered(), &lost);
 }
 
+/// A machine sends to one that never was.
+fn sends_astray<R: Wait + Drop>(
+    rt: &impl Abort,
+    threads: &impl Wait,
+    hall: &RingHall<R>,
+    astray: MachineId,
+) {
+    let mut port = ring_port(rt, threads, hall, astray);
+    casts_one(rt, threads, hall, &mut port, None);
+    are_lost(rt, hall, 0, 1);
+}
+
+/// A machine is stopped.
+fn ends<R: Wait + Drop>(rt: &impl Abort, threads: &impl Wait, hall: &RingHall<R>, id: MachineId) {
+    let machine = hall.machine(id).expect(rt, "it is there");
+    holds(rt, "it ends", machine.stop(threads, 3) == Ok(7));
+}
+
+/// Removes the machine of an id, and looks what comes of it.
+fn removes<R: Wait + Drop>(
+    rt: &impl Abort,
+    hall: &RingHall<R>,
+    id: MachineId,
+    word: &str,
+    wanted: Result<(), Refusal>,
+) {
+    holds(rt, word, hall.remove_stopped(id) == wanted);
+}
+
+/// A machine sends to one that has ended, and that is removed then.
+fn sends_to_one_that_ends<R: Wait + Drop>(
+    rt: &impl Abort,
+    threads: &impl Wait,
+    hall: &RingHall<R>,
+    sender: MachineId,
+    target: MachineId,
+) {
+    let mut port = ring_port(rt, threads, hall, sender);
+    ends(rt, threads, hall, target);
+    casts_one(rt, threads, hall, &mut port, None);
+    are_lost(rt, hall, 1, 1);
+    removes(rt, hall, target, "it is removed", Ok(()));
+    casts_one(rt, threads, hall, &mut port, None);
+    are_lost(rt, hall, 1, 2);
+}
+
 #[test]
 fn messages_to_machines_that_are_gone_are_counted(rt: HostRuntime) {
     let threads = rt;
@@ -97,22 +164,17 @@ fn messages_to_machines_that_are_gone_are_counted(rt: HostRuntime) {
     let target = starts(&rt, &hall, id(0, 1));
     let sender = starts(&rt, &hall, target);
     let astray = starts(&rt, &hall, id(9, 99));
-    let mut port = ring_port(&rt, &threads, &hall, sender);
-    let mut other = ring_port(&rt, &threads, &hall, astray);
-    casts_one(&rt, &threads, &hall, &mut other, None);
-    are_lost(&rt, &hall, 0, 1);
-    let machine = hall.machine(target).expect(&rt, "it is there");
-    holds(&rt, "it ends", machine.stop(&threads, 3) == Ok(7));
-    drop(machine);
-    casts_one(&rt, &threads, &hall, &mut port, None);
-    are_lost(&rt, &hall, 1, 1);
-    holds(&rt, "it is removed", hall.remove_stopped(target) == Ok(()));
-    casts_one(&rt, &threads, &hall, &mut port, None);
-    are_lost(&rt, &hall, 1, 2);
-    drop(other);
-    drop(port);
+    sends_astray(&rt, &threads, &hall, astray);
+    sends_to_one_that_ends(&rt, &threads, &hall, sender, target);
     drop(hall);
     rt.end_with_memory();
+}
+
+/// Takes a message out of a machine.
+fn takes_out(rt: &impl Abort, threads: &impl Wait, machine: &Machine<Ring>, token: Token) {
+    let taken = machine.take_out(threads, token);
+    let is_taken = matches!(taken, Ok(Some(_)));
+    holds(rt, "it is taken out", is_taken);
 }
 
 /// A machine that has ended with a message left is not removed before that was taken out.
@@ -125,16 +187,24 @@ fn is_removed_without_messages<R: Wait + Drop>(
 ) {
     let machine = hall.machine(sender).expect(rt, "it is there");
     holds(rt, "it ends", machine.stop(threads, 3) == Ok(7));
-    let early = hall.remove_stopped(sender);
-    let is_outstanding = early == Err(Refusal::NotStopped);
-    holds(rt, "a message is left", is_outstanding);
-    let taken = machine.take_out(threads, token);
-    let is_taken = matches!(taken, Ok(Some(_)));
-    holds(rt, "it is taken out", is_taken);
-    drop(taken);
+    let early = Err(Refusal::NotStopped);
+    removes(rt, hall, sender, "a message is left", early);
+    takes_out(rt, threads, &*machine, token);
     drop(machine);
-    let late = hall.remove_stopped(sender);
-    holds(rt, "it is removed", late == Ok(()));
+    removes(rt, hall, sender, "it is removed", Ok(()));
+}
+
+/// A turn leaves a machine's message. The machine's token.
+fn leaves_one<R: Wait + Drop>(
+    rt: &impl Abort,
+    threads: &impl Wait,
+    hall: &RingHall<R>,
+    port: &mut Port<Ring>,
+) -> Token {
+    let token = posts_number(rt, threads, port, 1);
+    let turned = hall.turn(token, 5, &mut Hand::new());
+    holds(rt, "its message is left", turned == Some(token));
+    token
 }
 
 #[test]
@@ -144,12 +214,8 @@ fn a_machine_whose_message_is_left_is_not_removed(rt: HostRuntime) {
     let hall = ring_hall(&rt, threads);
     let sender = starts(&rt, &hall, id(0, 1));
     let mut port = ring_port(&rt, &threads, &hall, sender);
-    let token = posts_number(&rt, &threads, &mut port, 1);
-    let mut hand = Hand::new();
-    let turned = hall.turn(token, 5, &mut hand);
-    holds(&rt, "its message is left", turned == Some(token));
+    let token = leaves_one(&rt, &threads, &hall, &mut port);
     is_removed_without_messages(&rt, &threads, &hall, sender, token);
-    drop(hand);
     drop(port);
     drop(hall);
     rt.end_with_memory();

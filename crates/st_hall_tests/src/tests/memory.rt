@@ -3,7 +3,7 @@ use super::begun::{hall, id};
 use super::host::{Host, holds};
 use super::mark::Mark;
 use super::plain::Plain;
-use st_hall::{Hall, MachineId, Refusal, Started};
+use st_hall::{Hall, MachineId, Refusal, Refused, Started};
 use std::alloc::Global;
 use std::process::Abort;
 use std::sync::{Arc, Wait};
@@ -19,6 +19,31 @@ fn mark(rt: &Host<impl Abort>, alloc: Global) -> Arc<Mark> {
     }
 }
 
+/// Looks that a hall is as before, whose first machine was not started for want of memory.
+fn is_as_before<R: Wait + Drop>(
+    rt: &impl Abort,
+    hall: &Hall<Plain, R>,
+    refusal: Refusal,
+    name: &str,
+) {
+    holds(rt, "memory was refused", refusal == Refusal::NoMemory);
+    holds(rt, "there is no machine", hall.is_empty());
+    let named = hall.whereis(name);
+    holds(rt, "there is no name", named == Err(Refusal::NoSuchName));
+}
+
+/// Starts the first machine of a hall again, with the module that came back.
+fn start_again<R: Wait + Drop>(
+    rt: &Host<impl Abort>,
+    hall: &Hall<Plain, R>,
+    refused: Refused<Plain>,
+    name: &str,
+) -> Option<Started> {
+    is_as_before(rt, hall, refused.refusal, name);
+    rt.retry();
+    hall.start(Some(name), refused.value, &(), 0).ok()
+}
+
 /// Starts the first machine of a hall. Where there is no memory, the module comes back, and it is started again.
 fn start<R: Wait + Drop>(
     rt: &Host<impl Abort>,
@@ -26,17 +51,10 @@ fn start<R: Wait + Drop>(
     plain: Plain,
     name: &str,
 ) -> Option<Started> {
-    let refused = match hall.start(Some(name), plain, &(), 0) {
-        Ok(started) => return Some(started),
-        Err(refused) => refused,
-    };
-    let refusal = refused.refusal;
-    holds(rt, "memory was refused", refusal == Refusal::NoMemory);
-    holds(rt, "there is no machine", hall.is_empty());
-    let named = hall.whereis(name);
-    holds(rt, "there is no name", named == Err(Refusal::NoSuchName));
-    rt.retry();
-    hall.start(Some(name), refused.value, &(), 0).ok()
+    match hall.start(Some(name), plain, &(), 0) {
+        Ok(started) => Some(started),
+        Err(refused) => start_again(rt, hall, refused, name),
+    }
 }
 
 /// A copy of a hall's names. Where there is no memory, it is made again.
@@ -71,24 +89,38 @@ fn ids<R: Wait + Drop>(
     }
 }
 
+/// Starts the first machine of a hall under a name.
+fn starts<R: Wait + Drop>(rt: &Host<impl Abort + AllocGlobal>, hall: &Hall<Plain, R>) {
+    let plain = Plain::new(&mark(rt, rt.alloc())).expect(rt, "an owner takes no memory");
+    let started = start(rt, hall, plain, "front");
+    let id = id(0, 1);
+    let wanted = Some(Started::Running { id, wake: None });
+    holds(rt, "it runs, and has no work", started == wanted);
+}
+
+/// Looks that the name of a hall's first machine is the only one.
+fn has_its_name<R: Wait + Drop>(rt: &Host<impl Abort + AllocGlobal>, hall: &Hall<Plain, R>) {
+    let names = names(rt, hall, rt.alloc());
+    holds(rt, "there is one name", names.len() == 1);
+    let (name, named) = &names[0];
+    holds(rt, "its name", name.as_str() == "front");
+    holds(rt, "its machine", *named == id(0, 1));
+}
+
+/// Looks that the id of a hall's first machine is the only one.
+fn has_its_id<R: Wait + Drop>(rt: &Host<impl Abort + AllocGlobal>, hall: &Hall<Plain, R>) {
+    let ids = ids(rt, hall, rt.alloc());
+    holds(rt, "its id", ids.as_slice() == [id(0, 1)].as_slice());
+}
+
 #[test]
 fn a_refused_call_changes_nothing(rt: HostRuntime) {
     let threads = rt;
     let rt = Host::new(rt);
-    let plain = Plain::new(&mark(&rt, rt.alloc())).expect(&rt, "an owner takes no memory");
     let hall = hall(&rt, threads);
-    let started = start(&rt, &hall, plain, "front");
-    let id = id(0, 1);
-    let wanted = Some(Started::Running { id, wake: None });
-    holds(&rt, "it runs, and has no work", started == wanted);
-    let names = names(&rt, &hall, rt.alloc());
-    holds(&rt, "there is one name", names.len() == 1);
-    let (name, named) = &names[0];
-    holds(&rt, "its name", name.as_str() == "front");
-    holds(&rt, "its machine", *named == id);
-    drop(names);
-    let ids = ids(&rt, &hall, rt.alloc());
-    holds(&rt, "its id", ids.as_slice() == [id].as_slice());
+    starts(&rt, &hall);
+    has_its_name(&rt, &hall);
+    has_its_id(&rt, &hall);
     drop(hall);
     rt.end();
 }

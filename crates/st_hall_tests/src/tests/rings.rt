@@ -1,9 +1,9 @@
 //! How halls of machines that send to each other begin, and what their journals tell of messages.
-use super::begun::id;
+use super::begun::{id, running};
 use super::host::{Host, got, holds};
 use super::ring::Ring;
 use st_client::cast;
-use st_hall::{Hall, Machine, MachineId, Port, Registry, Started, Token};
+use st_hall::{Hall, Machine, MachineId, Port, Registry, Token};
 use st_lock::{Answer, Command, Entry, JournalEntry, Source, Turned};
 use st_pool::Scheduler;
 use std::process::Abort;
@@ -19,10 +19,8 @@ pub fn ring_hall<R: Wait + Drop>(rt: &Host<impl AllocGlobal>, threads: R) -> Rin
 
 /// Starts a machine that sends to another.
 pub fn starts<R: Wait + Drop>(rt: &impl Abort, hall: &RingHall<R>, to: MachineId) -> MachineId {
-    match got(rt, "it is started", hall.start(None, Ring, &to, 0)) {
-        Started::Running { id, wake: None } => id,
-        _ => panic!(rt; "it runs, and has no work"),
-    }
+    let started = got(rt, "it is started", hall.start(None, Ring, &to, 0));
+    running(rt, started)
 }
 
 /// A port of a machine.
@@ -33,9 +31,17 @@ pub fn ring_port<R: Wait + Drop>(
     id: MachineId,
 ) -> Port<Ring> {
     let machine = hall.machine(id).expect(rt, "it is there");
-    let port = Machine::port(&machine, threads).expect(rt, "a port");
-    drop(machine);
-    port
+    Machine::port(&machine, threads).expect(rt, "a port")
+}
+
+/// The machine of the next slot of a ring of so many, whose serials are one above the slots.
+fn next_of(slot: usize, count: usize) -> MachineId {
+    let next = if slot.saturating_add(1) < count {
+        slot.saturating_add(1)
+    } else {
+        0
+    };
+    id(next, (next as u64).saturating_add(1))
 }
 
 /// Starts so many machines, each of which sends to the next one, and the last one to the first; and a port of each.
@@ -47,13 +53,7 @@ pub fn ring_of<R: Wait + Drop>(
 ) -> Vec<Port<Ring>> {
     let mut ports = Vec::new(rt.alloc());
     for slot in 0..count {
-        let next = if slot.saturating_add(1) < count {
-            slot.saturating_add(1)
-        } else {
-            0
-        };
-        let to = id(next, (next as u64).saturating_add(1));
-        let started = starts(rt, hall, to);
+        let started = starts(rt, hall, next_of(slot, count));
         let port = ring_port(rt, threads, hall, started);
         ports.push(port).expect(rt, "a place");
     }
@@ -92,6 +92,14 @@ pub struct Told {
     pub delivered: u64,
 }
 
+/// How many messages were sent by what a journal's entry tells.
+fn sent_by(entry: &JournalEntry<u32, u32>) -> u64 {
+    match &entry.answer {
+        Answer::Turn(Ok(Turned::Reported(report))) => report.sent.as_slice().len() as u64,
+        _ => 0,
+    }
+}
+
 impl Told {
     /// Nothing yet.
     pub fn new() -> Told {
@@ -104,16 +112,11 @@ impl Told {
 
     /// Counts an entry more.
     fn count(&mut self, entry: &JournalEntry<u32, u32>) {
-        if let Answer::Turn(Ok(Turned::Reported(report))) = &entry.answer {
-            let sent = report.sent.as_slice().len() as u64;
-            self.sent = self.sent.saturating_add(sent);
-        }
-        if matches!(entry.command, Command::TakeOut) {
-            self.taken = self.taken.saturating_add(1);
-        }
-        if matches!(entry.source, Source::Message(_, _)) {
-            self.delivered = self.delivered.saturating_add(1);
-        }
+        let taken = u64::from(matches!(entry.command, Command::TakeOut));
+        let delivered = u64::from(matches!(entry.source, Source::Message(_, _)));
+        self.sent = self.sent.saturating_add(sent_by(entry));
+        self.taken = self.taken.saturating_add(taken);
+        self.delivered = self.delivered.saturating_add(delivered);
     }
 
     /// Counts the entries of a machine more.
@@ -122,7 +125,6 @@ impl Told {
         for entry in journal.entries.as_slice() {
             self.count(entry);
         }
-        drop(journal);
     }
 }
 

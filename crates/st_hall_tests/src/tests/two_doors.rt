@@ -47,7 +47,6 @@ fn gathers(
 fn are_listed(rt: &impl Abort, gathered: &Gathered, wanted: [(Tag, char); 2]) {
     let list = got(rt, "there is memory", gathered.to_list());
     holds(rt, "both are listed", list.as_slice() == wanted.as_slice());
-    drop(list);
 }
 
 /// Looks what comes of asking about the requests.
@@ -61,18 +60,29 @@ fn shows(
     holds(rt, word, check_any(threads, gathered) == Ok(wanted));
 }
 
-/// The second of two requests to two doors is answered, and taken out; the first one waits.
-fn answers_the_second(
-    rt: &Host<impl Abort>,
+/// Gathers a request to each of two doors. The tag of the second one.
+fn gathers_two(
+    rt: &impl Abort,
     threads: &impl Wait,
     front: &mut Port<Door>,
     back: &mut Port<Door>,
     tray: &Tray,
     gathered: &mut Gathered,
-) {
+) -> Tag {
     let first = gathers(rt, threads, front, tray, gathered, 'a');
     let second = gathers(rt, threads, back, tray, gathered, 'b');
     are_listed(rt, gathered, [(first, 'a'), (second, 'b')]);
+    second
+}
+
+/// The second of two requests to two doors is answered, and taken out; the first one waits.
+fn answers_the_second(
+    rt: &impl Abort,
+    threads: &impl Wait,
+    back: &Port<Door>,
+    second: Tag,
+    gathered: &mut Gathered,
+) {
     let content = DoorContent::Length(60);
     let replied = reply(threads, back.machine(), second, content);
     holds(rt, "the reply is taken", replied == Ok(true));
@@ -82,20 +92,21 @@ fn answers_the_second(
     shows(rt, threads, gathered, "the first waits", Checked::NoReply);
 }
 
+/// Requests to two doors are gathered in one collection, and one of them is answered.
+fn asks_two(rt: &Host<impl Abort + AllocGlobal>, threads: &impl Wait) {
+    let mut doors = no_door(rt, rt.alloc());
+    let mut front = door(rt, threads, &mut doors, "front", 0);
+    let mut back = door(rt, threads, &mut doors, "back", 1);
+    let tray = Tray::new(rt.alloc(), false);
+    let mut gathered = Collection::new(rt.alloc());
+    let second = gathers_two(rt, threads, &mut front, &mut back, &tray, &mut gathered);
+    answers_the_second(rt, threads, &back, second, &mut gathered);
+}
+
 #[test]
 fn requests_to_two_doors_are_gathered(rt: HostRuntime) {
     let threads = rt;
     let rt = Host::with_memory(rt);
-    let mut doors = no_door(&rt, rt.alloc());
-    let mut front = door(&rt, &threads, &mut doors, "front", 0);
-    let mut back = door(&rt, &threads, &mut doors, "back", 1);
-    let tray = Tray::new(rt.alloc(), false);
-    let mut gathered = Collection::new(rt.alloc());
-    answers_the_second(&rt, &threads, &mut front, &mut back, &tray, &mut gathered);
-    drop(gathered);
-    drop(tray);
-    drop(back);
-    drop(front);
-    drop(doors);
+    asks_two(&rt, &threads);
     rt.end_with_memory();
 }
