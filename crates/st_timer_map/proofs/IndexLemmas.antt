@@ -1,6 +1,7 @@
 -- What the index tells, and its room.
 use Rattle.std.proofs.Common.{◌≡◌, ℕ, ◌≤◌, true, List, ap, ◌∙◌, arith}
 use Rattle.std.specs.Prelude.{Option, Some, None, is_some, IfSome}
+use Rattle.std.specs.Global.{Box}
 use Rattle.std.specs.HashMap.{HashMap, spare}
 use Rattle.st_events.specs.declared.timer.Timer.{Timer}
 use Rattle.st_timer_map.specs.declared.index.Index.{Index}
@@ -15,7 +16,7 @@ pub tells : {V : Type 0} (index : Index) (slots : List (Option (Bucket V))) (tim
     → is_some (value_of timer (rows_of slots)) ≡ true → HasPlace index timer
 tells index slots timer tied h = λ knows. ap is_some (tied timer knows) ∙ (known timer slots ∙ h)
 
-less_by : {S : Type 0} (named : Option (HashMap ℕ ℕ S)) (n m : ℕ) → n ≤ m → IfSome named (λ map. m ≤ spare map) → IfSome named (λ map. n ≤ spare map)
+less_by : {S : Type 0} (named : Option (Box (HashMap ℕ ℕ S))) (n m : ℕ) → n ≤ m → IfSome named (λ map. m ≤ spare map.value) → IfSome named (λ map. n ≤ spare map.value)
 less_by None n m less h = tt
 less_by (Some map) n m less h = omega arith
 

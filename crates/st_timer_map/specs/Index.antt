@@ -1,5 +1,6 @@
 -- The index from timers to places.
 use Rattle.std.specs.Prelude.{◌≡◌, ℕ, ◌≤◌, Bool, true, nat_eq, Option, Some, None, is_some, IfSome, List}
+use Rattle.std.specs.Global.{Box}
 use Rattle.std.specs.HashMap.{HashMap, get, spare}
 use Rattle.st_events.specs.declared.timer.Timer.{Timer}
 use Rattle.st_events.specs.declared.timer.Timer.TheVariants as timer
@@ -14,9 +15,9 @@ knows index timer.State = true
 knows index (timer.Named name) = is_some index.named
 
 -- the place of a name
-abbrev pub name_place_in : {S : Type 0} → Option (HashMap ℕ ℕ S) → ℕ → Option ℕ
+abbrev pub name_place_in : {S : Type 0} → Option (Box (HashMap ℕ ℕ S)) → ℕ → Option ℕ
 name_place_in None name = None
-name_place_in (Some map) name = get nat_eq map name
+name_place_in (Some map) name = get nat_eq map.value name
 
 -- the place that it tells of a timer
 abbrev pub place_in : Index → Timer → Option ℕ
@@ -26,7 +27,7 @@ place_in index (timer.Named name) = name_place_in index.named name
 
 -- so many timers more can be written that it does not tell of, without memory
 abbrev pub HasRoom : Index → ℕ → Type 0
-HasRoom index count = IfSome index.named (λ map. count ≤ spare map)
+HasRoom index count = IfSome index.named (λ map. count ≤ spare map.value)
 
 -- where a timer's place is written anew it takes no room
 abbrev pub HasPlace : Index → Timer → Type 0

@@ -9,12 +9,13 @@ use st_events::Timer;
 use std::alloc::AllocError;
 use std::collections::HashMap;
 
-/// The places of timers. Those of the names are place_in only once a map for them is given.
+/// The places of timers. Those of the names are told only once a map for them is given. The map lies in a box, so that
+/// whoever has no names carries a pointer alone.
 #[derive(Drop)]
 pub(crate) struct Index {
     event: Option<usize>,
     state: Option<usize>,
-    named: Option<HashMap<u32, usize>>,
+    named: Option<Box<HashMap<u32, usize>>>,
 }
 
 impl Index {
@@ -60,7 +61,7 @@ impl Index {
         }
     }
 
-    /// Writes the place of a timer. Where it place_in of this timer, the place is written over and no room is taken.
+    /// Writes the place of a timer. Where it tells of this timer, the place is written over and no room is taken.
     pub(crate) fn write(&mut self, timer: Timer, place: usize)
         requires { HasPlace self.old timer ⊎ HasRoom self.old 1 }
         ensures knows { (other : Timer) → knows self.new other ≡ knows self.old other }
@@ -79,7 +80,7 @@ impl Index {
         }
     }
 
-    /// HasPlace of this timer no more. The room stays.
+    /// It tells of this timer no more. The room stays.
     pub(crate) fn forget(&mut self, timer: Timer)
         ensures knows { (other : Timer) → knows self.new other ≡ knows self.old other }
         ensures places { (other : Timer) → place_in self.new other ≡ (if same_timer timer other then None else place_in self.old other) }
@@ -110,7 +111,7 @@ impl Index {
     }
 
     /// Takes a map for the names.
-    pub(crate) fn learn(&mut self, named: HashMap<u32, usize>)
+    pub(crate) fn learn(&mut self, named: Box<HashMap<u32, usize>>)
         ensures { self.new ≡ record self.old { named = Some named } }
     {
         self.named = Some(named);

@@ -177,7 +177,8 @@ pub(crate) fn reserve_places<V>(
     ensures kept { OnErr result ((room : ℕ) → HasRoom index.old room → HasRoom index.new room) }
 {
     if capacity > WALKED && !index.has_names() {
-        index.learn(places_by_name(slots, alloc, count)?);
+        let named = places_by_name(slots, alloc, count)?;
+        index.learn(Box::new(alloc, named)?);
         return Ok(());
     }
     index.reserve(count)

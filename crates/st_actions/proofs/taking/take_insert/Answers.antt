@@ -5,6 +5,9 @@ use Rattle.st_actions.specs.Taking.{all_settings_of, as_reply, as_insert, as_set
 use Rattle.st_actions.proofs.TakingLemmas.{none_at, last_out, other_out, none_behind, none_behind_out, replies_are, inserts_are, settings_are, sends_are}
 use Rattle.st_actions.proofs.taking.take_insert.Goals as goal
 
+pub unreachable-unreachable : goal.unreachable-unreachable
+unreachable-unreachable g c = c.unreachable.type_inv
+
 pub returns-then-not-is_insert_at-clause-none_behind : goal.returns-then-not-is_insert_at-clause-none_behind
 returns-then-not-is_insert_at-clause-none_behind g c =
     none_behind as_insert Hibernate refl inserts_of inserts_are c.args.actions.now c.args.index c.requires.last

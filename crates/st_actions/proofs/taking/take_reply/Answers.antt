@@ -5,6 +5,9 @@ use Rattle.st_actions.specs.Taking.{all_settings_of, as_reply, as_insert, as_set
 use Rattle.st_actions.proofs.TakingLemmas.{none_at, first_out, other_out, none_in_front, none_in_front_out, replies_are, inserts_are, settings_are, sends_are}
 use Rattle.st_actions.proofs.taking.take_reply.Goals as goal
 
+pub unreachable-unreachable : goal.unreachable-unreachable
+unreachable-unreachable g c = c.unreachable.type_inv
+
 pub returns-then-not-is_reply_at-clause-none_before : goal.returns-then-not-is_reply_at-clause-none_before
 returns-then-not-is_reply_at-clause-none_before g c =
     none_in_front as_reply Hibernate refl replies_of replies_are c.args.actions.now c.args.index c.requires.first

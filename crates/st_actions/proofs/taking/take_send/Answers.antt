@@ -5,6 +5,9 @@ use Rattle.st_actions.specs.Taking.{as_send}
 use Rattle.st_actions.proofs.TakingLemmas.{none_at, first_out, none_in_front, none_in_front_out, sends_are}
 use Rattle.st_actions.proofs.taking.take_send.Goals as goal
 
+pub unreachable-unreachable : goal.unreachable-unreachable
+unreachable-unreachable g c = c.unreachable.type_inv
+
 pub returns-then-not-is_send_at-clause-none_before : goal.returns-then-not-is_send_at-clause-none_before
 returns-then-not-is_send_at-clause-none_before g c =
     none_in_front as_send Hibernate refl sends_of sends_are c.args.actions.now c.args.index c.requires.first

@@ -5,6 +5,9 @@ use Rattle.st_actions.specs.Taking.{all_settings_of, as_setting, as_send}
 use Rattle.st_actions.proofs.TakingLemmas.{none_at, some_at, first_taken, other_out, none_in_front, none_in_front_out, settings_are, sends_are, setting_is_no_send}
 use Rattle.st_actions.proofs.taking.take_setting.Goals as goal
 
+pub unreachable-unreachable : goal.unreachable-unreachable
+unreachable-unreachable g c = c.unreachable.type_inv
+
 pub returns-then-not-is_setting_at-clause-none_before : goal.returns-then-not-is_setting_at-clause-none_before
 returns-then-not-is_setting_at-clause-none_before g c =
     none_in_front as_setting Hibernate refl all_settings_of settings_are c.args.actions.now c.args.index c.requires.first
