@@ -10,9 +10,8 @@ ghost use Rattle.st_hall.specs.Hall.{StartsSomewhere, IsNamedSomewhere, AreNames
 ghost use Rattle.st_hall.specs.Outstanding.{is_outstanding};
 
 use crate::copies::copied;
-use crate::outstanding::{delivered, served, unserved};
-use crate::{Served, Undelivered};
-use st_lock::Service;
+use crate::outstanding::{delivered, unserved};
+use crate::{FoundMachine, Served, Undelivered};
 use st_pool::{Hand, Message};
 use st_registry::{
     Machine, MachineId, Module, Refusal, Refused, Registry, Started, Token, a_registry_is_in_order,
@@ -108,6 +107,25 @@ impl<M: Module, R: Wait + Drop> Hall<M, R> {
         ensures refusals { IfErr result (λ refusal. (refusal ≡ NoSuchMachine) ⊎ (refusal ≡ NoMemory)) }
     {
         self.registry.read(&self.rt).machine(id)
+    }
+
+    /// The machine of an id, to be served more than once.
+    ///
+    /// Refused as `machine` is.
+    ///
+    /// Ours: docs/DECISIONS.md, Halls.
+    pub fn find(&self, id: MachineId) -> Result<FoundMachine<'_, M, R>, Refusal>
+        ensures id { IfOk result (λ found. found ≡ id) }
+
+        ensures refusals { IfErr result (λ refusal. (refusal ≡ NoSuchMachine) ⊎ (refusal ≡ NoMemory)) }
+    {
+        let machine = self.machine(id)?;
+        Ok(FoundMachine::new(self, machine))
+    }
+
+    /// What the machines' locks are taken by.
+    pub(crate) fn rt(&self) -> &R {
+        &self.rt
     }
 
     /// A copy of the names, each with the id of its machine, in order of registration.
@@ -211,23 +229,14 @@ impl<M: Module, R: Wait + Drop> Hall<M, R> {
         if let Some(message) = hand.message.take() {
             return self.deliver(token, message, hand);
         }
-        let machine = match self.machine(token.machine) {
-            Ok(machine) => machine,
-            Err(refusal) => return unserved(token, refusal),
-        };
-        match machine.serve(&self.rt, token, now) {
-            Ok(Service::Turned(next)) => served(token, next),
-            Ok(Service::Sent(message)) => {
-                // Nobody has a machine's lock while another machine's is taken.
-                drop(machine);
-                self.deliver(token, message, hand)
-            }
-            Err(refused) => unserved(token, refused.refusal),
+        match self.find(token.machine) {
+            Ok(machine) => machine.serve(token, now, hand),
+            Err(refusal) => unserved(token, refusal),
         }
     }
 
     /// Delivers a message of a token's machine, which is to be served again.
-    fn deliver(
+    pub(crate) fn deliver(
         &self,
         token: Token,
         message: Message<M::Content>,

@@ -3,12 +3,14 @@
 #![tactic(auto)]
 
 mod copies;
+mod found_machine;
 mod hall;
 mod machines;
 mod outstanding;
 mod served;
 mod undelivered;
 
+pub use found_machine::FoundMachine;
 pub use hall::Hall;
 pub use served::Served;
 pub use st_pool::{Hand, Message};

@@ -19,7 +19,7 @@ use std::sync::{Arc, Wait};
 pub(crate) struct ServedHall<M: Module, R: Wait + Clock + Drop, O: Observer<M> + Drop> {
     rt: R,
     hall: Arc<Hall<M, R>, Global>,
-    slices: Slices<Hall<M, R>>,
+    slices: Slices<M, R>,
     observer: O,
     limit: Option<usize>,
     closing: Closing,
@@ -30,7 +30,7 @@ impl<M: Module, R: Wait + Clock + Drop, O: Observer<M> + Drop> ServedHall<M, R, 
     pub(crate) fn new(
         rt: R,
         hall: Arc<Hall<M, R>, Global>,
-        slices: Slices<Hall<M, R>>,
+        slices: Slices<M, R>,
         observer: O,
         limit: Option<usize>,
         closing: Closing,

@@ -1,9 +1,10 @@
 //! A hall's turns, one after another, for machines that send: what is delivered, and what is lost.
 use super::begun::id;
-use super::host::{Host, holds, same};
+use super::host::{Host, got, holds, same};
 use super::ring::Ring;
 use super::rings::{RingHall, posts_number, ring_hall, ring_port, starts};
 use st_hall::{Hand, Machine, MachineId, Port, Refusal, Token, Undelivered};
+use st_pool::Machines;
 use std::process::Abort;
 use std::sync::Wait;
 
@@ -61,13 +62,23 @@ fn casts_one<R: Wait + Drop>(
     rests(rt, hall, token, &mut hand, woken);
 }
 
+/// The machine of a token has its last turn once it was found, and no other by that token.
+fn has_its_last<R: Wait + Drop>(rt: &impl Abort, hall: &RingHall<R>, token: Token) {
+    let mut hand = Hand::new();
+    let found = got(rt, "it is there", hall.find(token.machine));
+    same(rt, "its id", &found.id(), &token.machine);
+    holds(rt, "it rests", found.turn(token, 5, &mut hand) == None);
+    hand.woken = None;
+    let refusal = found.serve(token, 5, &mut hand).refusal;
+    holds(rt, "it has rested", refusal == Some(Refusal::NotQueued));
+}
+
 /// The machine of a token, to which two messages came, has two turns by one hand.
 fn has_two<R: Wait + Drop>(rt: &impl Abort, hall: &RingHall<R>, token: Token) {
     let mut hand = Hand::new();
     let first = hall.turn(token, 5, &mut hand);
     holds(rt, "one more waits", first == Some(token));
-    hand.woken = None;
-    holds(rt, "it rests", hall.turn(token, 5, &mut hand) == None);
+    has_its_last(rt, hall, token);
 }
 
 /// A machine sends two messages to another, and the first one wakes it.

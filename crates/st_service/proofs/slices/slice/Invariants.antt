@@ -1,6 +1,6 @@
 use Rattle.std.proofs.Common.{◌≡◌}
 use Rattle.std.specs.Option.{IfSome, IsSome}
-use Rattle.st_service.proofs.slices.SlicesMachines.turn.Given as goal
+use Rattle.st_service.proofs.slices.slice.Given as goal
 
 -- what the last turn answered holds of the slice's token and moment
 abbrev pub invariant-loop : goal.invariant-loop
