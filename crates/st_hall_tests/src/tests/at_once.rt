@@ -137,13 +137,14 @@ fn calls(
 
 /// A call to the only door comes to this.
 fn comes_to(
-    rt: &Host<impl Abort>,
+    rt: &Host<impl Abort + AllocGlobal>,
     threads: &impl Wait,
-    mut doors: Doors,
+    mut doors: Box<Doors>,
     is_greedy: bool,
     wanted: Collected<DoorContent>,
 ) {
-    let mut port = only_port(rt, threads, &mut doors);
+    let port = only_port(rt, threads, &mut doors);
+    let mut port = rt.boxed(rt.alloc(), port);
     let wake = at_once(rt, &port, is_greedy);
     let came = calls(rt, threads, &mut port, &wake);
     holds(rt, "what the call comes to", came == wanted);

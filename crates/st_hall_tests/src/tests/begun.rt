@@ -17,8 +17,11 @@ pub fn mark(rt: &Host<impl Abort + AllocGlobal>, is_patient: bool) -> Arc<Mark> 
 }
 
 /// A hall with no machine.
-pub fn hall<R: Wait + Drop>(rt: &Host<impl AllocGlobal>, threads: R) -> Hall<Plain, R> {
-    Hall::new(threads, Registry::new(rt.alloc()))
+pub fn hall<R: Wait + Drop>(
+    rt: &Host<impl Abort + AllocGlobal>,
+    threads: R,
+) -> Box<Hall<Plain, R>> {
+    rt.boxed(rt.alloc(), Hall::new(threads, Registry::new(rt.alloc())))
 }
 
 /// A hall with so many machines, from the slot 0 on, each with a serial one above its slot.
@@ -28,11 +31,12 @@ pub fn filled<R: Wait + Drop>(
     mark: &Arc<Mark>,
     count: usize,
 ) -> Arc<Hall<Plain, R>> {
-    let hall = hall(rt, threads);
+    let hall = Hall::new(threads, Registry::new(rt.alloc()));
+    let hall = Arc::new(rt.alloc(), hall).expect(rt, "a hall");
     for _ in 0..count {
         start(rt, &hall, mark, None);
     }
-    Arc::new(rt.alloc(), hall).expect(rt, "a hall")
+    hall
 }
 
 /// The id of a machine that was started, and has no work.
@@ -55,8 +59,8 @@ pub fn start<R: Wait + Drop>(
     running(rt, started)
 }
 
-/// A port of the machine of an id.
-pub fn port<R: Wait + Drop>(
+/// Opens a port of the machine of an id.
+fn opened<R: Wait + Drop>(
     rt: &impl Abort,
     threads: &impl Wait,
     hall: &Hall<Plain, R>,
@@ -64,6 +68,16 @@ pub fn port<R: Wait + Drop>(
 ) -> Port<Plain> {
     let machine = hall.machine(id).expect(rt, "it is there");
     Machine::port(&machine, threads).expect(rt, "a port")
+}
+
+/// A port of the machine of an id.
+pub fn port<R: Wait + Drop>(
+    rt: &Host<impl Abort + AllocGlobal>,
+    threads: &impl Wait,
+    hall: &Hall<Plain, R>,
+    id: MachineId,
+) -> Box<Port<Plain>> {
+    rt.boxed(rt.alloc(), opened(rt, threads, hall, id))
 }
 
 /// A port of each of so many machines of a hall that was filled.
@@ -76,7 +90,7 @@ pub fn ports<R: Wait + Drop>(
     let mut ports = Vec::new(rt.alloc());
     for slot in 0..count {
         let serial = (slot as u64).saturating_add(1);
-        let port = port(rt, threads, hall, id(slot, serial));
+        let port = opened(rt, threads, hall, id(slot, serial));
         ports.push(port).expect(rt, "a place");
     }
     ports

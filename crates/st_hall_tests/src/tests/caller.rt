@@ -19,12 +19,10 @@ pub fn first_caller(
     rt: &Host<impl Abort + AllocGlobal>,
     threads: &impl Wait,
     doors: &mut Doors,
-) -> Caller {
+) -> Box<Caller> {
     let tray = Arc::new(rt.alloc(), Tray::new(rt.alloc(), true)).expect(rt, "a tray");
-    Caller {
-        port: only_port(rt, threads, doors),
-        tray,
-    }
+    let port = only_port(rt, threads, doors);
+    rt.boxed(rt.alloc(), Caller { port, tray })
 }
 
 /// What a call came to: the length that was replied, or the reason for which the door ended.

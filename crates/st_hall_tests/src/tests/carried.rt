@@ -5,7 +5,7 @@ use super::begun::{id, mark};
 use super::host::{Host, got, holds, same};
 use super::ring::Ring;
 use super::rings::{
-    RingHall, Told, casts_number, ring_hall, ring_of, ring_port, shared, starts, told_of,
+    RingHall, Told, casts_number, opened, ring_hall, ring_of, shared, starts, told_of,
 };
 use super::turnstile::Turnstile;
 use st_hall::{Port, Undelivered};
@@ -34,10 +34,11 @@ fn pool<R: Runtime>(
     workers: usize,
     hall: &Arc<RingHall<R>>,
     gate: &Arc<Turnstile>,
-) -> Pool<R, u32>
+) -> Box<Pool<R, u32>>
     requires { (1 ≤ workers) × (workers ≤ 16) }
 {
-    Pool::start(threads, rt.alloc(), workers, hall, gate).expect(rt, "a pool")
+    let pool = Pool::start(threads, rt.alloc(), workers, hall, gate);
+    rt.boxed(rt.alloc(), pool.expect(rt, "a pool"))
 }
 
 /// A gate that is open.
@@ -56,7 +57,7 @@ fn senders<R: Wait + Drop>(
     let mut ports = Vec::new(rt.alloc());
     for _ in 0..SENDERS {
         let sender = starts(rt, hall, target);
-        let port = ring_port(rt, threads, hall, sender);
+        let port = opened(rt, threads, hall, sender);
         ports.push(port).expect(rt, "a place");
     }
     ports

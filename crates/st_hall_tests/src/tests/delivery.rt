@@ -38,8 +38,8 @@ fn port_again(
     got(rt, "one allocation alone is refused", again)
 }
 
-/// A port of a machine. Where there is no memory, it is opened again.
-fn port<R: Wait + Drop>(
+/// Opens a port of a machine. Where there is no memory, it is opened again.
+fn opened<R: Wait + Drop>(
     rt: &Host<impl Abort>,
     threads: &impl Wait,
     hall: &RingHall<R>,
@@ -50,6 +50,16 @@ fn port<R: Wait + Drop>(
         Ok(port) => port,
         Err(_) => port_again(rt, threads, &machine),
     }
+}
+
+/// A port of a machine.
+fn port<R: Wait + Drop>(
+    rt: &Host<impl Abort + AllocGlobal>,
+    threads: &impl Wait,
+    hall: &RingHall<R>,
+    id: MachineId,
+) -> Box<Port<Ring>> {
+    rt.boxed(rt.alloc(), opened(rt, threads, hall, id))
 }
 
 /// Posts a content again.
@@ -142,7 +152,7 @@ fn serves_to_rest<R: Wait + Drop>(
 
 /// Serves a machine that sends one message, which wakes the machine of this token.
 fn wakes<R: Wait + Drop>(
-    rt: &Host<impl Abort>,
+    rt: &Host<impl Abort + AllocGlobal>,
     threads: &impl Wait,
     hall: &RingHall<R>,
     sender: MachineId,

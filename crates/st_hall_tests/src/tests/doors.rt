@@ -32,15 +32,16 @@ fn code(rt: &Host<impl Abort>, alloc: Global, digits: &[u8]) -> Digits {
 }
 
 /// A registry with no door, for doors of this code.
-pub fn no_door_of(rt: &Host<impl Abort>, alloc: Global, digits: &[u8]) -> Doors {
-    Doors {
+pub fn no_door_of(rt: &Host<impl Abort>, alloc: Global, digits: &[u8]) -> Box<Doors> {
+    let doors = Doors {
         registry: Registry::new(alloc),
         code: code(rt, alloc, digits),
-    }
+    };
+    rt.boxed(alloc, doors)
 }
 
 /// A registry with no door, for doors of the code 1 2 3 4.
-pub fn no_door(rt: &Host<impl Abort>, alloc: Global) -> Doors {
+pub fn no_door(rt: &Host<impl Abort>, alloc: Global) -> Box<Doors> {
     no_door_of(rt, alloc, &[1, 2, 3, 4])
 }
 

@@ -17,7 +17,7 @@ use std::sync::Wait;
 /// and those that are gathered.
 #[derive(Drop)]
 pub struct Doorway {
-    doors: Doors,
+    doors: Box<Doors>,
     pub port: Port<Door>,
     pub tray: Tray,
     pub asked: Option<RequestId<Door>>,
@@ -30,16 +30,17 @@ pub fn only_door(
     threads: &impl Wait,
     alloc: Global,
     is_open: bool,
-) -> Doorway {
+) -> Box<Doorway> {
     let mut doors = no_door(rt, alloc);
     let port = only_port(rt, threads, &mut doors);
-    Doorway {
+    let doorway = Doorway {
         doors,
         port,
         tray: Tray::new(alloc, is_open),
         asked: None,
         gathered: Collection::new(alloc),
-    }
+    };
+    rt.boxed(alloc, doorway)
 }
 
 impl Doorway {

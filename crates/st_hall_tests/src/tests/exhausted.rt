@@ -89,7 +89,7 @@ fn serves_in_vain<R: Runtime>(
 ) {
     let sole = sole(rt, threads, machine);
     let pool = Pool::start(threads, rt.alloc(), 2, &sole, gate);
-    let mut pool = pool.expect(rt, "a pool");
+    let mut pool = rt.boxed(rt.alloc(), pool.expect(rt, "a pool"));
     holds(rt, "it is scheduled", pool.schedule(token) == Ok(()));
     goes_round(rt, threads, &pool, &**gate, &**machine);
     is_over(rt, &mut pool);

@@ -104,7 +104,7 @@ fn is_found<R: Wait + Drop>(
 
 /// Serves a machine by one token, and removes it while its next token is outstanding.
 fn is_served_and_removed<R: Wait + Drop>(
-    rt: &impl Abort,
+    rt: &Host<impl Abort + AllocGlobal>,
     threads: &impl Wait,
     hall: &Hall<Plain, R>,
     id: MachineId,

@@ -83,7 +83,7 @@ fn has_two<R: Wait + Drop>(rt: &impl Abort, hall: &RingHall<R>, token: Token) {
 
 /// A machine sends two messages to another, and the first one wakes it.
 fn sends_two<R: Wait + Drop>(
-    rt: &impl Abort,
+    rt: &Host<impl Abort + AllocGlobal>,
     threads: &impl Wait,
     hall: &RingHall<R>,
     sender: MachineId,
@@ -123,7 +123,7 @@ fn are_lost<R: Wait + Drop>(rt: &impl Abort, hall: &RingHall<R>, stopped: u64, m
 
 /// A machine sends to one that never was.
 fn sends_astray<R: Wait + Drop>(
-    rt: &impl Abort,
+    rt: &Host<impl Abort + AllocGlobal>,
     threads: &impl Wait,
     hall: &RingHall<R>,
     astray: MachineId,
@@ -152,7 +152,7 @@ fn removes<R: Wait + Drop>(
 
 /// A machine sends to one that has ended, and that is removed then.
 fn sends_to_one_that_ends<R: Wait + Drop>(
-    rt: &impl Abort,
+    rt: &Host<impl Abort + AllocGlobal>,
     threads: &impl Wait,
     hall: &RingHall<R>,
     sender: MachineId,

@@ -13,8 +13,11 @@ use std::sync::{Arc, Wait};
 pub type RingHall<R> = Hall<Ring, R>;
 
 /// A hall with no machine.
-pub fn ring_hall<R: Wait + Drop>(rt: &Host<impl AllocGlobal>, threads: R) -> RingHall<R> {
-    Hall::new(threads, Registry::new(rt.alloc()))
+pub fn ring_hall<R: Wait + Drop>(
+    rt: &Host<impl Abort + AllocGlobal>,
+    threads: R,
+) -> Box<RingHall<R>> {
+    rt.boxed(rt.alloc(), Hall::new(threads, Registry::new(rt.alloc())))
 }
 
 /// Starts a machine that sends to another.
@@ -23,8 +26,8 @@ pub fn starts<R: Wait + Drop>(rt: &impl Abort, hall: &RingHall<R>, to: MachineId
     running(rt, started)
 }
 
-/// A port of a machine.
-pub fn ring_port<R: Wait + Drop>(
+/// Opens a port of a machine.
+pub fn opened<R: Wait + Drop>(
     rt: &impl Abort,
     threads: &impl Wait,
     hall: &RingHall<R>,
@@ -32,6 +35,16 @@ pub fn ring_port<R: Wait + Drop>(
 ) -> Port<Ring> {
     let machine = hall.machine(id).expect(rt, "it is there");
     Machine::port(&machine, threads).expect(rt, "a port")
+}
+
+/// A port of a machine.
+pub fn ring_port<R: Wait + Drop>(
+    rt: &Host<impl Abort + AllocGlobal>,
+    threads: &impl Wait,
+    hall: &RingHall<R>,
+    id: MachineId,
+) -> Box<Port<Ring>> {
+    rt.boxed(rt.alloc(), opened(rt, threads, hall, id))
 }
 
 /// The machine of the next slot of a ring of so many, whose serials are one above the slots.
@@ -54,7 +67,7 @@ pub fn ring_of<R: Wait + Drop>(
     let mut ports = Vec::new(rt.alloc());
     for slot in 0..count {
         let started = starts(rt, hall, next_of(slot, count));
-        let port = ring_port(rt, threads, hall, started);
+        let port = opened(rt, threads, hall, started);
         ports.push(port).expect(rt, "a place");
     }
     ports
@@ -140,7 +153,7 @@ pub fn told_of(rt: &impl Abort, threads: &impl Wait, ports: &Vec<Port<Ring>>) ->
 /// An owner of the hall.
 pub fn shared<R: Wait + Drop>(
     rt: &Host<impl Abort + AllocGlobal>,
-    hall: RingHall<R>,
+    hall: Box<RingHall<R>>,
 ) -> Arc<RingHall<R>> {
-    Arc::new(rt.alloc(), hall).expect(rt, "a hall")
+    Arc::new(rt.alloc(), Box::into_inner(hall)).expect(rt, "a hall")
 }

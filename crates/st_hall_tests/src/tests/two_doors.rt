@@ -13,16 +13,16 @@ type Gathered = Collection<Door, char>;
 
 /// Starts a door under a name, which gets this id, and answers a port of it.
 fn door(
-    rt: &Host<impl Abort>,
+    rt: &Host<impl Abort + AllocGlobal>,
     threads: &impl Wait,
     doors: &mut Doors,
     name: &str,
     slot: usize,
-) -> Port<Door> {
+) -> Box<Port<Door>> {
     let its = id(slot, (slot as u64).saturating_add(1));
     starts(rt, threads, doors, Some(name), its);
     let machine = got(rt, "the machine is there", doors.registry.machine(its));
-    port(rt, threads, &machine)
+    rt.boxed(rt.alloc(), port(rt, threads, &machine))
 }
 
 /// Asks a door for the length of its code, whose token comes back, and adds the request. Its tag.
@@ -98,7 +98,7 @@ fn asks_two(rt: &Host<impl Abort + AllocGlobal>, threads: &impl Wait) {
     let mut front = door(rt, threads, &mut doors, "front", 0);
     let mut back = door(rt, threads, &mut doors, "back", 1);
     let tray = Tray::new(rt.alloc(), false);
-    let mut gathered = Collection::new(rt.alloc());
+    let mut gathered = rt.boxed(rt.alloc(), Collection::new(rt.alloc()));
     let second = gathers_two(rt, threads, &mut front, &mut back, &tray, &mut gathered);
     answers_the_second(rt, threads, &back, second, &mut gathered);
 }

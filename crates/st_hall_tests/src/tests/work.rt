@@ -56,7 +56,7 @@ fn serves<R: Runtime>(
 {
     let mut ports = ports(rt, &threads, hall, work.machines);
     let pool = Pool::start(threads, rt.alloc(), workers, hall, gate);
-    let mut pool = pool.expect(rt, "a pool");
+    let mut pool = rt.boxed(rt.alloc(), pool.expect(rt, "a pool"));
     casts_all(rt, threads, &pool, &mut ports, work);
     pool.drain();
     are_at_rest(rt, &threads, &mut ports, work.entries);

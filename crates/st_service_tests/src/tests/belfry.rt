@@ -9,7 +9,7 @@ use st_hall::{Hall, Machine, MachineId, Registry, Started};
 use st_lock::{Answer, Command, Entry, JournalEntry, Next};
 use st_pool::{Runtime, Scheduler};
 use st_ticker::{TickedPool, Ticker, TickerThread};
-use st_wake::schedule;
+use st_wake::{Token, schedule};
 use std::process::Abort;
 use std::rt::Clock;
 use std::sync::Arc;
@@ -45,16 +45,17 @@ pub struct Belfry<R: Threads> {
 }
 
 /// A hall with no bell, and its ticker.
-pub fn no_bell<R: Threads>(rt: &Host<impl Abort + AllocGlobal>, threads: R) -> Belfry<R> {
+pub fn no_bell<R: Threads>(rt: &Host<impl Abort + AllocGlobal>, threads: R) -> Box<Belfry<R>> {
     let start = got(rt, "the clock is read", Instant::now(&threads));
     let hall = Hall::new(threads, Registry::new(rt.alloc()));
     let hall = Arc::new(rt.alloc(), hall).expect(rt, "a hall");
     let ticker = Ticker::new(threads, rt.alloc(), start, &hall).expect(rt, "a ticker");
-    Belfry {
+    let belfry = Belfry {
         threads,
         hall,
         ticker,
-    }
+    };
+    rt.boxed(rt.alloc(), belfry)
 }
 
 impl<R: Threads> Belfry<R> {
@@ -75,9 +76,9 @@ impl<R: Threads> Belfry<R> {
     }
 
     /// A pool of two workers.
-    pub fn pool(&self, rt: &Host<impl Abort + AllocGlobal>) -> BellPool<R> {
+    pub fn pool(&self, rt: &Host<impl Abort + AllocGlobal>) -> Box<BellPool<R>> {
         let pool = TickedPool::start(self.threads, rt.alloc(), 2, &self.hall, &self.ticker);
-        pool.expect(rt, "a pool")
+        rt.boxed(rt.alloc(), pool.expect(rt, "a pool"))
     }
 
     /// The thread of the ticker, whose tokens nobody serves: a shelf refuses so many, and then takes one.
@@ -85,11 +86,11 @@ impl<R: Threads> Belfry<R> {
         &self,
         rt: &Host<impl Abort + AllocGlobal>,
         refusals: u64,
-    ) -> (Shelf, BellThread<R>) {
+    ) -> (Shelf, Box<BellThread<R>>) {
         let shelf = Shelf::new(rt.alloc(), refusals).expect(rt, "a shelf");
         let theirs = shelf.another().expect(rt, "an owner");
         let thread = TickerThread::start(self.threads, &self.ticker, theirs);
-        (shelf, thread.expect(rt, "a thread"))
+        (shelf, rt.boxed(rt.alloc(), thread.expect(rt, "a thread")))
     }
 
     /// Stops a bell, and removes it.
@@ -108,16 +109,17 @@ impl<R: Threads> Belfry<R> {
     /// Casts an order to a bell.
     pub fn tells(&self, rt: &impl Abort, id: MachineId, scheduler: &Scheduler, order: Order) {
         let machine = self.bell(rt, id);
-        let mut port = Machine::port(&machine, &self.threads).expect(rt, "a port");
-        let posted = got(
-            rt,
-            "it is posted",
-            port.post(&self.threads, Entry::Cast, order),
-        );
-        let left = schedule(&self.threads, scheduler, posted.wake);
+        let token = self.posts(rt, &machine, order);
+        let left = schedule(&self.threads, scheduler, token);
         holds(rt, "its token is scheduled", left == None);
-        drop(port);
         drop(machine);
+    }
+
+    /// Posts an order through a port of its own, and answers the token that was issued, if one was.
+    fn posts(&self, rt: &impl Abort, machine: &Arc<Machine<Bell>>, order: Order) -> Option<Token> {
+        let mut port = Machine::port(machine, &self.threads).expect(rt, "a port");
+        let posted = port.post(&self.threads, Entry::Cast, order);
+        got(rt, "it is posted", posted).wake
     }
 
     /// Waits until a bell rang so often. That it does within some seconds is tested.
@@ -137,20 +139,14 @@ impl<R: Threads> Belfry<R> {
     /// Serves a bell once with an order. No ticker is told of it.
     pub fn serves(&self, rt: &impl Abort, id: MachineId, order: Order) {
         let machine = self.bell(rt, id);
-        let mut port = Machine::port(&machine, &self.threads).expect(rt, "a port");
-        let posted = got(
-            rt,
-            "it is posted",
-            port.post(&self.threads, Entry::Cast, order),
-        );
-        let token = posted.wake.expect(rt, "it was at rest");
+        let token = self.posts(rt, &machine, order);
+        let token = token.expect(rt, "it was at rest");
         let turned = machine.turn(&self.threads, token, self.ticker.now());
         holds(
             rt,
             "it rests",
             got(rt, "it is served", turned) == Next::Rest,
         );
-        drop(port);
         drop(machine);
     }
 
@@ -187,17 +183,23 @@ impl<R: Threads> Belfry<R> {
             "there is memory",
             machine.journal(&self.threads, "bell"),
         );
-        let mut came = 0u64;
-        for entry in journal.entries.as_slice() {
-            if let Some(expired) = expired(entry) {
-                holds(rt, "a time-out was due", expired > 0);
-                came = came.saturating_add(expired);
-            }
-        }
+        let came = came_by(rt, journal.entries.as_slice());
         drop(journal);
         drop(machine);
         came
     }
+}
+
+/// How many time-outs came by the ticks among some entries.
+fn came_by(rt: &impl Abort, entries: &[JournalEntry<u32, Order>]) -> u64 {
+    let mut came = 0u64;
+    for entry in entries {
+        if let Some(expired) = expired(entry) {
+            holds(rt, "a time-out was due", expired > 0);
+            came = came.saturating_add(expired);
+        }
+    }
+    came
 }
 
 /// How many time-outs expired by an entry, if it is a tick.

@@ -45,9 +45,9 @@ pub fn house<R: Threads, O: Observer<Clerk> + Drop + Send + Sync + 'static>(
     threads: R,
     options: Options,
     observer: O,
-) -> House<R, O> {
+) -> Box<House<R, O>> {
     let house = Service::start(threads, rt.alloc(), 2, options, observer);
-    house.expect(rt, "a service")
+    rt.boxed(rt.alloc(), house.expect(rt, "a service"))
 }
 
 /// A clerk's id and port.
@@ -63,13 +63,14 @@ fn hired<R: Threads, O: Observer<Clerk> + Drop>(
 
 /// Starts a clerk, and answers his id and port.
 pub fn hires<R: Threads, O: Observer<Clerk> + Drop>(
-    rt: &impl Abort,
+    rt: &Host<impl Abort + AllocGlobal>,
     house: &House<R, O>,
     name: Option<&str>,
     clerk: Clerk,
-) -> (MachineId, Hatch<R, O>) {
+) -> (MachineId, Box<Hatch<R, O>>) {
     let spawned = got(rt, "he is hired", house.spawn(name, clerk, &()));
-    hired(rt, spawned)
+    let (id, hatch) = hired(rt, spawned);
+    (id, rt.boxed(rt.alloc(), hatch))
 }
 
 /// Tells a clerk an order.

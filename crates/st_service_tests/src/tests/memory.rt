@@ -37,11 +37,11 @@ fn starts<R: Threads>(
     threads: R,
     alloc: Global,
     tally: &Arc<Tally, Global>,
-) -> Counted<R> {
+) -> Box<Counted<R>> {
     for _ in 0..2 {
         let theirs = Arc::try_clone(tally).expect(rt, "an owner");
         match Service::start(threads, alloc, 1, OPTIONS, Counting { tally: theirs }) {
-            Ok(house) => return house,
+            Ok(house) => return rt.boxed(alloc, house),
             Err(_) => rt.retry(),
         }
     }
@@ -64,14 +64,14 @@ fn port_of<R: Threads>(
     }
 }
 
-/// Who is hired, with his port.
+/// The port of who is hired.
 fn welcomes<R: Threads>(
     rt: &Host<impl Abort>,
     house: &Counted<R>,
     spawned: Spawned<Clerk, R, Counting>,
-) -> (MachineId, Hatch<R, Counting>) {
+) -> Hatch<R, Counting> {
     match spawned {
-        Spawned::Running(id, port) => (id, port_of(rt, house, id, port)),
+        Spawned::Running(id, port) => port_of(rt, house, id, port),
         _ => panic!(rt; "he is there"),
     }
 }
@@ -83,11 +83,15 @@ fn is_alone<R: Threads>(rt: &Host<impl Abort>, house: &Counted<R>, refused: Unsp
     rt.retry();
 }
 
-/// A clerk is hired. Where there is no memory, nobody was, and he is hired again; or the port is opened then.
-fn hires<R: Threads>(rt: &Host<impl Abort>, house: &Counted<R>) -> (MachineId, Hatch<R, Counting>) {
+/// A clerk is hired: his port. Where there is no memory, nobody was, and he is hired again; or the port is opened then.
+fn hires<R: Threads>(
+    rt: &Host<impl Abort>,
+    alloc: Global,
+    house: &Counted<R>,
+) -> Box<Hatch<R, Counting>> {
     for _ in 0..2 {
         match house.spawn(Some("anna"), ALONE, &()) {
-            Ok(spawned) => return welcomes(rt, house, spawned),
+            Ok(spawned) => return rt.boxed(alloc, welcomes(rt, house, spawned)),
             Err(refused) => is_alone(rt, house, refused),
         }
     }
@@ -182,8 +186,8 @@ fn told_each(rt: &Host<impl Abort>, tally: &Tally) {
 }
 
 /// A clerk works, and the service ends.
-fn works<R: Threads>(rt: &Host<impl Abort>, threads: R, house: &mut Counted<R>) {
-    let (_, mut hatch) = hires(rt, house);
+fn works<R: Threads>(rt: &Host<impl Abort>, threads: R, alloc: Global, house: &mut Counted<R>) {
+    let mut hatch = hires(rt, alloc, house);
     tells(rt, &mut hatch, Order::Add(4));
     tells(rt, &mut hatch, Order::Later(1));
     comes_to(rt, threads, &mut hatch, 5);
@@ -196,7 +200,7 @@ fn works<R: Threads>(rt: &Host<impl Abort>, threads: R, house: &mut Counted<R>) 
 fn goes_through<R: Threads>(rt: &Host<impl Abort>, threads: R, alloc: Global) {
     let tally = tally(rt, alloc);
     let mut house = starts(rt, threads, alloc, &tally);
-    works(rt, threads, &mut house);
+    works(rt, threads, alloc, &mut house);
     told_each(rt, &tally);
 }
 

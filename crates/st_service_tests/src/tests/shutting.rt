@@ -9,7 +9,7 @@ use std::process::Abort;
 fn thousand<R: Threads>(
     rt: &Host<impl Abort + AllocGlobal>,
     house: &House<R, Nobody>,
-) -> Vec<Hatch<R, Nobody>> {
+) -> Vec<Box<Hatch<R, Nobody>>> {
     let mut hatches = Vec::new(rt.alloc());
     for _ in 0..1_000 {
         let (_, mut hatch) = hires(rt, house, None, ALONE);
