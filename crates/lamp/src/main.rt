@@ -2,14 +2,25 @@
 //! each turn reports.
 #![tactic(auto)]
 
-use lamp_module::{Bulb, Lamp, Press};
-use st_core::{Core, Entry, MachineId, Module, Refusal, Start, Turned};
+use lamp_module::{Bulb, Lamp, Light, Press};
+use st_core::{Core, Entry, MachineId, Module, Refusal, Report, Start, Turned};
 use std::alloc::Global;
 use std::fmt::Debug;
 use std::process::ExitCode;
 
 /// How many moments the program lets pass, and how many turns it makes at one.
 const LIMIT: u32 = 100;
+
+/// Writes down what a machine reported at a moment.
+fn write<S: Debug>(
+    now: u64,
+    report: &Report<S>,
+    alloc: Global,
+    log: &mut String,
+) -> Result<(), Refusal> {
+    log.push_str(format!(in alloc; "{now}: {report:?}\n")?.as_str())?;
+    Ok(())
+}
 
 /// Gives a machine turns until there is nothing to handle, and writes each report down.
 fn handle_all<M: Module>(
@@ -24,9 +35,7 @@ where
     for _ in 0..LIMIT {
         match core.turn(now)? {
             Turned::Idle => break,
-            Turned::Reported(report) => {
-                log.push_str(format!(in alloc; "{now}: {report:?}\n")?.as_str())?;
-            }
+            Turned::Reported(report) => write(now, &report, alloc, log)?,
         }
     }
     Ok(())
@@ -79,12 +88,20 @@ fn use_up(lamp: &mut Core<Lamp>, alloc: Global, log: &mut String) -> Result<(), 
     end(lamp, alloc, log)
 }
 
+/// A lamp that runs, in a box, and what its start reported. `None`: it did not start.
+fn started(alloc: Global) -> Result<Option<(Box<Core<Lamp>>, Report<Light>)>, Refusal> {
+    let id = MachineId { slot: 0, serial: 1 };
+    match Core::start(alloc, Lamp, id, &Bulb { left: 1 }, 0)? {
+        Start::Running(lamp, report) => Ok(Some((Box::new(alloc, lamp)?, report))),
+        _ => Ok(None),
+    }
+}
+
 /// Starts a lamp and uses it up, and answers what was written down.
 fn run(alloc: Global) -> Result<String, Refusal> {
     let mut log = String::new(alloc);
-    let id = MachineId { slot: 0, serial: 1 };
-    if let Start::Running(mut lamp, report) = Core::start(alloc, Lamp, id, &Bulb { left: 1 }, 0)? {
-        log.push_str(format!(in alloc; "0: {report:?}\n")?.as_str())?;
+    if let Some((mut lamp, report)) = started(alloc)? {
+        write(0, &report, alloc, &mut log)?;
         use_up(&mut lamp, alloc, &mut log)?;
     }
     Ok(log)
