@@ -1,8 +1,9 @@
 //! A connection of a pool in lines.
 
 use crate::server::{Step, Textual};
+use crate::start::started;
 use keeper_module::{Connection, Content, Link, Place};
-use st_core::{Core, Entry, MachineId, Refusal, Start};
+use st_core::{Core, Entry, MachineId, Refusal};
 use std::alloc::{AllocError, Global};
 
 /// To whom a machine's messages go: the owner, which is whoever writes the lines.
@@ -41,7 +42,7 @@ impl Textual for Connection {
         alloc: Global,
         number: u32,
         moment: u64,
-        place: &mut Option<Core<Connection>>,
+        place: &mut Option<Box<Core<Connection>>>,
     ) -> Result<(), Refusal> {
         let id = MachineId {
             slot: 1,
@@ -51,7 +52,7 @@ impl Textual for Connection {
             owner: OWNER,
             number,
         };
-        if let Start::Running(core, _) = Core::start(alloc, Connection, id, &arg, moment)? {
+        if let Some(core) = started(alloc, Connection, id, &arg, moment)? {
             *place = Some(core);
         }
         Ok(())

@@ -5,10 +5,11 @@ mod step;
 
 use crate::line::read_line;
 use crate::log::add;
+use crate::start::started;
 use crate::time::{LIMIT, due, tick};
 use lift_module::{Cabin, Content, Door};
 use machine::{carry, post, stop, turn};
-use st_core::{Core, Entry, MachineId, Refusal, Start};
+use st_core::{Core, Entry, MachineId, Refusal};
 use std::alloc::Global;
 use step::{Step, step_of};
 
@@ -27,24 +28,18 @@ pub struct Lift {
     alloc: Global,
     /// The moment that was told last.
     now: u64,
-    cabin: Core<Cabin>,
-    door: Core<Door>,
+    cabin: Box<Core<Cabin>>,
+    door: Box<Core<Door>>,
 }
 
 impl Lift {
     /// A lift that rests, at moment 0.
     pub fn new(alloc: Global) -> Result<Lift, Refusal> {
-        let Start::Running(cabin, _) = Core::start(alloc, Cabin, CABIN, &DOOR, 0)? else {
-            return Err(NOT_STARTED);
-        };
-        let Start::Running(door, _) = Core::start(alloc, Door, DOOR, &CABIN, 0)? else {
-            return Err(NOT_STARTED);
-        };
         Ok(Lift {
             alloc,
             now: 0,
-            cabin,
-            door,
+            cabin: started(alloc, Cabin, CABIN, &DOOR, 0)?.ok_or(NOT_STARTED)?,
+            door: started(alloc, Door, DOOR, &CABIN, 0)?.ok_or(NOT_STARTED)?,
         })
     }
 

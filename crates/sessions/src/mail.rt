@@ -1,8 +1,9 @@
 //! A mailbox in lines.
 
 use crate::server::{Step, Textual};
+use crate::start::started;
 use mail_module::{Answer, Command, Content, Fault, Mail, Mailbox, Phase};
-use st_core::{Core, Entry, MachineId, Refusal, Start};
+use st_core::{Core, Entry, MachineId, Refusal};
 use std::alloc::{AllocError, Global};
 
 /// To whom a machine's messages go: the client.
@@ -92,13 +93,13 @@ impl Textual for Mail {
         alloc: Global,
         number: u32,
         moment: u64,
-        place: &mut Option<Core<Mail>>,
+        place: &mut Option<Box<Core<Mail>>>,
     ) -> Result<(), Refusal> {
         let id = MachineId {
             slot: 1,
             serial: u64::from(number),
         };
-        if let Start::Running(core, _) = Core::start(alloc, Mail, id, &MAILBOX, moment)? {
+        if let Some(core) = started(alloc, Mail, id, &MAILBOX, moment)? {
             *place = Some(core);
         }
         Ok(())

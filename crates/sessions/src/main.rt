@@ -11,6 +11,7 @@ mod log;
 mod mail;
 mod server;
 mod session;
+mod start;
 mod time;
 
 use fault::Fault;

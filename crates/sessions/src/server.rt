@@ -21,7 +21,7 @@ pub struct Server<M: Textual> {
     /// How many machines have started.
     count: u32,
     /// The machine, while there is one.
-    core: Option<Core<M>>,
+    core: Option<Box<Core<M>>>,
 }
 
 impl<M: Textual> Server<M> {

@@ -1,9 +1,23 @@
 //! What waits before a bell.
 use super::host::{Host, got, holds, same};
-use super::tower::{builds, cast, tells};
+use super::tower::{Carried, builds, cast, tells};
 use crate::Wish;
-use actor::Served;
+use actor::{Events, Inlet, Served};
 use std::process::Abort;
+
+/// Looks that a wish comes back where there is no place for it.
+fn comes_back(rt: &impl Abort, threads: impl Carried, inlet: &Inlet<Wish>) {
+    let refused = inlet.try_send(&threads, cast(Wish::Ring));
+    let back = got(rt, "it is full", refused.err().ok_or(())).into_inner();
+    same(rt, "it comes back", &back, &cast(Wish::Ring));
+}
+
+/// Looks that one wish waits, and no other.
+fn one_waits(rt: &impl Abort, threads: impl Carried, events: &Events<Wish>) {
+    let event = got(rt, "it waits", events.try_recv(&threads));
+    same(rt, "it is that", &event, &cast(Wish::Hush));
+    holds(rt, "no other", events.try_recv(&threads).is_err());
+}
 
 #[test]
 fn a_full_channel_refuses_and_takes_again(rt: HostRuntime) {
@@ -12,9 +26,7 @@ fn a_full_channel_refuses_and_takes_again(rt: HostRuntime) {
     let (inlet, mut tower) = builds(&rt, threads, 2);
     tells(&rt, threads, &inlet, Wish::Part);
     tells(&rt, threads, &inlet, Wish::Hush);
-    let refused = inlet.try_send(&threads, cast(Wish::Ring));
-    let back = got(&rt, "it is full", refused.err().ok_or(())).into_inner();
-    same(&rt, "it comes back", &back, &cast(Wish::Ring));
+    comes_back(&rt, threads, &inlet);
     same(
         &rt,
         "it ends",
@@ -45,8 +57,6 @@ fn what_waits_at_the_end_is_still_there(rt: HostRuntime) {
         &tower.serves(&rt, threads),
         &Served::Ended(7, 0),
     );
-    let event = got(&rt, "it waits", tower.events.try_recv(&threads));
-    same(&rt, "it is that", &event, &cast(Wish::Hush));
-    holds(&rt, "no other", tower.events.try_recv(&threads).is_err());
+    one_waits(&rt, threads, &tower.events);
     rt.end_with_memory();
 }

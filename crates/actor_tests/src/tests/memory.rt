@@ -37,10 +37,10 @@ fn opens(rt: &Host<impl Abort>, alloc: Global) -> (Inlet<Wish>, Events<Wish>) {
 }
 
 /// A bell. Where there is no memory, it begins again.
-fn begins(rt: &Host<impl Abort>, alloc: Global) -> Core<Bell> {
+fn begins(rt: &Host<impl Abort>, alloc: Global) -> Box<Core<Bell>> {
     for _ in 0..2 {
         match Core::start(alloc, Bell, ID, &(), 0) {
-            Ok(started) => return running(rt, started),
+            Ok(started) => return rt.boxed(alloc, running(rt, started)),
             Err(refused) => {
                 same(
                     rt,
@@ -94,22 +94,38 @@ fn serves<R: Carried>(
     panic!(rt; "one allocation alone is refused")
 }
 
+/// Sends wishes, and then no more.
+fn tells_each<R: Carried>(rt: &Host<impl Abort>, threads: R, inlet: Inlet<Wish>) {
+    for wish in [Wish::Tell, Wish::Hush, Wish::Ring, Wish::Tell] {
+        tells(rt, threads, &inlet, wish);
+    }
+}
+
+/// A bell is served, and served again when it has rung.
+fn serves_twice<R: Carried>(
+    rt: &Host<impl Abort>,
+    threads: R,
+    bell: &mut Core<Bell>,
+    events: &Events<Wish>,
+    start: &Instant,
+    notes: &mut Notes,
+) {
+    serves(rt, threads, bell, events, start, notes);
+    thread::sleep(&threads, Duration::from_millis(21));
+    serves(rt, threads, bell, events, start, notes);
+    same(rt, "reports", &notes.reports, &5);
+    same(rt, "messages", &notes.messages, &2);
+    same(rt, "it rang", bell.data(), &1);
+}
+
 /// Each call, in turn.
 fn goes_through<R: Carried>(rt: &Host<impl Abort>, threads: R, alloc: Global) {
     let start = got(rt, "the clock is read", Instant::now(&threads));
     let mut notes = notes(rt, alloc);
     let (inlet, events) = opens(rt, alloc);
     let mut bell = begins(rt, alloc);
-    for wish in [Wish::Tell, Wish::Hush, Wish::Ring, Wish::Tell] {
-        tells(rt, threads, &inlet, wish);
-    }
-    drop(inlet);
-    serves(rt, threads, &mut bell, &events, &start, &mut notes);
-    thread::sleep(&threads, Duration::from_millis(21));
-    serves(rt, threads, &mut bell, &events, &start, &mut notes);
-    same(rt, "reports", &notes.reports, &5);
-    same(rt, "messages", &notes.messages, &2);
-    same(rt, "it rang", bell.data(), &1);
+    tells_each(rt, threads, inlet);
+    serves_twice(rt, threads, &mut bell, &events, &start, &mut notes);
 }
 
 #[test]

@@ -33,21 +33,18 @@ pub fn builds<R: Carried>(
     rt: &Host<impl Abort + AllocGlobal>,
     threads: R,
     limit: usize,
-) -> (Inlet<Wish>, Tower) {
+) -> (Inlet<Wish>, Box<Tower>) {
     let start = got(rt, "the clock is read", Instant::now(&threads));
     let bell = begins(rt, rt.alloc());
     let (inlet, events) = got(rt, "a channel", channel(rt.alloc(), limit));
     let hushed = got(rt, "a count", Arc::new(rt.alloc(), AtomicU64::new(0)));
-    let notes = Notes::new(hushed);
-    (
-        inlet,
-        Tower {
-            bell,
-            events,
-            notes,
-            start,
-        },
-    )
+    let tower = Tower {
+        bell,
+        events,
+        notes: Notes::new(hushed),
+        start,
+    };
+    (inlet, rt.boxed(rt.alloc(), tower))
 }
 
 /// A bell begins.

@@ -76,6 +76,23 @@ fn tell_replies<M: Module<Content = Content>>(
     Ok(())
 }
 
+/// Writes down what a turn did.
+fn tell_turn<M: Module<Content = Content>>(
+    core: &mut Core<M>,
+    report: &Report<M::State>,
+    name: &str,
+    alloc: Global,
+    log: &mut String,
+) -> Result<(), AllocError>
+where
+    M::State: Debug,
+{
+    let now = core.latest();
+    tell_course(report, now, name, alloc, log)?;
+    tell_asked(report, now, name, alloc, log)?;
+    tell_replies(core, report, name, alloc, log)
+}
+
 /// Lets a machine handle the next event, and writes down what it did.
 pub fn turn<M: Module<Content = Content>>(
     core: &mut Core<M>,
@@ -87,10 +104,7 @@ where
     M::State: Debug,
 {
     if let Turned::Reported(report) = core.turn(core.latest())? {
-        let now = core.latest();
-        tell_course(&report, now, name, alloc, log)?;
-        tell_asked(&report, now, name, alloc, log)?;
-        tell_replies(core, &report, name, alloc, log)?;
+        tell_turn(core, &report, name, alloc, log)?;
     }
     Ok(())
 }
@@ -127,6 +141,20 @@ pub fn carry<A: Module<Content = Content>, B: Module<Content = Content>>(
     Ok(())
 }
 
+/// Writes down the last word of a machine that is stopped.
+fn tell_stop(
+    now: u64,
+    word: u32,
+    name: &str,
+    alloc: Global,
+    log: &mut String,
+) -> Result<(), AllocError> {
+    add(
+        log,
+        format!(in alloc; "{now} {name} is stopped, with the word {word}\n"),
+    )
+}
+
 /// Stops a machine that has not ended, and writes its last word down.
 pub fn stop<M: Module>(
     core: &mut Core<M>,
@@ -137,10 +165,7 @@ pub fn stop<M: Module>(
     if core.ended().is_none() {
         let now = core.latest();
         let word = core.stop(0)?;
-        add(
-            log,
-            format!(in alloc; "{now} {name} is stopped, with the word {word}\n"),
-        )?;
+        tell_stop(now, word, name, alloc, log)?;
     }
     Ok(())
 }

@@ -39,6 +39,26 @@ pub fn tell_messages<M: Textual>(
     Ok(())
 }
 
+/// Writes down what a turn said.
+fn tell_turn<M: Textual>(
+    core: &mut Core<M>,
+    report: &Report<M::State>,
+    alloc: Global,
+    log: &mut String,
+) -> Result<(), AllocError> {
+    tell_replies(core, report, alloc, log)?;
+    tell_messages(core, alloc, log)
+}
+
+/// Gives the machine a turn, and writes down what it said.
+fn handle<M: Textual>(core: &mut Core<M>, alloc: Global, log: &mut String) -> Result<(), Refusal> {
+    let now = core.latest();
+    if let Turned::Reported(report) = core.turn(now)? {
+        tell_turn(core, &report, alloc, log)?;
+    }
+    Ok(())
+}
+
 /// Gives the machine turns until there is nothing to handle, or it has ended.
 fn handle_all<M: Textual>(
     core: &mut Core<M>,
@@ -49,11 +69,7 @@ fn handle_all<M: Textual>(
         if !core.has_event() {
             break;
         }
-        let now = core.latest();
-        if let Turned::Reported(report) = core.turn(now)? {
-            tell_replies(core, &report, alloc, log)?;
-            tell_messages(core, alloc, log)?;
-        }
+        handle(core, alloc, log)?;
     }
     Ok(())
 }

@@ -17,7 +17,7 @@ pub trait Textual: Module {
         alloc: Global,
         number: u32,
         moment: u64,
-        place: &mut Option<Core<Self>>,
+        place: &mut Option<Box<Core<Self>>>,
     ) -> Result<(), Refusal>;
 
     /// What a reply says, by the state after it, behind its mark.
