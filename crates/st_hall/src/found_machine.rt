@@ -78,7 +78,8 @@ impl<'a, M: Module, R: Wait + Drop> FoundMachine<'a, M, R> {
     }
 }
 
-/// Workers serve it for its own tokens; for another's it does nothing, and none comes back.
+/// Workers serve it for its own tokens. Another's serves nothing here, and does not come back; but whatever token it is, a
+/// message in the hand is delivered for it.
 ///
 /// Ours: docs/DECISIONS.md, Halls.
 impl<'a, M: Module, R: Wait + Drop> Machines for FoundMachine<'a, M, R> {

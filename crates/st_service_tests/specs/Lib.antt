@@ -1,2 +1,3 @@
--- What a clerk does.
+-- What a clerk does, and what a courier does.
 pub mod Clerk
+pub mod Courier

@@ -3,6 +3,7 @@ use super::host::{Host, got};
 use super::mark::Mark;
 use super::plain::Plain;
 use st_hall::{Hall, Machine, MachineId, Port, Registry, Started};
+use std::alloc::Global;
 use std::process::Abort;
 use std::sync::{Arc, Wait};
 
@@ -24,14 +25,23 @@ pub fn hall<R: Wait + Drop>(
     rt.boxed(rt.alloc(), Hall::new(threads, Registry::new(rt.alloc())))
 }
 
-/// A hall with so many machines, from the slot 0 on, each with a serial one above its slot.
+/// A registry without machines, which keep a journal, or none.
+fn registry(alloc: Global, keeps: bool) -> Registry<Plain> {
+    if keeps {
+        return Registry::new(alloc);
+    }
+    Registry::unjournaled(alloc)
+}
+
+/// A hall with so many machines, which keep a journal, or none, from the slot 0 on, each with a serial one above its slot.
 pub fn filled<R: Wait + Drop>(
     rt: &Host<impl Abort + AllocGlobal>,
     threads: R,
     mark: &Arc<Mark>,
     count: usize,
+    keeps: bool,
 ) -> Arc<Hall<Plain, R>> {
-    let hall = Hall::new(threads, Registry::new(rt.alloc()));
+    let hall = Hall::new(threads, registry(rt.alloc(), keeps));
     let hall = Arc::new(rt.alloc(), hall).expect(rt, "a hall");
     for _ in 0..count {
         start(rt, &hall, mark, None);

@@ -49,14 +49,14 @@ pub fn casts_each(
     }
 }
 
-/// Looks that a machine rests, whose journal has so many entries.
+/// Looks that a machine rests that has made so many entries, kept or not.
 fn is_at_rest(rt: &impl Abort, threads: &impl Wait, port: &mut Port<Plain>, entries: u64) {
     let look = got(rt, "there is memory", port.look(threads));
     holds(rt, "it has no work", look.waiting == 0);
     holds(rt, "its entries", look.entries == entries);
 }
 
-/// Looks that the machines of some ports rest, whose journals have so many entries each.
+/// Looks that the machines of some ports rest that have made so many entries each, kept or not.
 pub fn are_at_rest(
     rt: &impl Abort,
     threads: &impl Wait,
@@ -68,26 +68,29 @@ pub fn are_at_rest(
     }
 }
 
-/// Looks that a port has posted so many events, that its machine counts as many, and shows their numbers.
-fn is_mine(rt: &impl Abort, threads: &impl Wait, port: &mut Port<Plain>, posts: u64) {
+/// Looks that a port has posted so many events, that its machine counts as many, and shows the numbers of those that it keeps.
+fn is_mine(rt: &impl Abort, threads: &impl Wait, port: &mut Port<Plain>, posts: u64, keeps: bool) {
     let look = got(rt, "there is memory", port.look(threads));
     holds(rt, "the posts of the port", port.count() == posts);
     holds(rt, "they are mine", look.mine == posts);
     let numbers = look.numbers.as_slice().len() as u64;
-    holds(rt, "their numbers are mine", numbers == posts);
+    let kept = if keeps { posts } else { 0 };
+    holds(rt, "their numbers are mine", numbers == kept);
 }
 
-/// Casts twice more through each of some ports, which have posted so many events, with nobody to serve them.
+/// Casts twice more through each of some ports, which have posted so many events, with nobody to serve them. Their machines
+/// keep a journal, or none.
 pub fn casts_twice_more(
     rt: &impl Abort,
     threads: &impl Wait,
     ports: &mut Vec<Port<Plain>>,
     posts: u64,
+    keeps: bool,
 ) {
     for port in ports.iter_mut() {
         for _ in 0..2 {
             got(rt, "it is posted", port.post(threads, Entry::Cast, 1));
         }
-        is_mine(rt, threads, port, posts.saturating_add(2));
+        is_mine(rt, threads, port, posts.saturating_add(2), keeps);
     }
 }

@@ -200,7 +200,7 @@ fn a_hall_of_65_536_machines_is_full(rt: HostRuntime) {
     let threads = rt;
     let rt = Host::with_memory(rt);
     let mark = mark(&rt, true);
-    let hall = filled(&rt, threads, &mark, 65_536);
+    let hall = filled(&rt, threads, &mark, 65_536, true);
     is_full(&rt, &*hall, &mark);
     holds(&rt, "all are there", hall.len() == 65_536);
     takes_its_place(&rt, &threads, &*hall, &mark);

@@ -49,8 +49,7 @@ impl<R: Abort> Host<R> {
         self.retries.set(1);
     }
 
-    /// A value in a box. Where there is no memory, it is boxed again. A function that has a hall or a port in a box is
-    /// proved sooner than one that has it itself.
+    /// A value in a box. Where there is no memory, it is boxed again.
     pub fn boxed<T: Drop>(&self, alloc: Global, value: T) -> Box<T> {
         match Box::new(alloc, value) {
             Ok(boxed) => boxed,

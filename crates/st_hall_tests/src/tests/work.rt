@@ -12,7 +12,7 @@ use std::process::Abort;
 use std::sync::Arc;
 
 /// Casts to each machine of a hall, so many rounds, of one of two contents, in turn; and what comes of it: how many entries
-/// each journal has, and how many turns are made in all.
+/// each machine made, how many turns are made in all, and whether the machines keep a journal.
 #[derive(Clone, Copy)]
 pub struct Work {
     pub machines: usize,
@@ -20,6 +20,7 @@ pub struct Work {
     pub contents: (u32, u32),
     pub entries: u64,
     pub turns: u64,
+    pub keeps: bool,
 }
 
 /// Casts all that is to be cast.
@@ -61,7 +62,7 @@ fn serves<R: Runtime>(
     pool.drain();
     are_at_rest(rt, &threads, &mut ports, work.entries);
     is_closed(rt, &mut pool, work.turns);
-    casts_twice_more(rt, &threads, &mut ports, u64::from(work.rounds));
+    casts_twice_more(rt, &threads, &mut ports, u64::from(work.rounds), work.keeps);
 }
 
 /// So many workers serve a hall's machines, behind a gate that is shut or not. How often somebody waited in vain for the
@@ -77,7 +78,7 @@ pub fn waits<R: Runtime>(
 {
     let mark = mark(rt, workers > 1);
     let gate = Turnstile::new(rt.alloc(), &mark, is_shut).expect(rt, "a gate");
-    let hall = filled(rt, threads, &mark, work.machines);
+    let hall = filled(rt, threads, &mark, work.machines, work.keeps);
     serves(rt, threads, workers, &hall, &gate, work);
     mark.gave_up()
 }
