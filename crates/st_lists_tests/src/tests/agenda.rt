@@ -24,6 +24,13 @@ enum Call {
     Settle(Turn),
     /// Time passes to a moment, and so many time-outs expire.
     Tick(u32, usize),
+    /// A look at what there is.
+    Shows(Shows),
+}
+
+/// A look at an agenda, and what it is to show.
+#[derive(Clone, Copy)]
+enum Shows {
     /// This event comes next: its number, its kind and its content; and so many wait.
     Comes(u64, Kind, u64, usize),
     /// Nothing comes next, and nothing waits.
@@ -114,19 +121,32 @@ fn next(rt: &impl Abort, agenda: &Agenda<u64>, number: u64, due: Option<u64>) {
     same(rt, "the next moment", &agenda.next_due(), &due);
 }
 
-/// Looks that all is as it was, before a call that was refused.
-fn unchanged(
-    rt: &Host<impl Abort>,
-    agenda: &Agenda<u64>,
-    before: (Seen, usize, u64, Option<u64>),
-    running: &PlainList<(Timer, u64, Due)>,
-) {
-    holds(
-        rt,
-        "a refused call changes nothing",
-        readable(agenda) == before,
-    );
-    run(rt, agenda, running.as_slice());
+/// Looks that what can be read without memory is as it was.
+fn reads_as(rt: &impl Abort, agenda: &Agenda<u64>, before: &(Seen, usize, u64, Option<u64>)) {
+    let is_same = readable(agenda) == *before;
+    holds(rt, "what is refused or copied changes nothing", is_same);
+}
+
+/// All that can be read of an agenda: what takes no memory, and the time-outs that run.
+#[derive(Drop)]
+struct Whole {
+    readable: (Seen, usize, u64, Option<u64>),
+    running: PlainList<(Timer, u64, Due)>,
+}
+
+/// All that can be read of an agenda.
+fn read_all(rt: &Host<impl Abort>, agenda: &Agenda<u64>) -> Whole {
+    Whole {
+        readable: readable(agenda),
+        running: listed(rt, agenda),
+    }
+}
+
+/// Looks that all is as it was, before a call that was refused, and that is made again.
+fn unchanged(rt: &Host<impl Abort>, agenda: &Agenda<u64>, before: &Whole) {
+    reads_as(rt, agenda, &before.readable);
+    run(rt, agenda, before.running.as_slice());
+    rt.retry();
 }
 
 /// Looks that the next number is low, as it is in a test.
@@ -136,19 +156,28 @@ fn numbers_are_low(rt: &impl Abort, agenda: &Agenda<u64>)
     holds(rt, "the numbers are low", agenda.next_number() <= 1_000);
 }
 
+/// Posts a cast again, for which there was no memory.
+fn push_again(rt: &Host<impl Abort>, agenda: &mut Agenda<u64>, content: u64) -> u64 {
+    numbers_are_low(rt, agenda);
+    match agenda.push(Kind::Cast, content) {
+        Ok(given) => given,
+        Err(_) => panic!(rt; "one allocation alone is refused"),
+    }
+}
+
 /// Posts a cast. Where memory was refused, nothing has changed, the content comes back, and it is
 /// posted again.
 fn push(rt: &Host<impl Abort>, agenda: &mut Agenda<u64>, content: u64, number: u64) {
     numbers_are_low(rt, agenda);
-    let (before, running) = (readable(agenda), listed(rt, agenda));
-    let mut pushed = agenda.push(Kind::Cast, content);
-    if let Err(failed) = pushed {
-        holds(rt, "the content comes back", failed.value == content);
-        unchanged(rt, agenda, before, &running);
-        rt.retry();
-        pushed = agenda.push(Kind::Cast, content);
-    }
-    let given = got(rt, "one allocation alone is refused", pushed);
+    let before = read_all(rt, agenda);
+    let given = match agenda.push(Kind::Cast, content) {
+        Ok(given) => given,
+        Err(failed) => {
+            holds(rt, "the content comes back", failed.value == content);
+            unchanged(rt, agenda, &before);
+            push_again(rt, agenda, content)
+        }
+    };
     same(rt, "the number that it gets", &given, &number);
 }
 
@@ -160,26 +189,31 @@ fn reserve_for(rt: &Host<impl Abort>, agenda: &mut Agenda<u64>, inserts: usize, 
     ensures reserved { timers ≤ agenda.new.reserved }
     ensures unchanged { agenda.new.schedule ≡ agenda.old.schedule }
 {
-    let (before, running) = (readable(agenda), listed(rt, agenda));
-    if agenda.reserve_for(inserts, timers).is_ok() {
-        return;
+    let before = read_all(rt, agenda);
+    if agenda.reserve_for(inserts, timers).is_err() {
+        unchanged(rt, agenda, &before);
+        let reserved = agenda.reserve_for(inserts, timers);
+        got(rt, "one allocation alone is refused", reserved);
     }
-    unchanged(rt, agenda, before, &running);
-    rt.retry();
-    let reserved = agenda.reserve_for(inserts, timers);
-    got(rt, "one allocation alone is refused", reserved);
+}
+
+/// Adds an action to a list.
+fn add(rt: &impl Abort, actions: &mut Actions<u64>, action: Action<u64>) {
+    got(rt, "a few take no memory", actions.push(action));
 }
 
 /// A list of actions: events of these contents are inserted, and this is asked of timers.
 fn actions_of(rt: &impl Abort, alloc: Global, contents: &[u64], settings: &[Asks]) -> Actions<u64> {
     let mut actions = Actions::new(alloc);
     for content in contents {
-        let insert = Action::NextEvent(Kind::Internal, *content);
-        got(rt, "a few take no memory", actions.push(insert));
+        add(
+            rt,
+            &mut actions,
+            Action::NextEvent(Kind::Internal, *content),
+        );
     }
     for asks in settings {
-        let pushed = actions.push(action_of(*asks));
-        got(rt, "a few take no memory", pushed);
+        add(rt, &mut actions, action_of(*asks));
     }
     actions
 }
@@ -245,15 +279,40 @@ fn tick_in<R: Abort, L: Ledger>(
     let before = readable(agenda);
     let mut count = agenda.expire(now as u64, steps);
     if count.is_err() {
-        holds(
-            rt,
-            "a refused call changes nothing",
-            readable(agenda) == before,
-        );
+        reads_as(rt, agenda, &before);
         rt.retry();
         count = agenda.expire(now as u64, steps);
     }
     same(rt, "how many expire", &count.ok(), &Some(expired));
+}
+
+/// Looks how many numbers the updates among these settings would take, where the state changes or not.
+fn updates(
+    rt: &impl Abort,
+    agenda: &Agenda<u64>,
+    alloc: Global,
+    settings: &[Asks],
+    changed: bool,
+    wanted: u64,
+) {
+    let actions = actions_of(rt, alloc, &[], settings);
+    let taken = agenda.numbers_of_updates(&actions, changed);
+    same(rt, "how many numbers updates take", &taken, &wanted);
+}
+
+/// Makes a call that changes nothing, and looks at its answer.
+fn show(rt: &Host<impl Abort>, agenda: &Agenda<u64>, alloc: Global, call: Shows) {
+    match call {
+        Shows::Comes(number, kind, content, waiting) => {
+            comes(rt, agenda, Some((number, kind, content)), waiting);
+        }
+        Shows::NothingComes => comes(rt, agenda, None, 0),
+        Shows::Run(wanted) => run(rt, agenda, wanted),
+        Shows::Next(number, due) => next(rt, agenda, number, due),
+        Shows::Updates(settings, changed, wanted) => {
+            updates(rt, agenda, alloc, settings, changed, wanted);
+        }
+    }
 }
 
 /// Makes a call, and looks at its answer.
@@ -262,17 +321,7 @@ fn make(rt: &Host<impl Abort>, agenda: &mut Agenda<u64>, alloc: Global, call: Ca
         Call::Push(content, number) => push(rt, agenda, content, number),
         Call::Settle(turn) => settle(rt, agenda, alloc, turn),
         Call::Tick(now, expired) => tick(rt, agenda, now, expired),
-        Call::Comes(number, kind, content, waiting) => {
-            comes(rt, agenda, Some((number, kind, content)), waiting);
-        }
-        Call::NothingComes => comes(rt, agenda, None, 0),
-        Call::Run(wanted) => run(rt, agenda, wanted),
-        Call::Next(number, due) => next(rt, agenda, number, due),
-        Call::Updates(settings, changed, wanted) => {
-            let actions = actions_of(rt, alloc, &[], settings);
-            let taken = agenda.numbers_of_updates(&actions, changed);
-            same(rt, "how many numbers updates take", &taken, &wanted);
-        }
+        Call::Shows(call) => show(rt, agenda, alloc, call),
     }
 }
 
@@ -283,54 +332,67 @@ fn make_all(rt: &Host<impl Abort>, agenda: &mut Agenda<u64>, alloc: Global, call
     }
 }
 
+/// An agenda with nothing on it, whose first event gets this number.
+fn begun(rt: &Host<impl Abort + AllocGlobal>, number: u64) -> Box<Agenda<u64>>
+    requires { number ≤ 1_000 }
+{
+    rt.boxed(rt.alloc(), Agenda::new(rt.alloc(), number))
+}
+
+/// Makes calls of an agenda that has nothing on it, one after the other, and looks at their answers.
+fn answer_all(rt: &Host<impl Abort + AllocGlobal>, calls: &[Call]) {
+    let mut agenda = begun(rt, 1);
+    make_all(rt, &mut agenda, rt.alloc(), calls);
+}
+
 /// A postponed event keeps its place, an inserted one comes before those posted, a time-out expires
 /// behind them, and a state change retries.
 #[test]
 fn events_come_in_their_order(rt: HostRuntime) {
     static CALLS: [Call; 23] = [
-        Call::NothingComes,
-        Call::Next(1, None),
+        Call::Shows(Shows::NothingComes),
+        Call::Shows(Shows::Next(1, None)),
         Call::Push(10, 1),
         Call::Push(20, 2),
-        Call::Comes(1, Kind::Cast, 10, 2),
+        Call::Shows(Shows::Comes(1, Kind::Cast, 10, 2)),
         Call::Settle(Turn {
             postpone: true,
             inserts: &[30],
             settings: &[Asks::Set(Timer::Named(1), Time::After(5), 40)],
             ..FINISHED
         }),
-        Call::Run(&[(Timer::Named(1), 4, Due::At(5))]),
-        Call::Next(5, Some(5)),
-        Call::Comes(3, Kind::Internal, 30, 3),
+        Call::Shows(Shows::Run(&[(Timer::Named(1), 4, Due::At(5))])),
+        Call::Shows(Shows::Next(5, Some(5))),
+        Call::Shows(Shows::Comes(3, Kind::Internal, 30, 3)),
         Call::Settle(Turn {
             number: 3,
             ..FINISHED
         }),
-        Call::Comes(2, Kind::Cast, 20, 2),
+        Call::Shows(Shows::Comes(2, Kind::Cast, 20, 2)),
         Call::Tick(4, 0),
         Call::Tick(5, 1),
-        Call::Next(5, None),
+        Call::Shows(Shows::Next(5, None)),
         Call::Tick(6, 0),
-        Call::Comes(2, Kind::Cast, 20, 2),
+        Call::Shows(Shows::Comes(2, Kind::Cast, 20, 2)),
         Call::Settle(Turn {
             now: 6,
             number: 2,
             changed: true,
             ..FINISHED
         }),
-        Call::Comes(1, Kind::Cast, 10, 1),
+        Call::Shows(Shows::Comes(1, Kind::Cast, 10, 1)),
         Call::Settle(Turn { now: 6, ..FINISHED }),
-        Call::Comes(4, Kind::Timeout(Timer::Named(1)), 40, 0),
+        Call::Shows(Shows::Comes(4, Kind::Timeout(Timer::Named(1)), 40, 0)),
         Call::Settle(Turn {
             now: 6,
             number: 4,
             ..FINISHED
         }),
-        Call::NothingComes,
-        Call::Next(5, None),
+        Call::Shows(Shows::NothingComes),
+        Call::Shows(Shows::Next(5, None)),
     ];
     let rt = Host::new(rt);
-    let mut agenda = Agenda::new(rt.alloc(), 1);
+    let mut agenda = begun(&rt, 1);
     make_all(&rt, &mut agenda, rt.alloc(), &CALLS);
     run(&rt, &agenda, &[]);
     rt.end();
@@ -350,19 +412,18 @@ fn a_zero_timeout_comes_before_what_was_not_received(rt: HostRuntime) {
             ],
             ..FINISHED
         }),
-        Call::Run(&[(Timer::State, 3, Due::Zero), (Timer::Event, 4, Due::Zero)]),
-        Call::Next(5, None),
-        Call::Comes(3, Kind::Timeout(Timer::State), 30, 1),
+        Call::Shows(Shows::Run(&[(Timer::State, 3, Due::Zero), (Timer::Event, 4, Due::Zero)])),
+        Call::Shows(Shows::Next(5, None)),
+        Call::Shows(Shows::Comes(3, Kind::Timeout(Timer::State), 30, 1)),
         Call::Settle(Turn {
             number: 3,
             ..FINISHED
         }),
-        Call::Comes(2, Kind::Cast, 20, 1),
-        Call::Run(&[]),
+        Call::Shows(Shows::Comes(2, Kind::Cast, 20, 1)),
+        Call::Shows(Shows::Run(&[])),
     ];
     let rt = Host::new(rt);
-    let mut agenda = Agenda::new(rt.alloc(), 1);
-    make_all(&rt, &mut agenda, rt.alloc(), &CALLS);
+    answer_all(&rt, &CALLS);
     rt.end();
 }
 
@@ -390,13 +451,12 @@ fn an_expiry_of_a_stopped_timer_is_passed_over(rt: HostRuntime) {
             ],
             ..FINISHED
         }),
-        Call::NothingComes,
-        Call::Run(&[]),
-        Call::Next(5, None),
+        Call::Shows(Shows::NothingComes),
+        Call::Shows(Shows::Run(&[])),
+        Call::Shows(Shows::Next(5, None)),
     ];
     let rt = Host::new(rt);
-    let mut agenda = Agenda::new(rt.alloc(), 1);
-    make_all(&rt, &mut agenda, rt.alloc(), &CALLS);
+    answer_all(&rt, &CALLS);
     rt.end();
 }
 
@@ -421,40 +481,39 @@ fn an_update_leaves_all_else(rt: HostRuntime) {
             settings: &[Asks::Update(Timer::Named(1), 50)],
             ..FINISHED
         }),
-        Call::Run(&[
+        Call::Shows(Shows::Run(&[
             (Timer::Named(1), 2, Due::At(5)),
             (Timer::Named(2), 3, Due::At(9)),
-        ]),
-        Call::Next(6, Some(5)),
+        ])),
+        Call::Shows(Shows::Next(6, Some(5))),
         Call::Tick(5, 1),
-        Call::Comes(5, Kind::Cast, 60, 1),
+        Call::Shows(Shows::Comes(5, Kind::Cast, 60, 1)),
         Call::Settle(Turn {
             now: 6,
             number: 5,
             settings: &[Asks::Update(Timer::Named(1), 70)],
             ..FINISHED
         }),
-        Call::Run(&[
+        Call::Shows(Shows::Run(&[
             (Timer::Named(1), 2, Due::At(5)),
             (Timer::Named(2), 3, Due::At(9)),
-        ]),
-        Call::Next(6, Some(9)),
+        ])),
+        Call::Shows(Shows::Next(6, Some(9))),
         Call::Tick(8, 0),
-        Call::Comes(2, Kind::Timeout(Timer::Named(1)), 70, 0),
+        Call::Shows(Shows::Comes(2, Kind::Timeout(Timer::Named(1)), 70, 0)),
         Call::Settle(Turn {
             now: 8,
             number: 2,
             ..FINISHED
         }),
-        Call::NothingComes,
-        Call::Run(&[(Timer::Named(2), 3, Due::At(9))]),
+        Call::Shows(Shows::NothingComes),
+        Call::Shows(Shows::Run(&[(Timer::Named(2), 3, Due::At(9))])),
         Call::Tick(9, 1),
-        Call::Comes(3, Kind::Timeout(Timer::Named(2)), 40, 0),
-        Call::Next(6, None),
+        Call::Shows(Shows::Comes(3, Kind::Timeout(Timer::Named(2)), 40, 0)),
+        Call::Shows(Shows::Next(6, None)),
     ];
     let rt = Host::new(rt);
-    let mut agenda = Agenda::new(rt.alloc(), 1);
-    make_all(&rt, &mut agenda, rt.alloc(), &CALLS);
+    answer_all(&rt, &CALLS);
     rt.end();
 }
 
@@ -468,26 +527,25 @@ fn an_update_of_a_stopped_timer_begins(rt: HostRuntime) {
             settings: &[Asks::Update(Timer::Named(1), 30)],
             ..FINISHED
         }),
-        Call::Run(&[(Timer::Named(1), 2, Due::Zero)]),
-        Call::Next(3, None),
-        Call::Comes(2, Kind::Timeout(Timer::Named(1)), 30, 0),
+        Call::Shows(Shows::Run(&[(Timer::Named(1), 2, Due::Zero)])),
+        Call::Shows(Shows::Next(3, None)),
+        Call::Shows(Shows::Comes(2, Kind::Timeout(Timer::Named(1)), 30, 0)),
         Call::Settle(Turn {
             number: 2,
             settings: &[Asks::Update(Timer::Named(1), 40)],
             ..FINISHED
         }),
-        Call::Run(&[(Timer::Named(1), 3, Due::Zero)]),
-        Call::Comes(3, Kind::Timeout(Timer::Named(1)), 40, 0),
+        Call::Shows(Shows::Run(&[(Timer::Named(1), 3, Due::Zero)])),
+        Call::Shows(Shows::Comes(3, Kind::Timeout(Timer::Named(1)), 40, 0)),
         Call::Settle(Turn {
             number: 3,
             ..FINISHED
         }),
-        Call::NothingComes,
-        Call::Next(4, None),
+        Call::Shows(Shows::NothingComes),
+        Call::Shows(Shows::Next(4, None)),
     ];
     let rt = Host::new(rt);
-    let mut agenda = Agenda::new(rt.alloc(), 1);
-    make_all(&rt, &mut agenda, rt.alloc(), &CALLS);
+    answer_all(&rt, &CALLS);
     rt.end();
 }
 
@@ -506,13 +564,13 @@ fn updates_take_numbers(rt: HostRuntime) {
             ],
             ..FINISHED
         }),
-        Call::Comes(5, Kind::Timeout(Timer::Named(2)), 60, 0),
-        Call::Updates(&[Asks::Update(Timer::Event, 0)], false, 1),
-        Call::Updates(&[Asks::Update(Timer::State, 0)], false, 0),
-        Call::Updates(&[Asks::Update(Timer::State, 0)], true, 1),
-        Call::Updates(&[Asks::Update(Timer::Named(1), 0)], true, 0),
-        Call::Updates(&[Asks::Update(Timer::Named(2), 0)], false, 1),
-        Call::Updates(
+        Call::Shows(Shows::Comes(5, Kind::Timeout(Timer::Named(2)), 60, 0)),
+        Call::Shows(Shows::Updates(&[Asks::Update(Timer::Event, 0)], false, 1)),
+        Call::Shows(Shows::Updates(&[Asks::Update(Timer::State, 0)], false, 0)),
+        Call::Shows(Shows::Updates(&[Asks::Update(Timer::State, 0)], true, 1)),
+        Call::Shows(Shows::Updates(&[Asks::Update(Timer::Named(1), 0)], true, 0)),
+        Call::Shows(Shows::Updates(&[Asks::Update(Timer::Named(2), 0)], false, 1)),
+        Call::Shows(Shows::Updates(
             &[
                 Asks::Update(Timer::Named(2), 0),
                 Asks::Set(Timer::Named(3), Time::After(1), 0),
@@ -521,26 +579,25 @@ fn updates_take_numbers(rt: HostRuntime) {
             ],
             false,
             2,
-        ),
+        )),
         Call::Settle(Turn {
             number: 5,
             ..FINISHED
         }),
         Call::Push(70, 6),
         Call::Tick(5, 1),
-        Call::Comes(6, Kind::Cast, 70, 1),
-        Call::Updates(&[Asks::Update(Timer::Named(1), 0)], false, 0),
+        Call::Shows(Shows::Comes(6, Kind::Cast, 70, 1)),
+        Call::Shows(Shows::Updates(&[Asks::Update(Timer::Named(1), 0)], false, 0)),
         Call::Settle(Turn {
             now: 5,
             number: 6,
             ..FINISHED
         }),
-        Call::Comes(4, Kind::Timeout(Timer::Named(1)), 50, 0),
-        Call::Updates(&[Asks::Update(Timer::Named(1), 0)], false, 1),
+        Call::Shows(Shows::Comes(4, Kind::Timeout(Timer::Named(1)), 50, 0)),
+        Call::Shows(Shows::Updates(&[Asks::Update(Timer::Named(1), 0)], false, 1)),
     ];
     let rt = Host::new(rt);
-    let mut agenda = Agenda::new(rt.alloc(), 1);
-    make_all(&rt, &mut agenda, rt.alloc(), &CALLS);
+    answer_all(&rt, &CALLS);
     rt.end();
 }
 
@@ -577,7 +634,7 @@ fn begin(rt: &Host<impl Abort>, agenda: &mut Agenda<u64>, alloc: Global) {
 #[test]
 fn a_start_inserts_and_sets(rt: HostRuntime) {
     let rt = Host::new(rt);
-    let mut agenda = Agenda::new(rt.alloc(), 7);
+    let mut agenda = begun(&rt, 7);
     stage_one(&rt, &mut agenda);
     reserve_one(&rt, &mut agenda);
     begin(&rt, &mut agenda, rt.alloc());
@@ -596,16 +653,24 @@ impl CopyContent<u64> for Numbers {
     }
 }
 
+/// A copy of all, made again since memory was refused.
+fn copied_again(rt: &Host<impl Abort>, agenda: &mut Agenda<u64>, alloc: Global) -> Schedule<u64> {
+    rt.retry();
+    match agenda.copy(alloc, &Numbers) {
+        Ok(copy) => copy,
+        Err(_) => panic!(rt; "one allocation alone is refused"),
+    }
+}
+
 /// A copy of all. Where memory was refused, nothing has changed, and it is copied again.
 fn copied(rt: &Host<impl Abort>, agenda: &mut Agenda<u64>, alloc: Global) -> Schedule<u64> {
     let before = readable(agenda);
-    let mut copy = agenda.copy(alloc, &Numbers);
-    holds(rt, "a copy changes nothing", readable(agenda) == before);
-    if copy.is_err() {
-        rt.retry();
-        copy = agenda.copy(alloc, &Numbers);
+    let copy = agenda.copy(alloc, &Numbers);
+    reads_as(rt, agenda, &before);
+    match copy {
+        Ok(copy) => copy,
+        Err(_) => copied_again(rt, agenda, alloc),
     }
-    got(rt, "one allocation alone is refused", copy)
 }
 
 /// A cast with its number and its content.
@@ -664,7 +729,7 @@ fn all_is_copied_and_stays(rt: HostRuntime) {
         }),
     ];
     let rt = Host::new(rt);
-    let mut agenda = Agenda::new(rt.alloc(), 1);
+    let mut agenda = begun(&rt, 1);
     make_all(&rt, &mut agenda, rt.alloc(), &CALLS);
     let copy = copied(&rt, &mut agenda, rt.alloc());
     has_parts(&rt, &copy);

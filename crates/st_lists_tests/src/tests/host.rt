@@ -48,6 +48,21 @@ impl<R: Abort> Host<R> {
         assert_eq!(self; self.retries.get(), 0);
         self.retries.set(1);
     }
+
+    /// A value in a box: what owns it so is proved much sooner. Where there is no memory, it is boxed again.
+    pub fn boxed<T: Drop>(&self, alloc: Global, value: T) -> Box<T> {
+        match Box::new(alloc, value) {
+            Ok(boxed) => boxed,
+            Err(failed) => {
+                self.retry();
+                got(
+                    self,
+                    "one allocation alone is refused",
+                    Box::new(alloc, failed.value),
+                )
+            }
+        }
+    }
 }
 
 impl<R: Abort + AllocGlobal + Print> Host<R> {

@@ -22,13 +22,34 @@ enum Call {
     /// What is held for a request, and the reply that is kept.
     Show(u64, Option<Held>, Option<u32>),
     /// The replies that are kept for the first eight requests.
-    Keep([Option<u32>; 8]),
+    Keep(&'static [Option<u32>; 8]),
 }
+
+/// The machine to which the requests are made.
+const MACHINE: MachineId = MachineId { slot: 0, serial: 1 };
+
+/// The first request to it.
+const FIRST: Tag = Tag {
+    machine: MACHINE,
+    request: 1,
+};
+
+/// The second request to it.
+const SECOND: Tag = Tag {
+    machine: MACHINE,
+    request: 2,
+};
+
+/// The third request to it.
+const THIRD: Tag = Tag {
+    machine: MACHINE,
+    request: 3,
+};
 
 /// A request to one machine.
 fn tag(request: u64) -> Tag {
     Tag {
-        machine: MachineId { slot: 0, serial: 1 },
+        machine: MACHINE,
         request,
     }
 }
@@ -43,8 +64,8 @@ fn replies(requests: &Requests<u32>) -> [Option<u32>; 8] {
 }
 
 /// Looks at the replies that are kept for the first eight requests.
-fn keeps(rt: &impl Abort, requests: &Requests<u32>, wanted: [Option<u32>; 8]) {
-    same(rt, "the replies that are kept", &replies(requests), &wanted);
+fn keeps(rt: &impl Abort, requests: &Requests<u32>, wanted: &[Option<u32>; 8]) {
+    same(rt, "the replies that are kept", &replies(requests), wanted);
 }
 
 /// Copies numbers.
@@ -81,7 +102,7 @@ fn open(rt: &Host<impl Abort>, requests: &mut Requests<u32>, tag: Tag) {
     holds(rt, "nothing is held yet", requests.held(tag).is_none());
     let before = replies(requests);
     if requests.open(tag).is_err() {
-        keeps(rt, requests, before);
+        keeps(rt, requests, &before);
         rt.retry();
         got(rt, "one allocation alone is refused", requests.open(tag));
     }
@@ -121,7 +142,7 @@ fn make(rt: &Host<impl Abort>, requests: &mut Requests<u32>, call: &Call) {
         }
         Call::Collect(request, wanted) => collect(rt, requests, tag(*request), wanted),
         Call::Show(request, held, reply) => show(rt, requests, tag(*request), *held, *reply),
-        Call::Keep(wanted) => keeps(rt, requests, *wanted),
+        Call::Keep(wanted) => keeps(rt, requests, wanted),
     }
 }
 
@@ -130,6 +151,17 @@ fn make_all(rt: &Host<impl Abort>, requests: &mut Requests<u32>, calls: &[Call])
     for call in calls {
         make(rt, requests, call);
     }
+}
+
+/// The requests to a machine, where none is opened yet.
+fn begun(rt: &Host<impl Abort + AllocGlobal>) -> Box<Requests<u32>> {
+    rt.boxed(rt.alloc(), Requests::new(rt.alloc()))
+}
+
+/// Makes calls one after the other, from no request on, and looks at their answers.
+fn answer_all(rt: &Host<impl Abort + AllocGlobal>, calls: &[Call]) {
+    let mut requests = begun(rt);
+    make_all(rt, &mut requests, calls);
 }
 
 /// A list that is reserved for so many tags. Where memory was refused, it is asked for again.
@@ -147,7 +179,7 @@ fn with_reserved(rt: &Host<impl Abort>, alloc: Global, count: usize) -> Vec<Tag>
 
 #[test]
 fn each_call_answers(rt: HostRuntime) {
-    const CALLS: [Call; 17] = [
+    static CALLS: [Call; 17] = [
         Call::Open(1),
         Call::Open(2),
         Call::Collect(1, Collected::Waiting),
@@ -167,13 +199,13 @@ fn each_call_answers(rt: HostRuntime) {
         Call::Collect(2, Collected::Gone),
     ];
     let rt = Host::new(rt);
-    make_all(&rt, &mut Requests::new(rt.alloc()), &CALLS);
+    answer_all(&rt, &CALLS);
     rt.end();
 }
 
 #[test]
 fn a_reply_outlives_the_machine(rt: HostRuntime) {
-    const CALLS: [Call; 17] = [
+    static CALLS: [Call; 17] = [
         Call::Open(1),
         Call::Open(2),
         Call::Open(3),
@@ -184,7 +216,7 @@ fn a_reply_outlives_the_machine(rt: HostRuntime) {
         Call::Show(4, None, None),
         Call::Close(9),
         Call::Close(8),
-        Call::Keep([None, Some(50), None, None, None, None, None, None]),
+        Call::Keep(&[None, Some(50), None, None, None, None, None, None]),
         Call::Collect(1, Collected::Stopped(9)),
         Call::Collect(2, Collected::Reply(50)),
         Call::Collect(3, Collected::Stopped(9)),
@@ -193,14 +225,14 @@ fn a_reply_outlives_the_machine(rt: HostRuntime) {
         Call::Collect(3, Collected::Gone),
     ];
     let rt = Host::new(rt);
-    make_all(&rt, &mut Requests::new(rt.alloc()), &CALLS);
+    answer_all(&rt, &CALLS);
     rt.end();
 }
 
 #[test]
 fn another_machine_has_requests_of_its_own(rt: HostRuntime) {
     let rt = Host::new(rt);
-    let mut requests = Requests::new(rt.alloc());
+    let mut requests = begun(&rt);
     let elsewhere = Tag {
         machine: MachineId { slot: 1, serial: 1 },
         request: 1,
@@ -222,7 +254,7 @@ fn another_machine_has_requests_of_its_own(rt: HostRuntime) {
 
 #[test]
 fn a_refused_call_changes_nothing(rt: HostRuntime) {
-    const CALLS: [Call; 18] = [
+    static CALLS: [Call; 18] = [
         Call::Open(1),
         Call::Open(2),
         Call::Answer(1, 50, true),
@@ -232,7 +264,7 @@ fn a_refused_call_changes_nothing(rt: HostRuntime) {
         Call::Answer(3, 70, true),
         Call::Open(5),
         Call::Open(6),
-        Call::Keep([Some(50), None, Some(70), None, None, None, None, None]),
+        Call::Keep(&[Some(50), None, Some(70), None, None, None, None, None]),
         Call::Collect(4, Collected::Waiting),
         Call::Collect(5, Collected::Waiting),
         Call::Collect(6, Collected::Waiting),
@@ -243,13 +275,13 @@ fn a_refused_call_changes_nothing(rt: HostRuntime) {
         Call::Collect(1, Collected::Gone),
     ];
     let rt = Host::new(rt);
-    make_all(&rt, &mut Requests::new(rt.alloc()), &CALLS);
+    answer_all(&rt, &CALLS);
     rt.end();
 }
 
 #[test]
 fn a_request_is_taken_back(rt: HostRuntime) {
-    const CALLS: [Call; 14] = [
+    static CALLS: [Call; 14] = [
         Call::Open(1),
         Call::Open(2),
         Call::Open(3),
@@ -266,7 +298,7 @@ fn a_request_is_taken_back(rt: HostRuntime) {
         Call::Collect(1, Collected::Reply(70)),
     ];
     let rt = Host::new(rt);
-    make_all(&rt, &mut Requests::new(rt.alloc()), &CALLS);
+    answer_all(&rt, &CALLS);
     rt.end();
 }
 
@@ -280,23 +312,33 @@ fn four_replies(rt: &impl Abort, alloc: Global, rows: [(u64, u32); 4]) -> Replie
     answers
 }
 
+/// Three requests are opened.
+fn three_open(rt: &Host<impl Abort>, requests: &mut Requests<u32>) {
+    for request in [1, 2, 3] {
+        open(rt, requests, tag(request));
+    }
+}
+
+/// Replies to three requests that are open: to the fourth none was opened, and the second is answered twice. Looks at
+/// the tags of those that are taken, which stand behind another one, and at what is kept.
+fn two_are_taken(rt: &Host<impl Abort>, requests: &mut Requests<u32>, alloc: Global) {
+    static KEPT: [Option<u32>; 8] = [Some(70), Some(50), None, None, None, None, None, None];
+    let mut taken = with_reserved(rt, alloc, 5);
+    taken.push_reserved(tag(9));
+    let answers = four_replies(rt, alloc, [(2, 50), (4, 60), (1, 70), (2, 80)]);
+    holds(rt, "there are four", answers.len() == 4);
+    requests.answer_all(answers, &mut taken);
+    let wanted = [tag(9), tag(2), tag(1)];
+    same(rt, "taken", &taken.as_slice(), &wanted.as_slice());
+    keeps(rt, requests, &KEPT);
+}
+
 #[test]
 fn replies_are_taken_in_order(rt: HostRuntime) {
     let rt = Host::new(rt);
-    let mut requests = Requests::new(rt.alloc());
-    for request in [1, 2, 3] {
-        open(&rt, &mut requests, tag(request));
-    }
-    let mut taken = with_reserved(&rt, rt.alloc(), 5);
-    taken.push_reserved(tag(9));
-    // To the fourth request none was opened, and the second is answered twice.
-    let answers = four_replies(&rt, rt.alloc(), [(2, 50), (4, 60), (1, 70), (2, 80)]);
-    holds(&rt, "there are four", answers.len() == 4);
-    requests.answer_all(answers, &mut taken);
-    let wanted = [tag(9), tag(2), tag(1)];
-    same(&rt, "taken", &taken.as_slice(), &wanted.as_slice());
-    let kept = [Some(70), Some(50), None, None, None, None, None, None];
-    keeps(&rt, &requests, kept);
+    let mut requests = begun(&rt);
+    three_open(&rt, &mut requests);
+    two_are_taken(&rt, &mut requests, rt.alloc());
     collect(&rt, &mut requests, tag(3), &Collected::Waiting);
     collect(&rt, &mut requests, tag(4), &Collected::Gone);
     rt.end();
@@ -317,32 +359,30 @@ fn copies(rt: &Host<impl Abort>, requests: &Requests<u32>, wanted: &[Request<u32
 
 #[test]
 fn what_is_held_is_listed_and_copied(rt: HostRuntime) {
-    let rt = Host::new(rt);
-    let mut requests = Requests::new(rt.alloc());
-    for request in [1, 2, 3] {
-        open(&rt, &mut requests, tag(request));
-    }
-    answer(&rt, &mut requests, tag(2), 50, true);
-    let open = [
-        (tag(1), Held::Open),
-        (tag(2), Held::Reply),
-        (tag(3), Held::Open),
+    static OPEN: [(Tag, Held); 3] = [
+        (FIRST, Held::Open),
+        (SECOND, Held::Reply),
+        (THIRD, Held::Open),
     ];
-    lists(&rt, &requests, &open);
-    requests.close(9);
-    collect(&rt, &mut requests, tag(3), &Collected::Stopped(9));
-    let kept = [(tag(1), Held::Stopped(9)), (tag(2), Held::Reply)];
-    lists(&rt, &requests, &kept);
-    let copy = [
+    static CLOSED: [(Tag, Held); 2] = [(FIRST, Held::Stopped(9)), (SECOND, Held::Reply)];
+    static COPY: [Request<u32>; 2] = [
         Request {
-            tag: tag(1),
+            tag: FIRST,
             held: RequestState::Stopped(9),
         },
         Request {
-            tag: tag(2),
+            tag: SECOND,
             held: RequestState::Reply(50),
         },
     ];
-    copies(&rt, &requests, &copy);
+    let rt = Host::new(rt);
+    let mut requests = begun(&rt);
+    three_open(&rt, &mut requests);
+    answer(&rt, &mut requests, tag(2), 50, true);
+    lists(&rt, &requests, &OPEN);
+    requests.close(9);
+    collect(&rt, &mut requests, tag(3), &Collected::Stopped(9));
+    lists(&rt, &requests, &CLOSED);
+    copies(&rt, &requests, &COPY);
     rt.end();
 }

@@ -426,6 +426,34 @@ fn are_due<L: Ledger>(
     );
 }
 
+/// Five hundred timers are set, each of 500 moments once.
+fn many_run<L: Ledger>(rt: &Host<impl Abort>, timeouts: &mut Timeouts<char>, steps: &mut Steps<L>) {
+    for place in 0..500 {
+        set_twice(rt, timeouts, place, steps);
+    }
+    are_due(rt, timeouts, 250, 250, steps);
+    are_due(rt, timeouts, 1_000, 500, steps);
+}
+
+/// Every third of them is stopped.
+fn thirds_stop<L: Ledger>(rt: &impl Abort, timeouts: &mut Timeouts<char>, steps: &mut Steps<L>) {
+    for third in 0..167 {
+        let stopped = timeouts.cancel(timer_and_moment(third * 3).0);
+        same(rt, "what is stopped", &stopped, &Some('b'));
+    }
+    are_due(rt, timeouts, 1_000, 333, steps);
+}
+
+/// The others expire in order.
+fn others_expire<L: Ledger>(rt: &impl Abort, timeouts: &mut Timeouts<char>, steps: &mut Steps<L>) {
+    let mut last = 0;
+    for _ in 0..333 {
+        last = next_after(rt, timeouts, last, steps);
+    }
+    let none = timeouts.next_expiry(1_000, steps) == None;
+    holds(rt, "all have expired", none);
+}
+
 /// Many run: every third is stopped, each moment has been set twice, and the others expire in order.
 fn many<L: Ledger>(rt: &Host<impl Abort>, alloc: Global, blank: Blank)
     requires name { blank.name ≡ L.name }
@@ -433,23 +461,10 @@ fn many<L: Ledger>(rt: &Host<impl Abort>, alloc: Global, blank: Blank)
     requires some { 0 < blank.parts }
 {
     let mut steps = Steps::<L>::new(blank);
-    let mut timeouts = Timeouts::new(alloc);
-    for place in 0..500 {
-        set_twice(rt, &mut timeouts, place, &mut steps);
-    }
-    are_due(rt, &timeouts, 250, 250, &mut steps);
-    are_due(rt, &timeouts, 1_000, 500, &mut steps);
-    for third in 0..167 {
-        let stopped = timeouts.cancel(timer_and_moment(third * 3).0);
-        same(rt, "what is stopped", &stopped, &Some('b'));
-    }
-    are_due(rt, &timeouts, 1_000, 333, &mut steps);
-    let mut last = 0;
-    for _ in 0..333 {
-        last = next_after(rt, &mut timeouts, last, &mut steps);
-    }
-    let none = timeouts.next_expiry(1_000, &mut steps) == None;
-    holds(rt, "all have expired", none);
+    let mut timeouts = rt.boxed(alloc, Timeouts::new(alloc));
+    many_run(rt, &mut timeouts, &mut steps);
+    thirds_stop(rt, &mut timeouts, &mut steps);
+    others_expire(rt, &mut timeouts, &mut steps);
 }
 
 #[test]

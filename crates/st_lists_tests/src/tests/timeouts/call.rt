@@ -186,7 +186,7 @@ pub fn row_answers<L: Ledger>(rt: &Host<impl Abort>, alloc: Global, blank: Blank
     requires some { 0 < blank.parts }
 {
     let mut steps = Steps::<L>::new(blank);
-    let mut timeouts = Timeouts::new(alloc);
+    let mut timeouts = rt.boxed(alloc, Timeouts::new(alloc));
     for (place, call) in row.iter().enumerate() {
         make(rt, &mut timeouts, place, *call, &mut steps);
     }

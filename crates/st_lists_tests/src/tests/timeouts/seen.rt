@@ -82,6 +82,18 @@ fn readable<L: Ledger>(
     }
 }
 
+/// Looks that all is as it was, before a call that was refused, and that is made again.
+fn unchanged<L: Ledger>(
+    rt: &Host<impl Abort>,
+    timeouts: &Timeouts<char>,
+    before: &Seen,
+    steps: &mut Steps<L>,
+) {
+    let after = readable(rt, timeouts, steps);
+    holds(rt, "a refused call changes nothing", after == *before);
+    rt.retry();
+}
+
 /// Reserves for so many. A call that finds no memory changes nothing that can be read, and is made again.
 pub fn reserve_for<L: Ledger>(
     rt: &Host<impl Abort>,
@@ -93,9 +105,7 @@ pub fn reserve_for<L: Ledger>(
 {
     let before = readable(rt, timeouts, steps);
     if timeouts.reserve(count).is_err() {
-        let after = readable(rt, timeouts, steps);
-        holds(rt, "a refused call changes nothing", after == before);
-        rt.retry();
+        unchanged(rt, timeouts, &before, steps);
         got(
             rt,
             "one allocation alone is refused",
