@@ -410,6 +410,16 @@ fn asks(rt: &impl Abort, planned: &Planned<u64>, wanted: &Wanted) {
     sends(rt, planned, wanted.sends);
 }
 
+/// Looks that an event's letters ask for this.
+fn asks_of_event(rt: &Host<impl Abort>, alloc: Global, letters: &[char], wanted: &Wanted) {
+    asks(rt, &planned(rt, alloc, letters), wanted);
+}
+
+/// Looks that an enter call's letters ask for this.
+fn asks_of_enter(rt: &Host<impl Abort>, alloc: Global, letters: &[char], wanted: &Wanted) {
+    asks(rt, &entered(rt, alloc, letters), wanted);
+}
+
 /// Looks that the settings of these capital letters at these places are asked for, and no others.
 fn places(rt: &impl Abort, planned: &Planned<u64>, wanted: &[(char, u64)]) {
     same(
@@ -435,7 +445,8 @@ fn postpones(rt: &Host<impl Abort>, alloc: Global, letters: &[char], wanted: boo
 
 /// Replies and inserts keep their order, and inserts may be taken from the back.
 fn an_order_is_kept(rt: &Host<impl Abort>, alloc: Global) {
-    let mut seven = planned(rt, alloc, &['i', 'r', 'p', 'h', 't', 's', 'i']);
+    let seven = planned(rt, alloc, &['i', 'r', 'p', 'h', 't', 's', 'i']);
+    let mut seven = rt.boxed(alloc, seven);
     static SEVEN: Wanted<'static> = Wanted {
         replies: &[(FIRST, 10), (SECOND, 20)],
         postpone: true,
@@ -457,7 +468,7 @@ fn an_order_is_kept(rt: &Host<impl Abort>, alloc: Global) {
 #[test]
 fn each_call_answers(rt: HostRuntime) {
     let rt = Host::new(rt);
-    asks(&rt, &planned(&rt, rt.alloc(), &[]), &NOTHING);
+    asks_of_event(&rt, rt.alloc(), &[], &NOTHING);
     // The last postpone decides.
     postpones(&rt, rt.alloc(), &['p'], true);
     postpones(&rt, rt.alloc(), &['p', 'k'], false);
@@ -467,30 +478,41 @@ fn each_call_answers(rt: HostRuntime) {
         inserts: &[(Kind::Timeout(Timer::State), 40), (Kind::Internal, 30)],
         ..NOTHING
     };
-    let both = planned(&rt, rt.alloc(), &['s', 't', 'r', 'i']);
-    asks(&rt, &both, &BOTH);
+    asks_of_event(&rt, rt.alloc(), &['s', 't', 'r', 'i'], &BOTH);
     an_order_is_kept(&rt, rt.alloc());
     rt.end();
 }
 
+/// Looks that an event's letters ask this of these timers, and no more.
+fn settings_of_event(
+    rt: &Host<impl Abort>,
+    alloc: Global,
+    letters: &[char],
+    wanted: &[(Timer, Decision, u64)],
+) {
+    settings(rt, &planned(rt, alloc, letters), wanted);
+}
+
 #[test]
 fn the_last_setting_of_each_timer_decides(rt: HostRuntime) {
-    let rt = Host::new(rt);
-    let both = planned(&rt, rt.alloc(), &['1', '2']);
-    static BOTH: [(Timer, Decision, u64); 2] = [
-        (Timer::Named(1), Decision::Set(Time::After(1)), 50),
-        (Timer::Named(2), Decision::Set(Time::After(2)), 60),
+    static ROWS: [(&[char], &[Setting]); 2] = [
+        (
+            &['1', '2'],
+            &[
+                (Timer::Named(1), Decision::Set(Time::After(1)), 50),
+                (Timer::Named(2), Decision::Set(Time::After(2)), 60),
+            ],
+        ),
+        // It stands where the last one stood, also where it stops the timer.
+        (
+            &['1', '2', '9'],
+            &[
+                (Timer::Named(2), Decision::Set(Time::After(2)), 60),
+                (Timer::Named(1), Decision::Set(Time::After(9)), 70),
+            ],
+        ),
     ];
-    settings(&rt, &both, &BOTH);
-
-    // It stands where the last one stood, also where it stops the timer.
-    let again = planned(&rt, rt.alloc(), &['1', '2', '9']);
-    static AGAIN: [(Timer, Decision, u64); 2] = [
-        (Timer::Named(2), Decision::Set(Time::After(2)), 60),
-        (Timer::Named(1), Decision::Set(Time::After(9)), 70),
-    ];
-    settings(&rt, &again, &AGAIN);
-    let stopped = planned(&rt, rt.alloc(), &['9', 'e', '0', 'x', 'p', 'e']);
+    static LETTERS: [char; 6] = ['9', 'e', '0', 'x', 'p', 'e'];
     static STOPPED: Wanted<'static> = Wanted {
         postpone: true,
         settings: &[
@@ -500,7 +522,11 @@ fn the_last_setting_of_each_timer_decides(rt: HostRuntime) {
         ],
         ..NOTHING
     };
-    asks(&rt, &stopped, &STOPPED);
+    let rt = Host::new(rt);
+    for (letters, wanted) in &ROWS {
+        settings_of_event(&rt, rt.alloc(), *letters, *wanted);
+    }
+    asks_of_event(&rt, rt.alloc(), &LETTERS, &STOPPED);
     rt.end();
 }
 
@@ -508,7 +534,6 @@ fn the_last_setting_of_each_timer_decides(rt: HostRuntime) {
 fn refused_memory_changes_nothing(rt: HostRuntime) {
     let rt = Host::new(rt);
     static LETTERS: [char; 10] = ['r', 'i', 's', 'k', 'm', '1', 't', 'p', 'x', '9'];
-    let ten = planned(&rt, rt.alloc(), &LETTERS);
     static TEN: Wanted<'static> = Wanted {
         replies: &[(FIRST, 10), (SECOND, 20)],
         postpone: true,
@@ -519,37 +544,42 @@ fn refused_memory_changes_nothing(rt: HostRuntime) {
         ],
         sends: &[(NEAR, 130)],
     };
-    asks(&rt, &ten, &TEN);
+    asks_of_event(&rt, rt.alloc(), &LETTERS, &TEN);
     rt.end();
 }
 
 #[test]
 fn an_enter_call_replies_and_sets_timers(rt: HostRuntime) {
+    static ROWS: [(&[char], Wanted); 3] = [
+        (&[], NOTHING),
+        (
+            &['x', 'h', 'r', 'e'],
+            Wanted {
+                replies: &[(FIRST, 10)],
+                settings: &[
+                    (Timer::State, Decision::Set(Time::After(3)), 100),
+                    (Timer::Event, Decision::Set(Time::After(0)), 90),
+                ],
+                ..NOTHING
+            },
+        ),
+        // Of a timer's settings the last decides, and stands where it stood.
+        (
+            &['s', '1', 'h', 'r', '2', '9'],
+            Wanted {
+                replies: &[(SECOND, 20), (FIRST, 10)],
+                settings: &[
+                    (Timer::Named(2), Decision::Set(Time::After(2)), 60),
+                    (Timer::Named(1), Decision::Set(Time::After(9)), 70),
+                ],
+                ..NOTHING
+            },
+        ),
+    ];
     let rt = Host::new(rt);
-    asks(&rt, &entered(&rt, rt.alloc(), &[]), &NOTHING);
-
-    let four = entered(&rt, rt.alloc(), &['x', 'h', 'r', 'e']);
-    static FOUR: Wanted<'static> = Wanted {
-        replies: &[(FIRST, 10)],
-        settings: &[
-            (Timer::State, Decision::Set(Time::After(3)), 100),
-            (Timer::Event, Decision::Set(Time::After(0)), 90),
-        ],
-        ..NOTHING
-    };
-    asks(&rt, &four, &FOUR);
-
-    // Of a timer's settings the last decides, and stands where it stood.
-    let six = entered(&rt, rt.alloc(), &['s', '1', 'h', 'r', '2', '9']);
-    static SIX: Wanted<'static> = Wanted {
-        replies: &[(SECOND, 20), (FIRST, 10)],
-        settings: &[
-            (Timer::Named(2), Decision::Set(Time::After(2)), 60),
-            (Timer::Named(1), Decision::Set(Time::After(9)), 70),
-        ],
-        ..NOTHING
-    };
-    asks(&rt, &six, &SIX);
+    for (letters, wanted) in &ROWS {
+        asks_of_enter(&rt, rt.alloc(), *letters, wanted);
+    }
     rt.end();
 }
 
@@ -560,7 +590,7 @@ fn event_joined(
     event: &[char],
     enter: &[char],
 ) -> Planned<u64> {
-    let copies = event_and_enter(rt, alloc, event, enter);
+    let copies = rt.boxed(alloc, event_and_enter(rt, alloc, event, enter));
     let plans = event_and_enter(rt, alloc, event, enter);
     joined(rt, alloc, plans, &copies)
 }
@@ -572,16 +602,37 @@ fn events_joined(
     first: &[char],
     second: &[char],
 ) -> Planned<u64> {
-    let copies = two_events(rt, alloc, first, second);
+    let copies = rt.boxed(alloc, two_events(rt, alloc, first, second));
     let plans = two_events(rt, alloc, first, second);
     joined(rt, alloc, plans, &copies)
+}
+
+/// Looks that an event's letters and an enter call's ask for this together.
+fn event_asks(
+    rt: &Host<impl Abort>,
+    alloc: Global,
+    event: &[char],
+    enter: &[char],
+    wanted: &Wanted,
+) {
+    asks(rt, &event_joined(rt, alloc, event, enter), wanted);
+}
+
+/// Looks that the letters of two events ask for this together.
+fn events_ask(
+    rt: &Host<impl Abort>,
+    alloc: Global,
+    first: &[char],
+    second: &[char],
+    wanted: &Wanted,
+) {
+    asks(rt, &events_joined(rt, alloc, first, second), wanted);
 }
 
 #[test]
 fn an_enter_calls_settings_replace_the_events(rt: HostRuntime) {
     let rt = Host::new(rt);
     static EVENT: [char; 5] = ['r', 'p', 'i', '1', 'e'];
-    let both = event_joined(&rt, rt.alloc(), &EVENT, &['s', '0', 'h']);
     static BOTH: Wanted<'static> = Wanted {
         replies: &[(FIRST, 10), (SECOND, 20)],
         postpone: true,
@@ -592,15 +643,14 @@ fn an_enter_calls_settings_replace_the_events(rt: HostRuntime) {
         ],
         ..NOTHING
     };
-    asks(&rt, &both, &BOTH);
+    event_asks(&rt, rt.alloc(), &EVENT, &['s', '0', 'h'], &BOTH);
 
     // The first list alone decides whether the event is postponed.
-    let kept = events_joined(&rt, rt.alloc(), &['i', 'k'], &['p', 't']);
     static KEPT: Wanted<'static> = Wanted {
         inserts: &[(Kind::Internal, 30), (Kind::Timeout(Timer::State), 40)],
         ..NOTHING
     };
-    asks(&rt, &kept, &KEPT);
+    events_ask(&rt, rt.alloc(), &['i', 'k'], &['p', 't'], &KEPT);
     rt.end();
 }
 
@@ -609,7 +659,6 @@ fn a_refused_join_changes_nothing(rt: HostRuntime) {
     let rt = Host::new(rt);
     static EARLIER: [char; 12] = ['r', 'i', 's', 't', '1', 'p', 'i', 'n', 'e', '2', 'x', 'r'];
     static LATER: [char; 7] = ['s', 't', 'm', 'k', 'i', '9', 'r'];
-    let both = events_joined(&rt, rt.alloc(), &EARLIER, &LATER);
     static BOTH: Wanted<'static> = Wanted {
         replies: &[
             (FIRST, 10),
@@ -634,7 +683,7 @@ fn a_refused_join_changes_nothing(rt: HostRuntime) {
         ],
         sends: &[(FAR, 140), (NEAR, 130)],
     };
-    asks(&rt, &both, &BOTH);
+    events_ask(&rt, rt.alloc(), &EARLIER, &LATER, &BOTH);
     rt.end();
 }
 
@@ -649,8 +698,8 @@ fn asked_by(
         settings: wanted,
         ..NOTHING
     };
-    asks(rt, &planned(rt, alloc, letters), &wanted);
-    asks(rt, &entered(rt, alloc, letters), &wanted);
+    asks_of_event(rt, alloc, letters, &wanted);
+    asks_of_enter(rt, alloc, letters, &wanted);
 }
 
 /// What is asked of a timer, without the content, and the content.
@@ -688,14 +737,13 @@ fn of_all_that_is_asked_of_a_timer_the_last_decides(rt: HostRuntime) {
 #[test]
 fn what_is_sent_keeps_its_order(rt: HostRuntime) {
     let rt = Host::new(rt);
-    let five = planned(&rt, rt.alloc(), &['m', 'r', 'n', 'u', 'm']);
     static FIVE: Wanted<'static> = Wanted {
         replies: &[(FIRST, 10)],
         settings: &[(Timer::Named(1), Decision::Update, 110)],
         sends: &[(NEAR, 130), (FAR, 140), (NEAR, 130)],
         ..NOTHING
     };
-    asks(&rt, &five, &FIVE);
+    asks_of_event(&rt, rt.alloc(), &['m', 'r', 'n', 'u', 'm'], &FIVE);
     rt.end();
 }
 
@@ -703,7 +751,6 @@ fn what_is_sent_keeps_its_order(rt: HostRuntime) {
 fn what_an_enter_call_asks_of_a_timer_decides(rt: HostRuntime) {
     let rt = Host::new(rt);
     static EVENT: [char; 5] = ['1', 'm', 'v', 'n', 'e'];
-    let both = event_joined(&rt, rt.alloc(), &EVENT, &['d', 'u']);
     static BOTH: Wanted<'static> = Wanted {
         settings: &[
             (Timer::Event, Decision::Set(Time::After(0)), 90),
@@ -713,16 +760,15 @@ fn what_an_enter_call_asks_of_a_timer_decides(rt: HostRuntime) {
         sends: &[(NEAR, 130), (FAR, 140)],
         ..NOTHING
     };
-    asks(&rt, &both, &BOTH);
+    event_asks(&rt, rt.alloc(), &EVENT, &['d', 'u'], &BOTH);
 
     // A second list sends behind the first.
-    let sent = events_joined(&rt, rt.alloc(), &['n', 'u'], &['m', '1', 'n']);
     static SENT: Wanted<'static> = Wanted {
         settings: &[(Timer::Named(1), Decision::Set(Time::After(1)), 50)],
         sends: &[(FAR, 140), (NEAR, 130), (FAR, 140)],
         ..NOTHING
     };
-    asks(&rt, &sent, &SENT);
+    events_ask(&rt, rt.alloc(), &['n', 'u'], &['m', '1', 'n'], &SENT);
     rt.end();
 }
 
@@ -753,7 +799,6 @@ fn the_last_setting_decides_also_in_long_lists(rt: HostRuntime) {
 fn the_last_setting_decides_also_in_long_plans(rt: HostRuntime) {
     let rt = Host::new(rt);
     static TWELVE: [char; 12] = ['M', 'B', 'N', 'A', 'O', 'X', 'A', 'P', 'B', 'Q', 'M', 'N'];
-    let both = event_joined(&rt, rt.alloc(), &FORTY, &TWELVE);
     // Those of the forty whose timers none of the twelve sets, and then the last ones of the twelve.
     static LASTS: [(char, u64); 18] = [
         ('F', 20),
@@ -775,6 +820,6 @@ fn the_last_setting_decides_also_in_long_plans(rt: HostRuntime) {
         ('M', 10),
         ('N', 11),
     ];
-    places(&rt, &both, &LASTS);
+    places(&rt, &event_joined(&rt, rt.alloc(), &FORTY, &TWELVE), &LASTS);
     rt.end();
 }
