@@ -1,4 +1,4 @@
-//! Couriers hand numbers on, with a journal and without, and are served in slices.
+//! Couriers without a journal hand numbers on, and are served in slices.
 ghost use Rattle.std.specs.Prelude.{◌≤◌};
 
 use super::courier::with;
