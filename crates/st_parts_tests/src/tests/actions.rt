@@ -410,16 +410,6 @@ fn asks(rt: &impl Abort, planned: &Planned<u64>, wanted: &Wanted) {
     sends(rt, planned, wanted.sends);
 }
 
-/// Looks that an event's letters ask for this.
-fn asks_of_event(rt: &Host<impl Abort>, alloc: Global, letters: &[char], wanted: &Wanted) {
-    asks(rt, &planned(rt, alloc, letters), wanted);
-}
-
-/// Looks that an enter call's letters ask for this.
-fn asks_of_enter(rt: &Host<impl Abort>, alloc: Global, letters: &[char], wanted: &Wanted) {
-    asks(rt, &entered(rt, alloc, letters), wanted);
-}
-
 /// Looks that the settings of these capital letters at these places are asked for, and no others.
 fn places(rt: &impl Abort, planned: &Planned<u64>, wanted: &[(char, u64)]) {
     same(
@@ -445,8 +435,7 @@ fn postpones(rt: &Host<impl Abort>, alloc: Global, letters: &[char], wanted: boo
 
 /// Replies and inserts keep their order, and inserts may be taken from the back.
 fn an_order_is_kept(rt: &Host<impl Abort>, alloc: Global) {
-    let seven = planned(rt, alloc, &['i', 'r', 'p', 'h', 't', 's', 'i']);
-    let mut seven = rt.boxed(alloc, seven);
+    let mut seven = planned(rt, alloc, &['i', 'r', 'p', 'h', 't', 's', 'i']);
     static SEVEN: Wanted<'static> = Wanted {
         replies: &[(FIRST, 10), (SECOND, 20)],
         postpone: true,
@@ -468,7 +457,7 @@ fn an_order_is_kept(rt: &Host<impl Abort>, alloc: Global) {
 #[test]
 fn each_call_answers(rt: HostRuntime) {
     let rt = Host::new(rt);
-    asks_of_event(&rt, rt.alloc(), &[], &NOTHING);
+    asks(&rt, &planned(&rt, rt.alloc(), &[]), &NOTHING);
     // The last postpone decides.
     postpones(&rt, rt.alloc(), &['p'], true);
     postpones(&rt, rt.alloc(), &['p', 'k'], false);
@@ -478,41 +467,30 @@ fn each_call_answers(rt: HostRuntime) {
         inserts: &[(Kind::Timeout(Timer::State), 40), (Kind::Internal, 30)],
         ..NOTHING
     };
-    asks_of_event(&rt, rt.alloc(), &['s', 't', 'r', 'i'], &BOTH);
+    let both = planned(&rt, rt.alloc(), &['s', 't', 'r', 'i']);
+    asks(&rt, &both, &BOTH);
     an_order_is_kept(&rt, rt.alloc());
     rt.end();
 }
 
-/// Looks that an event's letters ask this of these timers, and no more.
-fn settings_of_event(
-    rt: &Host<impl Abort>,
-    alloc: Global,
-    letters: &[char],
-    wanted: &[(Timer, Decision, u64)],
-) {
-    settings(rt, &planned(rt, alloc, letters), wanted);
-}
-
 #[test]
 fn the_last_setting_of_each_timer_decides(rt: HostRuntime) {
-    static ROWS: [(&[char], &[Setting]); 2] = [
-        (
-            &['1', '2'],
-            &[
-                (Timer::Named(1), Decision::Set(Time::After(1)), 50),
-                (Timer::Named(2), Decision::Set(Time::After(2)), 60),
-            ],
-        ),
-        // It stands where the last one stood, also where it stops the timer.
-        (
-            &['1', '2', '9'],
-            &[
-                (Timer::Named(2), Decision::Set(Time::After(2)), 60),
-                (Timer::Named(1), Decision::Set(Time::After(9)), 70),
-            ],
-        ),
+    let rt = Host::new(rt);
+    let both = planned(&rt, rt.alloc(), &['1', '2']);
+    static BOTH: [(Timer, Decision, u64); 2] = [
+        (Timer::Named(1), Decision::Set(Time::After(1)), 50),
+        (Timer::Named(2), Decision::Set(Time::After(2)), 60),
     ];
-    static LETTERS: [char; 6] = ['9', 'e', '0', 'x', 'p', 'e'];
+    settings(&rt, &both, &BOTH);
+
+    // It stands where the last one stood, also where it stops the timer.
+    let again = planned(&rt, rt.alloc(), &['1', '2', '9']);
+    static AGAIN: [(Timer, Decision, u64); 2] = [
+        (Timer::Named(2), Decision::Set(Time::After(2)), 60),
+        (Timer::Named(1), Decision::Set(Time::After(9)), 70),
+    ];
+    settings(&rt, &again, &AGAIN);
+    let stopped = planned(&rt, rt.alloc(), &['9', 'e', '0', 'x', 'p', 'e']);
     static STOPPED: Wanted<'static> = Wanted {
         postpone: true,
         settings: &[
@@ -522,11 +500,7 @@ fn the_last_setting_of_each_timer_decides(rt: HostRuntime) {
         ],
         ..NOTHING
     };
-    let rt = Host::new(rt);
-    for (letters, wanted) in &ROWS {
-        settings_of_event(&rt, rt.alloc(), *letters, *wanted);
-    }
-    asks_of_event(&rt, rt.alloc(), &LETTERS, &STOPPED);
+    asks(&rt, &stopped, &STOPPED);
     rt.end();
 }
 
@@ -534,6 +508,7 @@ fn the_last_setting_of_each_timer_decides(rt: HostRuntime) {
 fn refused_memory_changes_nothing(rt: HostRuntime) {
     let rt = Host::new(rt);
     static LETTERS: [char; 10] = ['r', 'i', 's', 'k', 'm', '1', 't', 'p', 'x', '9'];
+    let ten = planned(&rt, rt.alloc(), &LETTERS);
     static TEN: Wanted<'static> = Wanted {
         replies: &[(FIRST, 10), (SECOND, 20)],
         postpone: true,
@@ -544,42 +519,37 @@ fn refused_memory_changes_nothing(rt: HostRuntime) {
         ],
         sends: &[(NEAR, 130)],
     };
-    asks_of_event(&rt, rt.alloc(), &LETTERS, &TEN);
+    asks(&rt, &ten, &TEN);
     rt.end();
 }
 
 #[test]
 fn an_enter_call_replies_and_sets_timers(rt: HostRuntime) {
-    static ROWS: [(&[char], Wanted); 3] = [
-        (&[], NOTHING),
-        (
-            &['x', 'h', 'r', 'e'],
-            Wanted {
-                replies: &[(FIRST, 10)],
-                settings: &[
-                    (Timer::State, Decision::Set(Time::After(3)), 100),
-                    (Timer::Event, Decision::Set(Time::After(0)), 90),
-                ],
-                ..NOTHING
-            },
-        ),
-        // Of a timer's settings the last decides, and stands where it stood.
-        (
-            &['s', '1', 'h', 'r', '2', '9'],
-            Wanted {
-                replies: &[(SECOND, 20), (FIRST, 10)],
-                settings: &[
-                    (Timer::Named(2), Decision::Set(Time::After(2)), 60),
-                    (Timer::Named(1), Decision::Set(Time::After(9)), 70),
-                ],
-                ..NOTHING
-            },
-        ),
-    ];
     let rt = Host::new(rt);
-    for (letters, wanted) in &ROWS {
-        asks_of_enter(&rt, rt.alloc(), *letters, wanted);
-    }
+    asks(&rt, &entered(&rt, rt.alloc(), &[]), &NOTHING);
+
+    let four = entered(&rt, rt.alloc(), &['x', 'h', 'r', 'e']);
+    static FOUR: Wanted<'static> = Wanted {
+        replies: &[(FIRST, 10)],
+        settings: &[
+            (Timer::State, Decision::Set(Time::After(3)), 100),
+            (Timer::Event, Decision::Set(Time::After(0)), 90),
+        ],
+        ..NOTHING
+    };
+    asks(&rt, &four, &FOUR);
+
+    // Of a timer's settings the last decides, and stands where it stood.
+    let six = entered(&rt, rt.alloc(), &['s', '1', 'h', 'r', '2', '9']);
+    static SIX: Wanted<'static> = Wanted {
+        replies: &[(SECOND, 20), (FIRST, 10)],
+        settings: &[
+            (Timer::Named(2), Decision::Set(Time::After(2)), 60),
+            (Timer::Named(1), Decision::Set(Time::After(9)), 70),
+        ],
+        ..NOTHING
+    };
+    asks(&rt, &six, &SIX);
     rt.end();
 }
 
@@ -590,7 +560,7 @@ fn event_joined(
     event: &[char],
     enter: &[char],
 ) -> Planned<u64> {
-    let copies = rt.boxed(alloc, event_and_enter(rt, alloc, event, enter));
+    let copies = event_and_enter(rt, alloc, event, enter);
     let plans = event_and_enter(rt, alloc, event, enter);
     joined(rt, alloc, plans, &copies)
 }
@@ -602,37 +572,16 @@ fn events_joined(
     first: &[char],
     second: &[char],
 ) -> Planned<u64> {
-    let copies = rt.boxed(alloc, two_events(rt, alloc, first, second));
+    let copies = two_events(rt, alloc, first, second);
     let plans = two_events(rt, alloc, first, second);
     joined(rt, alloc, plans, &copies)
-}
-
-/// Looks that an event's letters and an enter call's ask for this together.
-fn event_asks(
-    rt: &Host<impl Abort>,
-    alloc: Global,
-    event: &[char],
-    enter: &[char],
-    wanted: &Wanted,
-) {
-    asks(rt, &event_joined(rt, alloc, event, enter), wanted);
-}
-
-/// Looks that the letters of two events ask for this together.
-fn events_ask(
-    rt: &Host<impl Abort>,
-    alloc: Global,
-    first: &[char],
-    second: &[char],
-    wanted: &Wanted,
-) {
-    asks(rt, &events_joined(rt, alloc, first, second), wanted);
 }
 
 #[test]
 fn an_enter_calls_settings_replace_the_events(rt: HostRuntime) {
     let rt = Host::new(rt);
     static EVENT: [char; 5] = ['r', 'p', 'i', '1', 'e'];
+    let both = event_joined(&rt, rt.alloc(), &EVENT, &['s', '0', 'h']);
     static BOTH: Wanted<'static> = Wanted {
         replies: &[(FIRST, 10), (SECOND, 20)],
         postpone: true,
@@ -643,14 +592,15 @@ fn an_enter_calls_settings_replace_the_events(rt: HostRuntime) {
         ],
         ..NOTHING
     };
-    event_asks(&rt, rt.alloc(), &EVENT, &['s', '0', 'h'], &BOTH);
+    asks(&rt, &both, &BOTH);
 
     // The first list alone decides whether the event is postponed.
+    let kept = events_joined(&rt, rt.alloc(), &['i', 'k'], &['p', 't']);
     static KEPT: Wanted<'static> = Wanted {
         inserts: &[(Kind::Internal, 30), (Kind::Timeout(Timer::State), 40)],
         ..NOTHING
     };
-    events_ask(&rt, rt.alloc(), &['i', 'k'], &['p', 't'], &KEPT);
+    asks(&rt, &kept, &KEPT);
     rt.end();
 }
 
@@ -659,6 +609,7 @@ fn a_refused_join_changes_nothing(rt: HostRuntime) {
     let rt = Host::new(rt);
     static EARLIER: [char; 12] = ['r', 'i', 's', 't', '1', 'p', 'i', 'n', 'e', '2', 'x', 'r'];
     static LATER: [char; 7] = ['s', 't', 'm', 'k', 'i', '9', 'r'];
+    let both = events_joined(&rt, rt.alloc(), &EARLIER, &LATER);
     static BOTH: Wanted<'static> = Wanted {
         replies: &[
             (FIRST, 10),
@@ -683,7 +634,7 @@ fn a_refused_join_changes_nothing(rt: HostRuntime) {
         ],
         sends: &[(FAR, 140), (NEAR, 130)],
     };
-    events_ask(&rt, rt.alloc(), &EARLIER, &LATER, &BOTH);
+    asks(&rt, &both, &BOTH);
     rt.end();
 }
 
@@ -698,8 +649,8 @@ fn asked_by(
         settings: wanted,
         ..NOTHING
     };
-    asks_of_event(rt, alloc, letters, &wanted);
-    asks_of_enter(rt, alloc, letters, &wanted);
+    asks(rt, &planned(rt, alloc, letters), &wanted);
+    asks(rt, &entered(rt, alloc, letters), &wanted);
 }
 
 /// What is asked of a timer, without the content, and the content.
@@ -737,13 +688,14 @@ fn of_all_that_is_asked_of_a_timer_the_last_decides(rt: HostRuntime) {
 #[test]
 fn what_is_sent_keeps_its_order(rt: HostRuntime) {
     let rt = Host::new(rt);
+    let five = planned(&rt, rt.alloc(), &['m', 'r', 'n', 'u', 'm']);
     static FIVE: Wanted<'static> = Wanted {
         replies: &[(FIRST, 10)],
         settings: &[(Timer::Named(1), Decision::Update, 110)],
         sends: &[(NEAR, 130), (FAR, 140), (NEAR, 130)],
         ..NOTHING
     };
-    asks_of_event(&rt, rt.alloc(), &['m', 'r', 'n', 'u', 'm'], &FIVE);
+    asks(&rt, &five, &FIVE);
     rt.end();
 }
 
@@ -751,6 +703,7 @@ fn what_is_sent_keeps_its_order(rt: HostRuntime) {
 fn what_an_enter_call_asks_of_a_timer_decides(rt: HostRuntime) {
     let rt = Host::new(rt);
     static EVENT: [char; 5] = ['1', 'm', 'v', 'n', 'e'];
+    let both = event_joined(&rt, rt.alloc(), &EVENT, &['d', 'u']);
     static BOTH: Wanted<'static> = Wanted {
         settings: &[
             (Timer::Event, Decision::Set(Time::After(0)), 90),
@@ -760,15 +713,16 @@ fn what_an_enter_call_asks_of_a_timer_decides(rt: HostRuntime) {
         sends: &[(NEAR, 130), (FAR, 140)],
         ..NOTHING
     };
-    event_asks(&rt, rt.alloc(), &EVENT, &['d', 'u'], &BOTH);
+    asks(&rt, &both, &BOTH);
 
     // A second list sends behind the first.
+    let sent = events_joined(&rt, rt.alloc(), &['n', 'u'], &['m', '1', 'n']);
     static SENT: Wanted<'static> = Wanted {
         settings: &[(Timer::Named(1), Decision::Set(Time::After(1)), 50)],
         sends: &[(FAR, 140), (NEAR, 130), (FAR, 140)],
         ..NOTHING
     };
-    events_ask(&rt, rt.alloc(), &['n', 'u'], &['m', '1', 'n'], &SENT);
+    asks(&rt, &sent, &SENT);
     rt.end();
 }
 
@@ -799,6 +753,7 @@ fn the_last_setting_decides_also_in_long_lists(rt: HostRuntime) {
 fn the_last_setting_decides_also_in_long_plans(rt: HostRuntime) {
     let rt = Host::new(rt);
     static TWELVE: [char; 12] = ['M', 'B', 'N', 'A', 'O', 'X', 'A', 'P', 'B', 'Q', 'M', 'N'];
+    let both = event_joined(&rt, rt.alloc(), &FORTY, &TWELVE);
     // Those of the forty whose timers none of the twelve sets, and then the last ones of the twelve.
     static LASTS: [(char, u64); 18] = [
         ('F', 20),
@@ -820,6 +775,6 @@ fn the_last_setting_decides_also_in_long_plans(rt: HostRuntime) {
         ('M', 10),
         ('N', 11),
     ];
-    places(&rt, &event_joined(&rt, rt.alloc(), &FORTY, &TWELVE), &LASTS);
+    places(&rt, &both, &LASTS);
     rt.end();
 }

@@ -13,14 +13,13 @@ type Letters = Collection<Asked, char>;
 
 /// The requests' tags and labels. Where there is no memory to list them, they are listed again.
 fn list(rt: &Host<impl Abort>, collection: &Letters) -> Vec<(Tag, char)> {
-    match collection.to_list() {
-        Ok(list) => list,
-        Err(refusal) => {
-            holds(rt, "memory is wanted", refusal == Refusal::NoMemory);
-            rt.retry();
-            got(rt, "the list finds memory", collection.to_list())
-        }
+    let mut list = collection.to_list();
+    if let Err(refusal) = list {
+        holds(rt, "memory is wanted", refusal == Refusal::NoMemory);
+        rt.retry();
+        list = collection.to_list();
     }
+    got(rt, "the list finds memory", list)
 }
 
 /// The collection has the requests of these numbers, with these labels, in this order.

@@ -11,39 +11,28 @@ use rows::{
     NAMES_HAVE_1_TO_64_BYTES, OTHERS_IN_ORDER, THE_FIRST_NAME_GOES,
 };
 use st_directory::{Directory, MOST, a_directory_is_in_order, a_gone_id_stays_gone};
-use std::process::Abort;
 use told::{drop_place, fill, ids_are, names_are, names_rise, tell_all};
-
-/// A directory without values.
-fn empty(rt: &Host<impl Abort + AllocGlobal>) -> Box<Directory<u32>> {
-    rt.boxed(rt.alloc(), Directory::new(rt.alloc()))
-}
 
 /// Says that values of a type may go to another thread, and be read by several.
 fn crosses_threads<T: Send + Sync>(_value: &T) {}
 
-/// What holds of each directory.
-fn keeps_its_laws(directory: &Directory<u32>) {
-    a_directory_is_in_order(directory);
-    a_gone_id_stays_gone(directory);
-    crosses_threads(directory);
-}
-
 #[test]
 fn an_id_is_given_once(rt: HostRuntime) {
     let rt = Host::new(rt);
-    let mut directory = empty(&rt);
+    let mut directory = Directory::new(rt.alloc());
     holds(&rt, "none at first", directory.is_empty());
     tell_all(&rt, &mut directory, AN_ID_IS_GIVEN_ONCE.as_slice());
     same(&rt, "how many there are", &directory.len(), &2);
-    keeps_its_laws(&directory);
+    a_directory_is_in_order(&directory);
+    a_gone_id_stays_gone(&directory);
+    crosses_threads(&directory);
     rt.end();
 }
 
 #[test]
 fn names_have_1_to_64_bytes(rt: HostRuntime) {
     let rt = Host::new(rt);
-    let mut directory = empty(&rt);
+    let mut directory = Directory::new(rt.alloc());
     tell_all(&rt, &mut directory, NAMES_HAVE_1_TO_64_BYTES.as_slice());
     rt.end();
 }
@@ -51,7 +40,7 @@ fn names_have_1_to_64_bytes(rt: HostRuntime) {
 #[test]
 fn names_stand_in_order_of_registration(rt: HostRuntime) {
     let rt = Host::new(rt);
-    let mut directory = empty(&rt);
+    let mut directory = Directory::new(rt.alloc());
     tell_all(&rt, &mut directory, A_MIDDLE_NAME_GOES.as_slice());
     drop_place(&rt, &mut directory, "attic");
     names_are(&rt, &directory, OTHERS_IN_ORDER.as_slice());
@@ -64,7 +53,7 @@ fn names_stand_in_order_of_registration(rt: HostRuntime) {
 #[test]
 fn a_full_directory_takes_no_more(rt: HostRuntime) {
     let rt = Host::new(rt);
-    let mut directory = empty(&rt);
+    let mut directory = Directory::new(rt.alloc());
     fill(&rt, &mut directory, MOST);
     tell_all(&rt, &mut directory, A_FULL_DIRECTORY.as_slice());
     same(&rt, "how many there are", &directory.len(), &MOST);
@@ -75,7 +64,7 @@ fn a_full_directory_takes_no_more(rt: HostRuntime) {
 #[test]
 fn names_of_one_hash_are_found(rt: HostRuntime) {
     let rt = Host::with_memory(rt);
-    let mut directory = empty(&rt);
+    let mut directory = Directory::new(rt.alloc());
     names_of_one_hash(&rt, &mut directory, MOST);
     same(&rt, "how many there are", &directory.len(), &MOST);
     rt.end_with_memory();
@@ -84,7 +73,7 @@ fn names_of_one_hash_are_found(rt: HostRuntime) {
 #[test]
 fn a_crowd_of_names_stays_in_order(rt: HostRuntime) {
     let rt = Host::new(rt);
-    let mut directory = empty(&rt);
+    let mut directory = Directory::new(rt.alloc());
     let found = names_of_one_kind(&rt, &mut directory);
     holds(&rt, "they are a crowd", found > 300);
     same(&rt, "how many there are", &directory.len(), &found);

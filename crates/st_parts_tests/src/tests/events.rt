@@ -107,38 +107,23 @@ fn has_replies(rt: &impl Abort, actions: &Actions<u64>, count: usize) {
     }
 }
 
-/// Numbers come into an empty list.
-fn numbers_come(rt: &impl Abort, short: &mut SmallList<u64>) {
-    has(rt, short, &[]);
-    holds(rt, "none to take out", short.pop() == None);
-    for number in [6, 4, 2] {
-        push_inline(rt, short, number);
-    }
-    has(rt, short, &[6, 4, 2]);
-}
-
-/// Numbers are turned round, and the last one leaves.
-fn numbers_leave(rt: &impl Abort, short: &mut SmallList<u64>) {
-    short.reverse();
-    has(rt, short, &[2, 4, 6]);
-    same(rt, "the last", &short.pop(), &Some(6));
-    has(rt, short, &[2, 4]);
-}
-
-/// A third number comes, and the second is replaced by another.
-fn numbers_are_replaced(rt: &impl Abort, short: &mut SmallList<u64>) {
-    push_inline(rt, short, 8);
-    same(rt, "the second", &short.replace(1, 5), &Some(4));
-    holds(rt, "none behind the last", short.replace(3, 7) == None);
-}
-
 /// Numbers come into a short list and leave.
 fn a_list_answers(rt: &Host<impl Abort>, alloc: Global) {
     let mut short = SmallList::new(alloc);
-    numbers_come(rt, &mut short);
-    numbers_leave(rt, &mut short);
+    has(rt, &short, &[]);
+    holds(rt, "none to take out", short.pop() == None);
+    for number in [6, 4, 2] {
+        push_inline(rt, &mut short, number);
+    }
+    has(rt, &short, &[6, 4, 2]);
+    short.reverse();
+    has(rt, &short, &[2, 4, 6]);
+    same(rt, "the last", &short.pop(), &Some(6));
+    has(rt, &short, &[2, 4]);
     is_shown(rt, alloc, &short, "[2, 4]");
-    numbers_are_replaced(rt, &mut short);
+    push_inline(rt, &mut short, 8);
+    same(rt, "the second", &short.replace(1, 5), &Some(4));
+    holds(rt, "none behind the last", short.replace(3, 7) == None);
     gives(rt, short, &[2, 5, 8]);
 }
 
@@ -241,18 +226,10 @@ fn refusals_come_of_others(rt: &impl Abort) {
     same(rt, "why alone", &Refusal::from(refused), &Refusal::Moment);
 }
 
-/// Each refusal has its number, and its text.
-fn are_written(rt: &Host<impl Abort>, alloc: Global, rows: &[(Refusal, u8, &str)]) {
-    for (refusal, number, text) in rows {
-        same(rt, "its number", &refusal.number(), number);
-        is_written(rt, alloc, refusal, *text);
-    }
-}
-
 #[test]
 fn refusals_have_numbers_and_texts(rt: HostRuntime) {
     let rt = Host::new(rt);
-    static ROWS: [(Refusal, u8, &str); 12] = [
+    for (refusal, number, text) in [
         (Refusal::NoMemory, 1, "no memory"),
         (Refusal::Stopped(9), 2, "stopped"),
         (Refusal::Exhausted, 3, "too few numbers left"),
@@ -265,8 +242,10 @@ fn refusals_have_numbers_and_texts(rt: HostRuntime) {
         (Refusal::NotStopped, 10, "not stopped"),
         (Refusal::Full, 11, "table full"),
         (Refusal::BadName, 12, "bad name"),
-    ];
-    are_written(&rt, rt.alloc(), &ROWS);
+    ] {
+        same(&rt, "its number", &refusal.number(), &number);
+        is_written(&rt, rt.alloc(), &refusal, text);
+    }
     refusals_come_of_others(&rt);
     let tag = Tag::new(MACHINE, 4);
     holds(&rt, "the machine of a tag", tag.machine == MACHINE);

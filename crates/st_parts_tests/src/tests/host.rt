@@ -48,22 +48,6 @@ impl<R: Abort> Host<R> {
         assert_eq!(self; self.retries.get(), 0);
         self.retries.set(1);
     }
-
-    /// A value in a box. Where there is no memory, it is boxed again. A function that has a directory or a plan in a box is
-    /// proved sooner than one that has it itself.
-    pub fn boxed<T: Drop>(&self, alloc: Global, value: T) -> Box<T> {
-        match Box::new(alloc, value) {
-            Ok(boxed) => boxed,
-            Err(refused) => {
-                self.retry();
-                got(
-                    self,
-                    "one allocation alone is refused",
-                    Box::new(alloc, refused.value),
-                )
-            }
-        }
-    }
 }
 
 impl<R: Abort + AllocGlobal + Print> Host<R> {

@@ -216,13 +216,6 @@ fn two_take_local(rt: &Host<impl Abort>, lane: &mut Lane, thief: &mut Thief) {
     is_none(rt, lane.take_local());
 }
 
-/// Two takers take what was put on the shared queue, in order.
-fn two_take_shared(rt: &impl Abort, wait: &impl Wait, first: &mut Shared, second: &mut Shared) {
-    take_shared(rt, wait, first, 0, 100);
-    take_shared(rt, wait, second, 100, 200);
-    is_none(rt, second.take_shared(wait));
-}
-
 #[test]
 fn a_refused_put_leaves_nothing(rt: HostRuntime) {
     let wait = rt;
@@ -235,6 +228,8 @@ fn a_refused_put_leaves_nothing(rt: HostRuntime) {
     holds(&rt, "one thief", second.thieves.len() == 1);
     two_take_local(&rt, &mut first.lane, &mut second.thieves[0]);
     put_shared(&rt, &wait, &mut inlet, 0, 200);
-    two_take_shared(&rt, &wait, &mut first.shared, &mut second.shared);
+    take_shared(&rt, &wait, &mut first.shared, 0, 100);
+    take_shared(&rt, &wait, &mut second.shared, 100, 200);
+    is_none(&rt, second.shared.take_shared(&wait));
     rt.end();
 }

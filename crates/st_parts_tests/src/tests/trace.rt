@@ -253,18 +253,17 @@ summary posts 1 turns 1 finished 1 put_off 0
 
 #[test]
 fn a_delivered_message_says_from_whom_it_comes(rt: HostRuntime) {
-    static ROWS: [(u64, Row); 4] = [
-        (1, Row::Delivers(NEAR, 1, 1)),
-        (2, Row::Delivers(FAR, 18_446_744_073_709_551_615, 2)),
-        (3, Row::Takes(1)),
-        (4, Row::Posts(1, Entry::Info, 4)),
-    ];
     let rt = Host::new(rt);
     prints(
         &rt,
         rt.alloc(),
         0,
-        &ROWS,
+        &[
+            (1, Row::Delivers(NEAR, 1, 1)),
+            (2, Row::Delivers(FAR, 18_446_744_073_709_551_615, 2)),
+            (3, Row::Takes(1)),
+            (4, Row::Posts(1, Entry::Info, 4)),
+        ],
         Totals {
             posts: 3,
             turns: 0,

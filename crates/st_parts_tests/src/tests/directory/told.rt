@@ -16,55 +16,22 @@ struct Reading {
     values: [[Option<u32>; 5]; 4],
 }
 
-/// A name by its first byte, and the id that it names.
-fn seen(entry: Option<(&String, &MachineId)>) -> Option<(Option<u8>, MachineId)> {
-    match entry {
-        Some((name, id)) => Some((name.as_bytes().first().copied(), *id)),
-        None => None,
-    }
-}
-
-/// The first names of a directory.
-fn names_of(directory: &Directory<u32>) -> [Option<(Option<u8>, MachineId)>; 4] {
-    let mut names = directory.names();
-    [
-        seen(names.next()),
-        seen(names.next()),
-        seen(names.next()),
-        seen(names.next()),
-    ]
-}
-
-/// The value of an id, if there is one.
-fn value_of(directory: &Directory<u32>, slot: usize, serial: u64) -> Option<u32> {
-    match directory.get(MachineId { slot, serial }) {
-        Ok(value) => Some(*value),
-        Err(_) => None,
-    }
-}
-
-/// The values of the ids of a slot with the first serials.
-fn values_of(directory: &Directory<u32>, slot: usize) -> [Option<u32>; 5] {
-    [
-        value_of(directory, slot, 1),
-        value_of(directory, slot, 2),
-        value_of(directory, slot, 3),
-        value_of(directory, slot, 4),
-        value_of(directory, slot, 5),
-    ]
-}
-
 /// Reads a directory.
 fn read(directory: &Directory<u32>) -> Reading {
+    let mut names = [None; 4];
+    for (seen, (name, id)) in names.iter_mut().zip(directory.names()) {
+        *seen = Some((name.as_bytes().first().copied(), *id));
+    }
+    let mut values = [[None; 5]; 4];
+    for (slot, of_slot) in values.iter_mut().enumerate() {
+        for (serial, seen) in (1..=5).zip(of_slot.iter_mut()) {
+            *seen = directory.get(MachineId { slot, serial }).ok().copied();
+        }
+    }
     Reading {
         len: directory.len(),
-        names: names_of(directory),
-        values: [
-            values_of(directory, 0),
-            values_of(directory, 1),
-            values_of(directory, 2),
-            values_of(directory, 3),
-        ],
+        names,
+        values,
     }
 }
 
@@ -164,18 +131,6 @@ pub fn fill(rt: &Host<impl Abort>, directory: &mut Directory<u32>, count: usize)
     }
 }
 
-/// Looks that this is a name, and names this id.
-fn is_named(
-    rt: &impl Abort,
-    found: Option<(&String, &MachineId)>,
-    wanted: &str,
-    wanted_id: MachineId,
-) {
-    let (name, id) = found.expect(rt, "there are so many");
-    same(rt, "the name", &name.as_str(), &wanted);
-    same(rt, "its id", id, &wanted_id);
-}
-
 /// Looks at the names, in order of registration.
 pub fn names_are(rt: &Host<impl Abort>, directory: &Directory<u32>, wanted: &[(&str, MachineId)]) {
     same(
@@ -184,9 +139,9 @@ pub fn names_are(rt: &Host<impl Abort>, directory: &Directory<u32>, wanted: &[(&
         &directory.names().len(),
         &wanted.len(),
     );
-    let mut names = directory.names();
-    for (name, id) in wanted {
-        is_named(rt, names.next(), *name, *id);
+    for ((name, id), (wanted_name, wanted_id)) in directory.names().zip(wanted) {
+        same(rt, "the name", &name.as_str(), wanted_name);
+        same(rt, "its id", id, wanted_id);
     }
 }
 
