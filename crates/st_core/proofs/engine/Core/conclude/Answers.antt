@@ -114,3 +114,31 @@ returns-in_ok-actions-in-StopAndReply-clause-step g c handled called handled_is 
       changed = rw given refl;
       actions = rw (given, c.in_ok-actions-in-StopAndReply.ensures) refl;
     })))
+
+-- the lifetimes of a type are within those that a call asks for
+pub ne-requires : goal.ne-requires
+ne-requires g c = λ κs within. within
+
+pub drop-data-requires : goal.drop-data-requires
+drop-data-requires g c = λ κs within. within
+
+pub proceed-requires : goal.proceed-requires
+proceed-requires g c = (g.met.M.Module.lawful.actions_fit, (c.requires.moment, (c.requires.number_is, c.requires.empty)))
+
+pub proceed-requires-in-KeepState : goal.proceed-requires-in-KeepState
+proceed-requires-in-KeepState g c = (g.met.M.Module.lawful.actions_fit, (c.requires.moment, (c.requires.number_is, c.requires.empty)))
+
+pub proceed-requires-in-KeepStateAndData : goal.proceed-requires-in-KeepStateAndData
+proceed-requires-in-KeepStateAndData g c = (g.met.M.Module.lawful.actions_fit, (c.requires.moment, (c.requires.number_is, c.requires.empty)))
+
+pub proceed-requires-in-RepeatState : goal.proceed-requires-in-RepeatState
+proceed-requires-in-RepeatState g c = (g.met.M.Module.lawful.actions_fit, (c.requires.moment, (c.requires.number_is, c.requires.empty)))
+
+pub proceed-requires-in-RepeatStateAndData : goal.proceed-requires-in-RepeatStateAndData
+proceed-requires-in-RepeatStateAndData g c = (g.met.M.Module.lawful.actions_fit, (c.requires.moment, (c.requires.number_is, c.requires.empty)))
+
+pub stop_at-requires : goal.stop_at-requires
+stop_at-requires g c = (g.met.M.Module.lawful.actions_fit, (c.requires.moment, c.requires.empty))
+
+pub stop_at-requires-in-StopAndReply : goal.stop_at-requires-in-StopAndReply
+stop_at-requires-in-StopAndReply g c = (g.met.M.Module.lawful.actions_fit, (c.requires.moment, c.requires.empty))
