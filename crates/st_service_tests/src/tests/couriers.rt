@@ -1,10 +1,11 @@
-//! Couriers without a journal hand numbers on, and are served in slices.
+//! Couriers hand numbers on, most without a journal, and are served in slices.
 ghost use Rattle.std.specs.Prelude.{◌≤◌};
 
 use super::courier::with;
+use super::desk::Desk;
 use super::host::{Host, got, same};
 use super::house::Threads;
-use super::office::{Desk, NOBODY, Office, casts, have_come, hires, id_at, leaves, office, waits};
+use super::office::{NOBODY, Office, casts, have_come, hires, id_at, leaves, opens, waits};
 use st_service::Journals;
 use std::process::Abort;
 
@@ -43,7 +44,7 @@ fn casts_each<R: Threads>(rt: &impl Abort, desks: &mut Vec<Box<Desk<R>>>, number
 fn goes_round<R: Threads>(rt: &Host<impl Abort + AllocGlobal>, threads: R, workers: usize)
     requires { (1 ≤ workers) × (workers ≤ 16) }
 {
-    let mut office = office(rt, threads, workers, Journals::None, 0);
+    let mut office = opens(rt, threads, workers, Journals::None, 0);
     let mut desks = ring(rt, &office, 10);
     if let Some(desk) = desks.first_mut() {
         casts(rt, desk, 10_000);
@@ -128,7 +129,7 @@ fn are_told_in_order<R: Threads>(rt: &impl Abort, desks: &mut Vec<Box<Desk<R>>>)
 
 /// A hundred couriers send to one each, who keep such journals.
 fn send_in_order<R: Threads>(rt: &Host<impl Abort + AllocGlobal>, threads: R, journals: Journals) {
-    let mut office = office(rt, threads, 4, journals, 10_000);
+    let mut office = opens(rt, threads, 4, journals, 10_000);
     let (mut targets, mut senders) = pairs(rt, &office);
     casts_all(rt, &mut senders);
     waits(rt, threads, &targets, 2_000);
@@ -155,7 +156,7 @@ fn messages_come_in_order_where_journals_are_cut(rt: HostRuntime) {
 
 /// A service is shut down while sixteen numbers go round.
 fn is_shut_down_early<R: Threads>(rt: &Host<impl Abort + AllocGlobal>, threads: R) {
-    let mut office = office(rt, threads, 4, Journals::None, 0);
+    let mut office = opens(rt, threads, 4, Journals::None, 0);
     let mut desks = ring(rt, &office, 16);
     casts_each(rt, &mut desks, 1_000_000_000);
     waits(rt, threads, &desks, 5_000);

@@ -1,10 +1,15 @@
-//! A service of clerks.
+//! A service of clerks. A call of a service at one module, or with one observer, is proved anew in each function that makes
+//! it, and takes longer than all else there: so each stands here, once.
+ghost use Rattle.std.specs.Prelude.{◌≤◌};
+
+use super::hatch::Hatch;
 use super::host::{Host, got, holds, same};
+use super::tally::Counting;
 use crate::{Clerk, Order};
 use st_service::{
-    Called, Journals, MachineId, Observer, Options, Runtime, Service, ServicePort, Spawned,
-    Unposted,
+    Journals, MachineId, Options, Refusal, Runtime, Service, ShutDown, Spawned, Unposted, Unspawned,
 };
+use std::alloc::{AllocError, Global};
 use std::process::Abort;
 use std::rt::Clock;
 use std::thread;
@@ -19,10 +24,32 @@ pub trait Threads: Runtime + Clock {}
 impl<R: Runtime + Clock> Threads for R {}
 
 /// A service of clerks.
-pub type House<R, O> = Service<Clerk, R, O>;
+#[derive(Drop)]
+pub struct House<R: Threads> {
+    service: Service<Clerk, R, Counting>,
+}
 
-/// A port of a clerk.
-pub type Hatch<R, O> = ServicePort<Clerk, R, O>;
+/// A clerk who was hired: his id, and his hatch where there was memory for it.
+#[derive(Drop)]
+pub struct Hired<R: Threads> {
+    pub id: MachineId,
+    pub hatch: Option<Hatch<R>>,
+}
+
+impl<R: Threads> Hired<R> {
+    /// Who was hired, if he runs.
+    fn of(spawned: Spawned<Clerk, R, Counting>) -> Option<Hired<R>> {
+        match spawned {
+            Spawned::Running(id, Some(port)) => Some(Hired {
+                id,
+                hatch: Some(Hatch::new(port)),
+            }),
+            Spawned::Running(id, None) => Some(Hired { id, hatch: None }),
+            Spawned::Ignored => None,
+            Spawned::Stopped(_reason) => None,
+        }
+    }
+}
 
 /// As many events may wait as are tested, journals stay short, and shutting down makes so many turns.
 pub const OPTIONS: Options = Options {
@@ -39,67 +66,105 @@ pub const ALONE: Clerk = Clerk {
     },
 };
 
-/// A service with two workers.
-pub fn house<R: Threads, O: Observer<Clerk> + Drop + Send + Sync + 'static>(
-    rt: &Host<impl Abort + AllocGlobal>,
-    threads: R,
-    options: Options,
-    observer: O,
-) -> Box<House<R, O>> {
-    let house = Service::start(threads, rt.alloc(), 2, options, observer);
-    rt.boxed(rt.alloc(), house.expect(rt, "a service"))
-}
+impl<R: Threads> House<R> {
+    /// A service with so many workers.
+    pub fn start(
+        threads: R,
+        alloc: Global,
+        workers: usize,
+        options: Options,
+        observer: Counting,
+    ) -> Result<House<R>, AllocError>
+        requires { (1 ≤ workers) × (workers ≤ 16) }
+    {
+        let service = Service::start(threads, alloc, workers, options, observer)?;
+        Ok(House { service })
+    }
 
-/// A clerk's id and port.
-fn hired<R: Threads, O: Observer<Clerk> + Drop>(
-    rt: &impl Abort,
-    spawned: Spawned<Clerk, R, O>,
-) -> (MachineId, Hatch<R, O>) {
-    match spawned {
-        Spawned::Running(id, Some(port)) => (id, port),
-        _ => panic!(rt; "he is there"),
+    /// Starts a clerk. Each one runs.
+    pub fn spawn(
+        &self,
+        name: Option<&str>,
+        clerk: Clerk,
+    ) -> Result<Option<Hired<R>>, Unspawned<Clerk>> {
+        match self.service.spawn(name, clerk, &()) {
+            Ok(spawned) => Ok(Hired::of(spawned)),
+            Err(refused) => Err(refused),
+        }
+    }
+
+    /// One more hatch of a clerk.
+    pub fn hatch(&self, id: MachineId) -> Result<Hatch<R>, Refusal> {
+        match self.service.port(id) {
+            Ok(port) => Ok(Hatch::new(port)),
+            Err(refusal) => Err(refusal),
+        }
+    }
+
+    /// The id of a clerk's name.
+    pub fn whereis(&self, name: &str) -> Result<MachineId, Refusal> {
+        self.service.whereis(name)
+    }
+
+    /// How many clerks there are.
+    pub fn len(&self) -> usize {
+        self.service.len()
+    }
+
+    /// Whether there is none.
+    pub fn is_empty(&self) -> bool {
+        self.service.is_empty()
+    }
+
+    /// How many events wait at a clerk.
+    pub fn waiting(&self, threads: R, id: MachineId) -> Result<usize, Refusal> {
+        match self.service.machine(id) {
+            Ok(machine) => Ok(machine.waiting(&threads)),
+            Err(refusal) => Err(refusal),
+        }
+    }
+
+    /// Ends the service, and stops each clerk for a reason.
+    pub fn shut_down(&mut self, reason: u32) -> Result<ShutDown<Order>, AllocError> {
+        self.service.shut_down(reason)
     }
 }
 
-/// Starts a clerk, and answers his id and port.
-pub fn hires<R: Threads, O: Observer<Clerk> + Drop>(
+/// A service with two workers.
+pub fn opens<R: Threads>(
     rt: &Host<impl Abort + AllocGlobal>,
-    house: &House<R, O>,
+    threads: R,
+    options: Options,
+    observer: Counting,
+) -> Box<House<R>> {
+    let house = House::start(threads, rt.alloc(), 2, options, observer);
+    rt.boxed(rt.alloc(), house.expect(rt, "a service"))
+}
+
+/// Starts a clerk, and answers his id and hatch.
+pub fn hires<R: Threads>(
+    rt: &Host<impl Abort + AllocGlobal>,
+    house: &House<R>,
     name: Option<&str>,
     clerk: Clerk,
-) -> (MachineId, Box<Hatch<R, O>>) {
-    let spawned = got(rt, "he is hired", house.spawn(name, clerk, &()));
-    let (id, hatch) = hired(rt, spawned);
-    (id, rt.boxed(rt.alloc(), hatch))
+) -> (MachineId, Box<Hatch<R>>) {
+    let hired = got(rt, "he is hired", house.spawn(name, clerk));
+    let Hired { id, hatch } = hired.expect(rt, "he is there");
+    (id, rt.boxed(rt.alloc(), hatch.expect(rt, "his hatch")))
 }
 
 /// Tells a clerk an order.
-pub fn tells<R: Threads, O: Observer<Clerk> + Drop>(
-    rt: &impl Abort,
-    hatch: &mut Hatch<R, O>,
-    order: Order,
-) {
+pub fn tells<R: Threads>(rt: &impl Abort, hatch: &mut Hatch<R>, order: Order) {
     got(rt, "he is told", hatch.cast(order));
 }
 
 /// The sum that a clerk replies with.
-pub fn asks<R: Threads, O: Observer<Clerk> + Drop>(
-    rt: &impl Abort,
-    hatch: &mut Hatch<R, O>,
-) -> u32 {
-    match got(rt, "he is asked", hatch.call(Order::Ask)) {
-        Called::Reply(Order::Sum(sum)) => sum,
-        _ => panic!(rt; "he replies"),
-    }
+pub fn asks<R: Threads>(rt: &impl Abort, hatch: &mut Hatch<R>) -> u32 {
+    got(rt, "he is asked", hatch.call(Order::Ask)).sum(rt)
 }
 
 /// Waits until a clerk's sum is this. That it is within some seconds is tested.
-pub fn sums<R: Threads, O: Observer<Clerk> + Drop>(
-    rt: &impl Abort,
-    threads: R,
-    hatch: &mut Hatch<R, O>,
-    sum: u32,
-) {
+pub fn sums<R: Threads>(rt: &impl Abort, threads: R, hatch: &mut Hatch<R>, sum: u32) {
     let start = got(rt, "the clock is read", Instant::now(&threads));
     for _ in threads.forever() {
         if asks(rt, hatch) == sum {

@@ -1,19 +1,16 @@
 //! Each call finds no memory once, and is made again.
+use super::hatch::Hatch;
 use super::host::{Host, got, holds, same};
-use super::house::{ALONE, Hatch, House, OPTIONS, Threads};
+use super::house::{ALONE, Hired, House, OPTIONS, Threads};
+use super::said::Said;
 use super::tally::{Counting, Tally};
 use super::watchdog::Watchdog;
 use crate::{Clerk, Order};
-use st_service::{
-    Called, MachineId, Refusal, Refused, Service, ShutDown, Spawned, Unposted, Unspawned,
-};
+use st_service::{Refusal, Refused, ShutDown, Unposted, Unspawned};
 use std::alloc::Global;
 use std::process::Abort;
 use std::sync::Arc;
 use std::sync::atomic::{AtomicU64, Ordering};
-
-/// A service of clerks that are counted.
-type Counted<R> = House<R, Counting>;
 
 /// A tally, with its owners' count.
 fn tally(rt: &Host<impl Abort>, alloc: Global) -> Arc<Tally, Global> {
@@ -37,10 +34,13 @@ fn starts<R: Threads>(
     threads: R,
     alloc: Global,
     tally: &Arc<Tally, Global>,
-) -> Box<Counted<R>> {
+) -> Box<House<R>> {
     for _ in 0..2 {
         let theirs = Arc::try_clone(tally).expect(rt, "an owner");
-        match Service::start(threads, alloc, 1, OPTIONS, Counting { tally: theirs }) {
+        let counting = Counting {
+            tally: Some(theirs),
+        };
+        match House::start(threads, alloc, 1, OPTIONS, counting) {
             Ok(house) => return rt.boxed(alloc, house),
             Err(_) => rt.retry(),
         }
@@ -48,50 +48,34 @@ fn starts<R: Threads>(
     panic!(rt; "one allocation alone is refused")
 }
 
-/// A clerk's port, which is opened now where there was no memory for it.
-fn port_of<R: Threads>(
+/// The hatch of who is hired, which is opened now where there was no memory for it.
+fn welcomes<R: Threads>(
     rt: &Host<impl Abort>,
-    house: &Counted<R>,
-    id: MachineId,
-    port: Option<Hatch<R, Counting>>,
-) -> Hatch<R, Counting> {
-    match port {
+    house: &House<R>,
+    hired: Option<Hired<R>>,
+) -> Hatch<R> {
+    let Hired { id, hatch } = hired.expect(rt, "he is there");
+    match hatch {
         Some(hatch) => hatch,
         None => {
             rt.retry();
-            got(rt, "a port", house.port(id))
+            got(rt, "a hatch", house.hatch(id))
         }
     }
 }
 
-/// The port of who is hired.
-fn welcomes<R: Threads>(
-    rt: &Host<impl Abort>,
-    house: &Counted<R>,
-    spawned: Spawned<Clerk, R, Counting>,
-) -> Hatch<R, Counting> {
-    match spawned {
-        Spawned::Running(id, port) => port_of(rt, house, id, port),
-        _ => panic!(rt; "he is there"),
-    }
-}
-
 /// There was no memory, and nobody was hired.
-fn is_alone<R: Threads>(rt: &Host<impl Abort>, house: &Counted<R>, refused: Unspawned<Clerk>) {
+fn is_alone<R: Threads>(rt: &Host<impl Abort>, house: &House<R>, refused: Unspawned<Clerk>) {
     holds(rt, "there was no memory", is_want(refused));
     holds(rt, "nobody was hired", house.is_empty());
     rt.retry();
 }
 
 /// A clerk is hired: his port. Where there is no memory, nobody was, and he is hired again; or the port is opened then.
-fn hires<R: Threads>(
-    rt: &Host<impl Abort>,
-    alloc: Global,
-    house: &Counted<R>,
-) -> Box<Hatch<R, Counting>> {
+fn hires<R: Threads>(rt: &Host<impl Abort>, alloc: Global, house: &House<R>) -> Box<Hatch<R>> {
     for _ in 0..2 {
-        match house.spawn(Some("anna"), ALONE, &()) {
-            Ok(spawned) => return rt.boxed(alloc, welcomes(rt, house, spawned)),
+        match house.spawn(Some("anna"), ALONE) {
+            Ok(hired) => return rt.boxed(alloc, welcomes(rt, house, hired)),
             Err(refused) => is_alone(rt, house, refused),
         }
     }
@@ -107,7 +91,7 @@ fn is_want(refused: Unspawned<Clerk>) -> bool {
 }
 
 /// A clerk is told an order. Where there is no memory, nothing was posted, and he is told again.
-fn tells<R: Threads>(rt: &Host<impl Abort>, hatch: &mut Hatch<R, Counting>, order: Order) {
+fn tells<R: Threads>(rt: &Host<impl Abort>, hatch: &mut Hatch<R>, order: Order) {
     for _ in 0..2 {
         let count = hatch.count();
         let Err(refused) = hatch.cast(order) else {
@@ -121,30 +105,22 @@ fn tells<R: Threads>(rt: &Host<impl Abort>, hatch: &mut Hatch<R, Counting>, orde
     panic!(rt; "one allocation alone is refused")
 }
 
-/// The sum that a clerk replied with.
-fn sum_of(rt: &Host<impl Abort>, called: Called<Clerk>) -> u32 {
-    match called {
-        Called::Reply(Order::Sum(sum)) => sum,
-        _ => panic!(rt; "he replies"),
-    }
-}
-
-/// The sum that a clerk replies with, where his reply was not collected for want of memory: it is collected again.
-fn collects<R: Threads>(rt: &Host<impl Abort>, threads: R, called: Called<Clerk>) -> u32 {
-    match called {
-        Called::Uncollected(id, Refusal::NoMemory) => {
+/// The sum that a clerk replied with. Where his reply was not collected for want of memory, it is collected again.
+fn collects<R: Threads>(rt: &Host<impl Abort>, threads: R, said: Said) -> u32 {
+    match said {
+        Said::Uncollected(asked, Refusal::NoMemory) => {
             rt.retry();
-            sum_of(rt, st_client::receive(&threads, id))
+            asked.receive(threads).sum(rt)
         }
-        called => sum_of(rt, called),
+        said => said.sum(rt),
     }
 }
 
 /// The sum that a clerk replies with. Where there is no memory to ask him, he is asked again.
-fn asks<R: Threads>(rt: &Host<impl Abort>, threads: R, hatch: &mut Hatch<R, Counting>) -> u32 {
+fn asks<R: Threads>(rt: &Host<impl Abort>, threads: R, hatch: &mut Hatch<R>) -> u32 {
     for _ in 0..2 {
         match hatch.call(Order::Ask) {
-            Ok(called) => return collects(rt, threads, called),
+            Ok(said) => return collects(rt, threads, said),
             Err(_) => rt.retry(),
         }
     }
@@ -152,7 +128,7 @@ fn asks<R: Threads>(rt: &Host<impl Abort>, threads: R, hatch: &mut Hatch<R, Coun
 }
 
 /// A service is shut down. Where there is no memory, it is shut down again.
-fn shuts<R: Threads>(rt: &Host<impl Abort>, house: &mut Counted<R>) -> ShutDown<Order> {
+fn shuts<R: Threads>(rt: &Host<impl Abort>, house: &mut House<R>) -> ShutDown<Order> {
     for _ in 0..2 {
         match house.shut_down(7) {
             Ok(end) => return end,
@@ -163,12 +139,7 @@ fn shuts<R: Threads>(rt: &Host<impl Abort>, house: &mut Counted<R>) -> ShutDown<
 }
 
 /// Waits until a clerk's sum is this.
-fn comes_to<R: Threads>(
-    rt: &Host<impl Abort>,
-    threads: R,
-    hatch: &mut Hatch<R, Counting>,
-    sum: u32,
-) {
+fn comes_to<R: Threads>(rt: &Host<impl Abort>, threads: R, hatch: &mut Hatch<R>, sum: u32) {
     for _ in 0..40_000 {
         if asks(rt, threads, hatch) == sum {
             break;
@@ -186,13 +157,13 @@ fn told_each(rt: &Host<impl Abort>, tally: &Tally) {
 }
 
 /// A clerk works, and the service ends.
-fn works<R: Threads>(rt: &Host<impl Abort>, threads: R, alloc: Global, house: &mut Counted<R>) {
+fn works<R: Threads>(rt: &Host<impl Abort>, threads: R, alloc: Global, house: &mut House<R>) {
     let mut hatch = hires(rt, alloc, house);
     tells(rt, &mut hatch, Order::Add(4));
     tells(rt, &mut hatch, Order::Later(1));
     comes_to(rt, threads, &mut hatch, 5);
     let _end = shuts(rt, house);
-    let ended = hatch.machine().ended(&threads);
+    let ended = hatch.ended(threads);
     holds(rt, "it ends", ended == Some((7, 5)));
 }
 

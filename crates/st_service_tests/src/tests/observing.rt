@@ -1,6 +1,6 @@
 //! An observer is told each report once.
 use super::host::{Host, got, holds, same};
-use super::house::{ALONE, OPTIONS, Threads, hires, house, tells};
+use super::house::{ALONE, OPTIONS, Threads, hires, opens, tells};
 use super::tally::{Counting, Tally};
 use crate::Order;
 use st_service::{Journals, Options};
@@ -22,7 +22,14 @@ fn tells_each_report<R: Threads>(rt: &Host<impl Abort + AllocGlobal>, threads: R
         journals: Journals::None,
         ..OPTIONS
     };
-    let mut house = house(rt, threads, none, Counting { tally: theirs });
+    let mut house = opens(
+        rt,
+        threads,
+        none,
+        Counting {
+            tally: Some(theirs),
+        },
+    );
     let mut hatches = Vec::new(rt.alloc());
     for _ in 0..100 {
         let (_, hatch) = hires(rt, &house, None, ALONE);

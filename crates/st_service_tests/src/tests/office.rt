@@ -2,19 +2,47 @@
 ghost use Rattle.std.specs.Prelude.{◌≤◌};
 
 use super::courier::Courier;
+use super::desk::Desk;
 use super::host::{Host, got, holds, same};
 use super::house::{Threads, is_in_time};
-use st_service::{
-    Journals, MachineId, Nobody, Options, Service, ServicePort, ShutDown, Spawned, Undelivered,
-};
+use st_service::{Journals, MachineId, Nobody, Options, Service, ShutDown, Undelivered};
+use std::alloc::{AllocError, Global};
 use std::process::Abort;
 use std::time::Instant;
 
 /// A service of couriers.
-pub type Office<R> = Service<Courier, R, Nobody>;
+#[derive(Drop)]
+pub struct Office<R: Threads> {
+    service: Service<Courier, R, Nobody>,
+}
 
-/// A port of a courier.
-pub type Desk<R> = ServicePort<Courier, R, Nobody>;
+impl<R: Threads> Office<R> {
+    /// A service with so many workers.
+    fn start(
+        threads: R,
+        alloc: Global,
+        workers: usize,
+        options: Options,
+    ) -> Result<Office<R>, AllocError>
+        requires { (1 ≤ workers) × (workers ≤ 16) }
+    {
+        let service = Service::start(threads, alloc, workers, options, Nobody)?;
+        Ok(Office { service })
+    }
+
+    /// Starts a courier who sends to this one, and answers his port.
+    fn hire(&self, next: MachineId) -> Option<Desk<R>> {
+        match self.service.spawn(None, Courier { next }, &()) {
+            Ok(spawned) => Desk::of(spawned),
+            Err(_refused) => None,
+        }
+    }
+
+    /// Ends the service, and stops each courier.
+    fn shut_down(&mut self) -> Result<ShutDown<u32>, AllocError> {
+        self.service.shut_down(7)
+    }
+}
 
 /// The id of nobody.
 pub const NOBODY: MachineId = MachineId {
@@ -23,7 +51,7 @@ pub const NOBODY: MachineId = MachineId {
 };
 
 /// A service with so many workers, whose couriers keep such journals. Shutting it down makes so many turns.
-pub fn office<R: Threads>(
+pub fn opens<R: Threads>(
     rt: &Host<impl Abort + AllocGlobal>,
     threads: R,
     workers: usize,
@@ -37,16 +65,8 @@ pub fn office<R: Threads>(
         journals,
         turns,
     };
-    let office = Service::start(threads, rt.alloc(), workers, options, Nobody);
+    let office = Office::start(threads, rt.alloc(), workers, options);
     rt.boxed(rt.alloc(), office.expect(rt, "a service"))
-}
-
-/// The port of a courier who was hired.
-fn hired<R: Threads>(rt: &impl Abort, spawned: Spawned<Courier, R, Nobody>) -> Desk<R> {
-    match spawned {
-        Spawned::Running(_, Some(port)) => port,
-        _ => panic!(rt; "the courier is there"),
-    }
 }
 
 /// Hires a courier who sends to this one.
@@ -55,8 +75,7 @@ pub fn hires<R: Threads>(
     office: &Office<R>,
     next: MachineId,
 ) -> Box<Desk<R>> {
-    let spawned = got(rt, "a courier", office.spawn(None, Courier { next }, &()));
-    rt.boxed(rt.alloc(), hired(rt, spawned))
+    rt.boxed(rt.alloc(), office.hire(next).expect(rt, "a courier"))
 }
 
 /// The id of the courier of a slot, where none was let go.
@@ -74,7 +93,7 @@ pub fn casts<R: Threads>(rt: &impl Abort, desk: &mut Desk<R>, number: u32) {
 fn came<R: Threads>(threads: R, desks: &Vec<Box<Desk<R>>>) -> u64 {
     let mut came = 0u64;
     for desk in desks.iter() {
-        came = came.saturating_add(u64::from(desk.machine().state(&threads)));
+        came = came.saturating_add(u64::from(desk.came(threads)));
     }
     came
 }
@@ -97,7 +116,7 @@ pub fn have_come<R: Threads>(rt: &impl Abort, threads: R, desks: &Vec<Box<Desk<R
 
 /// A service is shut down: so many numbers wait, or are on their way. Of the messages, so many went to nobody.
 pub fn leaves<R: Threads>(rt: &impl Abort, office: &mut Office<R>, left: u64, missing: u64) {
-    let end: ShutDown<u32> = got(rt, "there is memory", office.shut_down(7));
+    let end = got(rt, "there is memory", office.shut_down());
     let messages = end.messages.len() as u64;
     same(
         rt,

@@ -1,16 +1,16 @@
 //! Clerks are hired, told, asked, and refuse what is too much.
+use super::asked::Asked;
+use super::hatch::Hatch;
 use super::host::{Host, got, holds, same};
-use super::house::{
-    ALONE, Hatch, House, OPTIONS, Threads, asks, hires, house, is_busy, sums, tells,
-};
+use super::house::{ALONE, House, OPTIONS, Threads, asks, hires, is_busy, opens, sums, tells};
+use super::said::Said;
+use super::tally::Counting;
 use crate::{Clerk, Order};
-use st_service::{
-    Called, Journals, MachineId, Nobody, Options, Refusal, Refused, RequestId, Unspawned,
-};
+use st_service::{Journals, MachineId, Options, Refusal, Refused, Unspawned};
 use std::process::Abort;
 
 /// A clerk is told, and asked for the sum. He is asked once more, and nobody waits for that reply.
-fn adds<R: Threads>(rt: &impl Abort, hatch: &mut Hatch<R, Nobody>) -> RequestId<Clerk> {
+fn adds<R: Threads>(rt: &impl Abort, hatch: &mut Hatch<R>) -> Asked {
     for more in 1..=10 {
         tells(rt, hatch, Order::Add(more));
     }
@@ -22,7 +22,7 @@ fn adds<R: Threads>(rt: &impl Abort, hatch: &mut Hatch<R, Nobody>) -> RequestId<
 }
 
 /// His journal has so many posts, from the fewest to the most.
-fn is_kept<R: Threads>(rt: &impl Abort, hatch: &mut Hatch<R, Nobody>, fewest: usize, most: usize) {
+fn is_kept<R: Threads>(rt: &impl Abort, hatch: &mut Hatch<R>, fewest: usize, most: usize) {
     let look = got(rt, "there is memory", hatch.look());
     holds(
         rt,
@@ -38,10 +38,10 @@ fn is_kept<R: Threads>(rt: &impl Abort, hatch: &mut Hatch<R, Nobody>, fewest: us
 }
 
 /// The one clerk is known by his name, which nobody else can take.
-fn is_known<R: Threads>(rt: &impl Abort, house: &House<R, Nobody>, id: MachineId) {
+fn is_known<R: Threads>(rt: &impl Abort, house: &House<R>, id: MachineId) {
     same(rt, "by name", &house.whereis("anna"), &Ok(id));
     holds(rt, "one clerk", house.len() == 1 && !house.is_empty());
-    let taken = house.spawn(Some("anna"), ALONE, &());
+    let taken = house.spawn(Some("anna"), ALONE);
     holds(rt, "the name is taken", is_taken(taken.err(), id));
 }
 
@@ -58,7 +58,7 @@ fn is_told_and_asked<R: Threads>(
         journals,
         ..OPTIONS
     };
-    let mut house = house(rt, threads, options, Nobody);
+    let mut house = opens(rt, threads, options, Counting::nobody());
     let (id, mut hatch) = hires(rt, &house, Some("anna"), ALONE);
     let _request = adds(rt, &mut hatch);
     is_kept(rt, &mut hatch, fewest, most);
@@ -103,7 +103,7 @@ fn is_taken(refused: Option<Unspawned<Clerk>>, id: MachineId) -> bool {
 
 /// A clerk at rest is called a hundred times, and no worker has a turn.
 fn makes_his_turns<R: Threads>(rt: &Host<impl Abort + AllocGlobal>, threads: R) {
-    let mut house = house(rt, threads, OPTIONS, Nobody);
+    let mut house = opens(rt, threads, OPTIONS, Counting::nobody());
     let (_, mut hatch) = hires(rt, &house, None, ALONE);
     for _ in 0..100 {
         same(rt, "nothing yet", &asks(rt, &mut hatch), &0);
@@ -121,10 +121,9 @@ fn who_calls_a_clerk_at_rest_makes_his_turn(rt: HostRuntime) {
 }
 
 /// Waits until no event waits at a clerk.
-fn is_served<R: Threads>(rt: &impl Abort, threads: R, house: &House<R, Nobody>, id: MachineId) {
-    let machine = got(rt, "he is there", house.machine(id));
+fn is_served<R: Threads>(rt: &impl Abort, threads: R, house: &House<R>, id: MachineId) {
     for _ in 0..40_000 {
-        if machine.waiting(&threads) == 0 {
+        if got(rt, "he is there", house.waiting(threads, id)) == 0 {
             break;
         }
         std::thread::sleep(&threads, std::time::Duration::from_millis(1));
@@ -133,13 +132,13 @@ fn is_served<R: Threads>(rt: &impl Abort, threads: R, house: &House<R, Nobody>, 
 
 /// A call leaves an event, which a worker handles.
 fn leaves_a_turn<R: Threads>(rt: &Host<impl Abort + AllocGlobal>, threads: R) {
-    let house = house(rt, threads, OPTIONS, Nobody);
+    let house = opens(rt, threads, OPTIONS, Counting::nobody());
     let (id, mut hatch) = hires(rt, &house, None, ALONE);
     let taken = got(rt, "he is asked", hatch.call(Order::Take(5)));
     holds(
         rt,
         "the sum before",
-        matches!(taken, Called::Reply(Order::Sum(0))),
+        matches!(taken, Said::Reply(Order::Sum(0))),
     );
     is_served(rt, threads, &house, id);
     same(rt, "it was added", &asks(rt, &mut hatch), &5);
@@ -155,7 +154,7 @@ fn what_a_call_leaves_is_the_workers(rt: HostRuntime) {
 
 /// A clerk sets a time-out, which comes.
 fn lets_time_pass<R: Threads>(rt: &Host<impl Abort + AllocGlobal>, threads: R) {
-    let house = house(rt, threads, OPTIONS, Nobody);
+    let house = opens(rt, threads, OPTIONS, Counting::nobody());
     let (_, mut hatch) = hires(rt, &house, None, ALONE);
     tells(rt, &mut hatch, Order::Later(2));
     sums(rt, threads, &mut hatch, 1);
@@ -170,7 +169,7 @@ fn a_time_out_comes_by_itself(rt: HostRuntime) {
 }
 
 /// A clerk who has shut his window has three orders wait, and refuses a fourth.
-fn refuses_a_fourth<R: Threads>(rt: &impl Abort, hatch: &mut Hatch<R, Nobody>) {
+fn refuses_a_fourth<R: Threads>(rt: &impl Abort, hatch: &mut Hatch<R>) {
     tells(rt, hatch, Order::Shut);
     same(rt, "nothing yet", &asks(rt, hatch), &0);
     for _ in 0..3 {
@@ -182,7 +181,7 @@ fn refuses_a_fourth<R: Threads>(rt: &impl Abort, hatch: &mut Hatch<R, Nobody>) {
 }
 
 /// He has added what waited, and takes more.
-fn takes_again<R: Threads>(rt: &impl Abort, hatch: &mut Hatch<R, Nobody>) {
+fn takes_again<R: Threads>(rt: &impl Abort, hatch: &mut Hatch<R>) {
     same(rt, "what waited was added", &asks(rt, hatch), &15);
     tells(rt, hatch, Order::Add(6));
     same(rt, "and more", &asks(rt, hatch), &21);
@@ -194,7 +193,7 @@ fn is_busy_for_a_while<R: Threads>(rt: &Host<impl Abort + AllocGlobal>, threads:
         waiting: 3,
         ..OPTIONS
     };
-    let house = house(rt, threads, few, Nobody);
+    let house = opens(rt, threads, few, Counting::nobody());
     let (shut, mut hatch) = hires(rt, &house, None, ALONE);
     let (_, mut other) = hires(rt, &house, None, ALONE);
     refuses_a_fourth(rt, &mut hatch);

@@ -1,15 +1,17 @@
 //! Clerks are shut down while they work.
+use super::hatch::Hatch;
 use super::host::{Host, got, holds, same};
-use super::house::{ALONE, Hatch, House, OPTIONS, Threads, hires, house, tells};
+use super::house::{ALONE, House, OPTIONS, Threads, hires, opens, tells};
+use super::tally::Counting;
 use crate::{Clerk, Order};
-use st_service::{MachineId, Nobody, Options, Refusal, Refused, Unposted, Unspawned};
+use st_service::{MachineId, Options, Refusal, Refused, Unposted, Unspawned};
 use std::process::Abort;
 
 /// A thousand clerks who have something to do.
 fn thousand<R: Threads>(
     rt: &Host<impl Abort + AllocGlobal>,
-    house: &House<R, Nobody>,
-) -> Vec<Box<Hatch<R, Nobody>>> {
+    house: &House<R>,
+) -> Vec<Box<Hatch<R>>> {
     let mut hatches = Vec::new(rt.alloc());
     for _ in 0..1_000 {
         let (_, mut hatch) = hires(rt, house, None, ALONE);
@@ -20,16 +22,16 @@ fn thousand<R: Threads>(
 }
 
 /// A clerk has ended, and refuses what he is told.
-fn has_ended<R: Threads>(rt: &impl Abort, threads: R, hatch: &mut Hatch<R, Nobody>) {
-    let ended = hatch.machine().ended(&threads);
+fn has_ended<R: Threads>(rt: &impl Abort, threads: R, hatch: &mut Hatch<R>) {
+    let ended = hatch.ended(threads);
     holds(rt, "it has ended", ended == Some((7, 0)));
     let refused = Unposted::Refused(Refused::new(Refusal::Stopped(7), Order::Spin));
     same(rt, "it refuses", &hatch.cast(Order::Spin), &Err(refused));
 }
 
 /// A service that was shut down starts nobody, and has nobody to stop.
-fn stays_shut<R: Threads>(rt: &impl Abort, house: &mut House<R, Nobody>) {
-    let closed = house.spawn(None, ALONE, &());
+fn stays_shut<R: Threads>(rt: &impl Abort, house: &mut House<R>) {
+    let closed = house.spawn(None, ALONE);
     holds(
         rt,
         "none starts",
@@ -41,7 +43,7 @@ fn stays_shut<R: Threads>(rt: &impl Abort, house: &mut House<R, Nobody>) {
 
 /// A thousand clerks who have something to do are shut down.
 fn shuts_a_thousand<R: Threads>(rt: &Host<impl Abort + AllocGlobal>, threads: R) {
-    let mut house = house(rt, threads, OPTIONS, Nobody);
+    let mut house = opens(rt, threads, OPTIONS, Counting::nobody());
     let mut hatches = thousand(rt, &house);
     let end = got(rt, "there is memory", house.shut_down(7));
     holds(
@@ -69,7 +71,7 @@ fn hands_a_message_out<R: Threads>(rt: &Host<impl Abort + AllocGlobal>, threads:
         turns: 0,
         ..OPTIONS
     };
-    let mut house = house(rt, threads, none, Nobody);
+    let mut house = opens(rt, threads, none, Counting::nobody());
     // The first machine of a service has this id: he bounces to himself.
     let own = MachineId { slot: 0, serial: 1 };
     let (id, mut hatch) = hires(rt, &house, None, Clerk { partner: own });

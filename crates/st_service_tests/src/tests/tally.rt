@@ -1,4 +1,4 @@
-//! An observer that counts.
+//! An observer that counts, or is not told.
 use crate::{Clerk, Order, Window};
 use st_service::{JournalEntry, MachineId, Observer, report_of};
 use std::alloc::Global;
@@ -13,23 +13,39 @@ pub struct Tally {
     pub entries: AtomicU64,
 }
 
-/// Who counts into a tally.
+/// Who counts into a tally, or is not told.
 #[derive(Drop)]
 pub struct Counting {
-    pub tally: Arc<Tally, Global>,
+    pub tally: Option<Arc<Tally, Global>>,
+}
+
+impl Counting {
+    /// Who is not told.
+    pub fn nobody() -> Counting {
+        Counting { tally: None }
+    }
+}
+
+impl Tally {
+    /// Counts an entry.
+    fn count(&self, entry: &JournalEntry<Window, Order>) {
+        self.entries.fetch_add(1, Ordering::SeqCst);
+        if let Some(report) = report_of(entry) {
+            self.reports.fetch_add(1, Ordering::SeqCst);
+            let number = report.event.unwrap_or(0);
+            self.numbers.fetch_add(number, Ordering::SeqCst);
+        }
+    }
 }
 
 impl Observer<Clerk> for Counting {
     fn observes(&self) -> bool {
-        true
+        self.tally.is_some()
     }
 
     fn observe(&self, _machine: MachineId, entry: &JournalEntry<Window, Order>) {
-        self.tally.entries.fetch_add(1, Ordering::SeqCst);
-        if let Some(report) = report_of(entry) {
-            self.tally.reports.fetch_add(1, Ordering::SeqCst);
-            let number = report.event.unwrap_or(0);
-            self.tally.numbers.fetch_add(number, Ordering::SeqCst);
+        if let Some(tally) = &self.tally {
+            tally.count(entry);
         }
     }
 }
