@@ -6,12 +6,12 @@ use Rattle.st_events.specs.declared.event.Event.{Event}
 use Rattle.st_events.specs.declared.refused.Refused.{Refused}
 use Rattle.st_events.specs.declared.refusal.Refusal.{Refusal}
 use Rattle.st_events.specs.declared.refusal.Refusal.TheVariants as refusal
-use Rattle.st_core.specs.declared.answer.Answer.{Answer}
-use Rattle.st_core.specs.declared.answer.Answer.TheVariants as answer
-use Rattle.st_core.specs.declared.command.Command.TheVariants as command
-use Rattle.st_core.specs.declared.entry.Entry.{Entry}
+use Rattle.st_answers.specs.declared.answer.Answer.{Answer}
+use Rattle.st_answers.specs.declared.answer.Answer.TheVariants as answer
+use Rattle.st_answers.specs.declared.command.Command.TheVariants as command
+use Rattle.st_answers.specs.declared.entry.Entry.{Entry}
 use Rattle.st_core.specs.declared.machine_state.MachineState.{MachineState}
-use Rattle.st_core.specs.declared.turned.Turned.{Turned}
+use Rattle.st_answers.specs.declared.turned.Turned.{Turned}
 use Rattle.st_core.specs.Callbacks.{Callbacks, called_of}
 use Rattle.st_core.specs.Choice.{next_event_of}
 use Rattle.st_core.specs.MachineState.{Machine}

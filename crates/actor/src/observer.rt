@@ -1,7 +1,7 @@
 //! Who is told what a machine did.
 ghost use Rattle.std.specs.Prelude.{⊤};
 ghost use Rattle.st_events.specs.declared.message.Message.{Message};
-ghost use Rattle.st_core.specs.declared.report.Report.{Report};
+ghost use Rattle.st_answers.specs.declared.report.Report.{Report};
 ghost use Rattle.st_core.specs.MachineState.{Machine};
 
 use st_core::{Core, Message, Module, Report};

@@ -1,8 +1,8 @@
 //! A machine is served by the thread that owns it.
 ghost use Rattle.std.specs.Prelude.{◌≡◌, ◌<◌, ◌≤◌, ◌^◌, Some, None, true, false, List, IfOk, IfErr, IfSome};
-ghost use Rattle.st_core.specs.declared.command.Command.{Command};
-ghost use Rattle.st_core.specs.declared.command.Command.TheVariants as command;
-ghost use Rattle.st_core.specs.declared.answer.Answer.{Answer};
+ghost use Rattle.st_answers.specs.declared.command.Command.{Command};
+ghost use Rattle.st_answers.specs.declared.command.Command.TheVariants as command;
+ghost use Rattle.st_answers.specs.declared.answer.Answer.{Answer};
 ghost use Rattle.st_core.specs.Callbacks.{callbacks_of};
 ghost use Rattle.st_core.specs.Choice.{has_message_of, has_event_of};
 ghost use Rattle.st_core.specs.Run.{Runs};

@@ -1,7 +1,7 @@
 //! A machine whose journal is not kept.
 ghost use Rattle.std.specs.Prelude.{◌≡◌, ◌<◌, ◌^◌, true, IfOk, IfErr, OnOk, OnErr, is_some, if◌then◌else◌};
 ghost use Rattle.st_events.specs.declared.refusal.Refusal.TheVariants.{NoMemory};
-ghost use Rattle.st_core.specs.declared.command.Command.TheVariants as command;
+ghost use Rattle.st_answers.specs.declared.command.Command.TheVariants as command;
 ghost use Rattle.st_core.specs.Callbacks.{callbacks_of};
 ghost use Rattle.st_core.specs.Lawful.{IsLawful};
 ghost use Rattle.st_scheduled.specs.declared.step_answer.StepAnswer.{StepAnswer};

@@ -5,11 +5,11 @@ use Rattle.st_events.specs.declared.refusal.Refusal.{Refusal}
 use Rattle.st_events.specs.declared.refusal.Refusal.TheVariants.{NoMemory}
 use Rattle.st_events.specs.declared.refused.Refused.{Refused}
 use Rattle.st_events.specs.declared.token.Token.{Token}
-use Rattle.st_core.specs.declared.answer.Answer.TheVariants as answer
-use Rattle.st_core.specs.declared.report.Report.{Report}
-use Rattle.st_core.specs.declared.turned.Turned.TheVariants.{Reported}
-use Rattle.st_core.specs.declared.command.Command.{Command}
-use Rattle.st_core.specs.declared.command.Command.TheVariants as command
+use Rattle.st_answers.specs.declared.answer.Answer.TheVariants as answer
+use Rattle.st_answers.specs.declared.report.Report.{Report}
+use Rattle.st_answers.specs.declared.turned.Turned.TheVariants.{Reported}
+use Rattle.st_answers.specs.declared.command.Command.{Command}
+use Rattle.st_answers.specs.declared.command.Command.TheVariants as command
 use Rattle.st_core.specs.Callbacks.{Callbacks}
 use Rattle.st_core.specs.Choice.{next_event_of}
 use Rattle.st_core.specs.MachineState.{Machine}

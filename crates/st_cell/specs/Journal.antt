@@ -1,10 +1,10 @@
 -- A journal: the commands that a machine took, with its answers, and whose posts they are.
 use Rattle.std.specs.Prelude.{◌≡◌, ℕ, ◌+◌, Bool, false, ◌==◌, if◌then◌else◌, Ok, Err, List, [], ◌∷◌, ◌++◌, map}
-use Rattle.st_core.specs.declared.answer.Answer.{Answer}
-use Rattle.st_core.specs.declared.answer.Answer.TheVariants as answer
-use Rattle.st_core.specs.declared.command.Command.{Command}
-use Rattle.st_core.specs.declared.command.Command.TheVariants as command
-use Rattle.st_core.specs.declared.entry.Entry.{Entry}
+use Rattle.st_answers.specs.declared.answer.Answer.{Answer}
+use Rattle.st_answers.specs.declared.answer.Answer.TheVariants as answer
+use Rattle.st_answers.specs.declared.command.Command.{Command}
+use Rattle.st_answers.specs.declared.command.Command.TheVariants as command
+use Rattle.st_answers.specs.declared.entry.Entry.{Entry}
 use Rattle.st_core.specs.declared.machine_state.MachineState.{MachineState}
 use Rattle.st_core.specs.Callbacks.{Callbacks}
 use Rattle.st_core.specs.MachineState.{Machine}

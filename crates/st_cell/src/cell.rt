@@ -1,7 +1,7 @@
 //! A machine's cell: the machine with its journal.
 ghost use Rattle.std.specs.Prelude.{◌≡◌, ◌↔◌, true, length, IfOk, IfErr, OnOk, OnErr};
 ghost use Rattle.st_events.specs.declared.refusal.Refusal.TheVariants.{NoMemory};
-ghost use Rattle.st_core.specs.declared.command.Command.TheVariants as command;
+ghost use Rattle.st_answers.specs.declared.command.Command.TheVariants as command;
 ghost use Rattle.st_core.specs.Callbacks.{callbacks_of};
 ghost use Rattle.st_scheduled.specs.Answered.{posted_as, ticked_as, replied_as, collected_as, stopped_as};
 ghost use Rattle.st_scheduled.specs.ScheduledMachine.{id_of, token_of};

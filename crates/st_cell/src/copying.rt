@@ -1,6 +1,6 @@
 //! Entries are copied, their contents by whatever copies contents.
 ghost use Rattle.std.specs.Prelude.{◌≡◌, Ok, IfOk};
-ghost use Rattle.st_core.specs.declared.answer.Answer.TheVariants as answer;
+ghost use Rattle.st_answers.specs.declared.answer.Answer.TheVariants as answer;
 
 use crate::JournalEntry;
 use st_core::{Answer, Collected, Command, Message, PlainList, Refusal, Refused, Report, Turned};

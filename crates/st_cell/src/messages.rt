@@ -1,6 +1,6 @@
 //! Messages: they are taken out of a machine, and delivered to it.
 ghost use Rattle.std.specs.Prelude.{◌≡◌, IfErr};
-ghost use Rattle.st_core.specs.declared.command.Command.TheVariants as command;
+ghost use Rattle.st_answers.specs.declared.command.Command.TheVariants as command;
 ghost use Rattle.st_core.specs.Callbacks.{callbacks_of};
 ghost use Rattle.st_scheduled.specs.Answered.{taken_out_as};
 ghost use Rattle.st_cell.specs.Calls.{IsTold, TakesOut, Delivers};

@@ -1,6 +1,6 @@
 //! The calls that a journal keeps: each gets its memory first, then tells the machine, then writes its entry.
 ghost use Rattle.std.specs.Prelude.{◌≡◌, ◌<◌, ◌^◌, ◌||◌, true, false, is_some, IfErr, if◌then◌else◌};
-ghost use Rattle.st_core.specs.declared.command.Command.TheVariants as command;
+ghost use Rattle.st_answers.specs.declared.command.Command.TheVariants as command;
 ghost use Rattle.st_core.specs.Callbacks.{callbacks_of};
 ghost use Rattle.st_scheduled.specs.declared.step_answer.StepAnswer.{StepAnswer};
 ghost use Rattle.st_scheduled.specs.Answered.{posted_as, ticked_as, served_as, replied_as, collected_as, stopped_as, is_counted, wants_numbers};

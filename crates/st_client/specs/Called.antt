@@ -1,8 +1,8 @@
 -- A call posts one event at its port, and the request that it hands out, if it hands one out, is that event's.
 use Rattle.std.specs.Prelude.{◌≡◌, ℕ, Option, Some, None, IfSome, Result, Ok, Err}
 use Rattle.st_core.specs.Callbacks.{Callbacks}
-use Rattle.st_core.specs.declared.command.Command.TheVariants as command
-use Rattle.st_core.specs.declared.entry.Entry.TheVariants.{Call}
+use Rattle.st_answers.specs.declared.command.Command.TheVariants as command
+use Rattle.st_answers.specs.declared.entry.Entry.TheVariants.{Call}
 use Rattle.st_events.specs.declared.refusal.Refusal.{Refusal}
 use Rattle.st_events.specs.declared.tag.Tag.{Tag}
 use Rattle.st_events.specs.declared.token.Token.{Token}

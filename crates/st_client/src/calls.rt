@@ -1,6 +1,6 @@
 //! Requests are waited for, asked about and answered.
 ghost use Rattle.std.specs.Prelude.{◌≡◌, None, IfOk, IfErr, IfSome, OnErr};
-ghost use Rattle.st_core.specs.declared.command.Command.TheVariants as command;
+ghost use Rattle.st_answers.specs.declared.command.Command.TheVariants as command;
 ghost use Rattle.st_core.specs.Callbacks.{callbacks_of};
 ghost use Rattle.st_scheduled.specs.Answered.{collected_as, replied_as};
 ghost use Rattle.st_lock.specs.Machines.{id_of, IsToldSomewhere};

@@ -1,6 +1,6 @@
 //! Events are sent through a port, and the machine is scheduled.
 ghost use Rattle.std.specs.Prelude.{◌≡◌, IfOk, IfErr, OnErr};
-ghost use Rattle.st_core.specs.declared.entry.Entry.TheVariants.{Call, Cast, Info};
+ghost use Rattle.st_answers.specs.declared.entry.Entry.TheVariants.{Call, Cast, Info};
 ghost use Rattle.st_lock.specs.Ports.{posted};
 ghost use Rattle.st_client.specs.Called.{NamesMachine};
 

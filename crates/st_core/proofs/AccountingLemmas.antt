@@ -21,12 +21,12 @@ use Rattle.st_agenda.specs.Lawful.{times, waiting_numbers, running_numbers, live
 use Rattle.st_agenda.proofs.LawfulReceiving.{next_is_live}
 use Rattle.st_agenda.proofs.LawfulSetting.{times-append, numbered_times, posted_waiting, lawful_posted, expired_waiting}
 use Rattle.st_agenda.proofs.LawfulTurn.{has_times, next_below, settled_waiting, settled_next, settled_gone, finished_gone}
-use Rattle.st_core.specs.declared.answer.Answer.{Answer}
-use Rattle.st_core.specs.declared.answer.Answer.TheVariants as answer
-use Rattle.st_core.specs.declared.command.Command.{Command}
-use Rattle.st_core.specs.declared.command.Command.TheVariants as command
-use Rattle.st_core.specs.declared.entry.Entry.{Entry}
-use Rattle.st_core.specs.declared.turned.Turned.TheVariants.{Reported}
+use Rattle.st_answers.specs.declared.answer.Answer.{Answer}
+use Rattle.st_answers.specs.declared.answer.Answer.TheVariants as answer
+use Rattle.st_answers.specs.declared.command.Command.{Command}
+use Rattle.st_answers.specs.declared.command.Command.TheVariants as command
+use Rattle.st_answers.specs.declared.entry.Entry.{Entry}
+use Rattle.st_answers.specs.declared.turned.Turned.TheVariants.{Reported}
 use Rattle.st_core.specs.declared.machine_state.MachineState.{MachineState}
 use Rattle.st_core.specs.MachineState.{Machine}
 use Rattle.st_core.specs.Callbacks.{Callbacks, Called, called_of}

@@ -26,12 +26,12 @@ use Rattle.st_agenda.specs.Timing.{numbers_taken}
 use Rattle.st_agenda.specs.Timing as timing
 use Rattle.st_agenda.proofs.LawfulSetting as schedule
 use Rattle.st_agenda.proofs.LawfulTurn.{settled_lawful, settled_next}
-use Rattle.st_core.specs.declared.answer.Answer.{Answer}
-use Rattle.st_core.specs.declared.command.Command.{Command}
-use Rattle.st_core.specs.declared.command.Command.TheVariants as command
-use Rattle.st_core.specs.declared.entry.Entry.{Entry}
-use Rattle.st_core.specs.declared.entry.Entry.TheVariants.{Call, Cast, Info}
-use Rattle.st_core.specs.declared.report.Report.{Report}
+use Rattle.st_answers.specs.declared.answer.Answer.{Answer}
+use Rattle.st_answers.specs.declared.command.Command.{Command}
+use Rattle.st_answers.specs.declared.command.Command.TheVariants as command
+use Rattle.st_answers.specs.declared.entry.Entry.{Entry}
+use Rattle.st_answers.specs.declared.entry.Entry.TheVariants.{Call, Cast, Info}
+use Rattle.st_answers.specs.declared.report.Report.{Report}
 use Rattle.st_core.specs.declared.start.Start.{Start}
 use Rattle.st_core.specs.declared.start.Start.TheVariants.{Running, Ignored, Stopped}
 use Rattle.st_core.specs.declared.machine_state.MachineState.{MachineState}

@@ -6,8 +6,8 @@ use Rattle.st_events.specs.declared.refused.Refused.{Refused}
 use Rattle.st_events.specs.declared.refusal.Refusal.{Refusal}
 use Rattle.st_events.specs.declared.refusal.Refusal.TheVariants.{Exhausted, NoMemory}
 use Rattle.st_actions.specs.Plan.{settings_of}
-use Rattle.st_core.specs.declared.done.Done.TheVariants.{Started}
-use Rattle.st_core.specs.declared.report.Report.{Report}
+use Rattle.st_answers.specs.declared.done.Done.TheVariants.{Started}
+use Rattle.st_answers.specs.declared.report.Report.{Report}
 use Rattle.st_core.specs.declared.start.Start.{Start}
 use Rattle.st_core.specs.declared.start.Start.TheVariants.{Running}
 use Rattle.st_core.specs.declared.machine_state.MachineState.{MachineState}

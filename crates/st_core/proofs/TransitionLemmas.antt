@@ -20,24 +20,24 @@ use Rattle.st_agenda.specs.declared.schedule.Schedule.{Schedule}
 use Rattle.st_agenda.specs.Agenda.{settled_in}
 use Rattle.st_agenda.specs.Items.{numbered, numbers_of}
 use Rattle.st_events.specs.declared.outcome.Outcome.{Outcome}
-use Rattle.st_core.specs.declared.call.Call.{Call}
+use Rattle.st_answers.specs.declared.call.Call.{Call}
 use Rattle.st_core.specs.declared.course.Course.{Course}
-use Rattle.st_core.specs.declared.report.Report.{Report}
-use Rattle.st_core.specs.declared.turned.Turned.{Turned}
-use Rattle.st_core.specs.declared.turned.Turned.TheVariants.{Reported}
+use Rattle.st_answers.specs.declared.report.Report.{Report}
+use Rattle.st_answers.specs.declared.turned.Turned.{Turned}
+use Rattle.st_answers.specs.declared.turned.Turned.TheVariants.{Reported}
 use Rattle.st_core.specs.declared.machine_state.MachineState.{MachineState}
 use Rattle.st_core.specs.MachineState.{Machine}
 use Rattle.st_core.specs.Callbacks.{Callbacks, Called, or_old, differs, asked_by, called_of, called_with, entered_by, is_entered}
 use Rattle.st_core.specs.Gathering.{ComesTo, TurnsTo, turned_with}
-use Rattle.st_core.specs.declared.done.Done.{Done}
+use Rattle.st_answers.specs.declared.done.Done.{Done}
 use Rattle.st_core.specs.declared.gathered.Gathered.{Gathered}
 use Rattle.st_core.specs.Choice.{next_event_of}
 use Rattle.st_core.specs.Stop.{unless_ended}
 use Rattle.st_core.specs.Transition.{with_moment, with_called, with_settled, has_numbers, report_of, unless_refused, went_on, stopped, concluded, transition_of, turn_running, turn_of}
-use Rattle.st_core.specs.declared.entry.Entry.{Entry}
+use Rattle.st_answers.specs.declared.entry.Entry.{Entry}
 use Rattle.st_core.specs.Post.{post_of, post_running, post_refused}
-use Rattle.st_core.specs.declared.answer.Answer.TheVariants as answer
-use Rattle.st_core.specs.declared.command.Command.TheVariants as command
+use Rattle.st_answers.specs.declared.answer.Answer.TheVariants as answer
+use Rattle.st_answers.specs.declared.command.Command.TheVariants as command
 use Rattle.st_core.specs.Run.{Meets, Does, turn_takes_memory, turn_without_memory, post_takes_memory}
 
 -- ---- numbers

@@ -2,11 +2,11 @@
 use Rattle.std.specs.Prelude.{◌≡◌, ℕ, Option, Some, List, [], Result, Ok, Err}
 use Rattle.st_events.specs.declared.action.Action.{Action}
 use Rattle.st_events.specs.declared.refusal.Refusal.{Refusal}
-use Rattle.st_core.specs.declared.done.Done.{Done}
-use Rattle.st_core.specs.declared.report.Report.{Report}
-use Rattle.st_core.specs.declared.turned.Turned.{Turned}
-use Rattle.st_core.specs.declared.turned.Turned.TheVariants.{Reported}
-use Rattle.st_core.specs.declared.call.Call.{Call}
+use Rattle.st_answers.specs.declared.done.Done.{Done}
+use Rattle.st_answers.specs.declared.report.Report.{Report}
+use Rattle.st_answers.specs.declared.turned.Turned.{Turned}
+use Rattle.st_answers.specs.declared.turned.Turned.TheVariants.{Reported}
+use Rattle.st_answers.specs.declared.call.Call.{Call}
 use Rattle.st_core.specs.declared.course.Course.{Course}
 use Rattle.st_core.specs.declared.gathered.Gathered.{Gathered}
 use Rattle.st_core.specs.declared.machine_state.MachineState.{MachineState}

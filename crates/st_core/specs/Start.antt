@@ -12,11 +12,11 @@ use Rattle.st_events.specs.declared.timer.Timer.{Timer}
 use Rattle.st_actions.specs.Plan.{inserts_of, settings_of, sends_of}
 use Rattle.st_agenda.specs.Agenda.{inserted_in, all_set_in}
 use Rattle.st_outbox.specs.Outbox.{first_outbox, with_sent}
-use Rattle.st_core.specs.declared.call.Call.{Call}
-use Rattle.st_core.specs.declared.call.Call.TheVariants.{Terminate}
-use Rattle.st_core.specs.declared.done.Done.{Done}
-use Rattle.st_core.specs.declared.done.Done.TheVariants.{Started, Ended}
-use Rattle.st_core.specs.declared.report.Report.{Report}
+use Rattle.st_answers.specs.declared.call.Call.{Call}
+use Rattle.st_answers.specs.declared.call.Call.TheVariants.{Terminate}
+use Rattle.st_answers.specs.declared.done.Done.{Done}
+use Rattle.st_answers.specs.declared.done.Done.TheVariants.{Started, Ended}
+use Rattle.st_answers.specs.declared.report.Report.{Report}
 use Rattle.st_core.specs.declared.start.Start.{Start}
 use Rattle.st_core.specs.declared.start.Start.TheVariants.{Running, Ignored, Stopped}
 use Rattle.st_core.specs.declared.machine_state.MachineState.{MachineState}

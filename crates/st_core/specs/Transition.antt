@@ -17,12 +17,12 @@ use Rattle.st_agenda.specs.Agenda.{settled_in, running_on}
 use Rattle.st_agenda.specs.Items.{numbered, numbers_of}
 use Rattle.st_agenda.specs.Timing as timing
 use Rattle.st_outbox.specs.Outbox.{messages_from, message_numbers, with_sent, has_message_numbers}
-use Rattle.st_core.specs.declared.call.Call.TheVariants.{Terminate}
-use Rattle.st_core.specs.declared.done.Done.{Done}
-use Rattle.st_core.specs.declared.done.Done.TheVariants.{Finished, PutOff, Ended}
-use Rattle.st_core.specs.declared.report.Report.{Report}
-use Rattle.st_core.specs.declared.turned.Turned.{Turned}
-use Rattle.st_core.specs.declared.turned.Turned.TheVariants.{Reported, Idle}
+use Rattle.st_answers.specs.declared.call.Call.TheVariants.{Terminate}
+use Rattle.st_answers.specs.declared.done.Done.{Done}
+use Rattle.st_answers.specs.declared.done.Done.TheVariants.{Finished, PutOff, Ended}
+use Rattle.st_answers.specs.declared.report.Report.{Report}
+use Rattle.st_answers.specs.declared.turned.Turned.{Turned}
+use Rattle.st_answers.specs.declared.turned.Turned.TheVariants.{Reported, Idle}
 use Rattle.st_core.specs.declared.machine_state.MachineState.{MachineState}
 use Rattle.st_core.specs.Callbacks.{Callbacks, Called, called_of}
 use Rattle.st_core.specs.Choice.{next_event_of}

@@ -1,6 +1,6 @@
 //! What a report will tell, gathered while a start or a turn is done.
 ghost use Rattle.std.specs.Prelude.{◌≡◌, [], ◌∷◌};
-ghost use Rattle.st_core.specs.declared.call.Call.TheVariants.{Handle};
+ghost use Rattle.st_answers.specs.declared.call.Call.TheVariants.{Handle};
 ghost use Rattle.st_core.specs.Gathering.{IsEmpty, report_with};
 
 use crate::{Call, Calls, Done, OneInline, Report};

@@ -3,16 +3,10 @@
 #![tactic(auto)]
 
 mod added;
-mod answer;
 mod answering;
-mod call;
-mod calls;
-mod command;
 mod course;
 mod decisions;
-mod done;
 mod engine;
-mod entry;
 mod gathered;
 mod going_on;
 mod laws;
@@ -20,12 +14,10 @@ mod machine_state;
 mod messages;
 mod new_data;
 mod numbers;
-mod one_inline;
 mod opening;
 mod post;
 mod prepared;
 mod replies;
-mod report;
 mod run;
 mod sending;
 mod snapshot;
@@ -33,28 +25,20 @@ mod start;
 mod stop;
 mod tick;
 mod turn;
-mod turned;
 mod turns;
 mod turns_end;
 mod until_idle;
 
-pub use answer::Answer;
-pub use call::Call;
-pub use calls::Calls;
-pub use command::Command;
-pub use done::Done;
 pub use engine::Core;
-pub use entry::Entry;
 pub use laws::{
     a_machine_is_lawful, a_run_is_accounted, a_run_keeps_machines_lawful, a_start_is_lawful,
     a_state_change_is_a_change_of_value, peek_shows_what_collect_hands_out,
     waiting_counts_what_is_accounted,
 };
 pub use machine_state::MachineState;
-pub use one_inline::OneInline;
-pub use report::Report;
 pub use snapshot::Snapshot;
 pub use st_agenda::{Item, Schedule};
+pub use st_answers::{Answer, Call, Calls, Command, Done, Entry, OneInline, Report, Turned};
 pub use st_events::{
     Action, Actions, Decision, EnterAction, EnterActions, EnterOutcome, Event, Init, Kind,
     MOMENT_LIMIT, MachineId, Message, Module, NUMBER_LIMIT, Outcome, PlainList, Reason, Refusal,
@@ -64,6 +48,5 @@ pub use st_outbox::Outbox;
 pub use st_requests::{Collected, Held, Request, RequestState};
 pub use st_timeouts::{Due, Running};
 pub use start::Start;
-pub use turned::Turned;
 pub use turns::Turns;
 pub use turns_end::TurnsEnd;

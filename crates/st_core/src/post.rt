@@ -2,8 +2,8 @@
 ghost use Rattle.std.specs.Prelude.{◌≡◌, List, None, OnOk, OnErr, IfErr};
 ghost use Rattle.st_requests.specs.declared.request.Request.{Request};
 ghost use Rattle.st_requests.specs.Requests.{held_for};
-ghost use Rattle.st_core.specs.declared.answer.Answer.TheVariants as answer;
-ghost use Rattle.st_core.specs.declared.command.Command.TheVariants as command;
+ghost use Rattle.st_answers.specs.declared.answer.Answer.TheVariants as answer;
+ghost use Rattle.st_answers.specs.declared.command.Command.TheVariants as command;
 ghost use Rattle.st_core.specs.Callbacks.{callbacks_of};
 ghost use Rattle.st_core.specs.Post.{kind_of, opened_by};
 ghost use Rattle.st_core.specs.Run.{Does};

@@ -1,7 +1,7 @@
 //! A machine is stopped from outside.
 ghost use Rattle.std.specs.Prelude.{◌≡◌, OnErr};
-ghost use Rattle.st_core.specs.declared.answer.Answer.TheVariants as answer;
-ghost use Rattle.st_core.specs.declared.command.Command.TheVariants as command;
+ghost use Rattle.st_answers.specs.declared.answer.Answer.TheVariants as answer;
+ghost use Rattle.st_answers.specs.declared.command.Command.TheVariants as command;
 ghost use Rattle.st_core.specs.Callbacks.{callbacks_of};
 ghost use Rattle.st_core.specs.Run.{Does};
 ghost use Rattle.st_core.specs.Stop.{with_ended};

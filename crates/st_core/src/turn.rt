@@ -2,8 +2,8 @@
 //! order; what can fail is done before anything changes.
 ghost use Rattle.std.specs.Prelude.{◌≡◌, ◌<◌, ◌^◌, ◌&&◌, ◌||◌, false, None, Some, Bool, Option, if◌then◌else◌, OnErr};
 ghost use Rattle.std.specs.Option.{option_map};
-ghost use Rattle.st_core.specs.declared.answer.Answer.TheVariants as answer;
-ghost use Rattle.st_core.specs.declared.command.Command.TheVariants as command;
+ghost use Rattle.st_answers.specs.declared.answer.Answer.TheVariants as answer;
+ghost use Rattle.st_answers.specs.declared.command.Command.TheVariants as command;
 ghost use Rattle.st_core.specs.Callbacks.{Called, callbacks_of, called_with, entered_by, is_entered};
 ghost use Rattle.st_core.specs.Choice.{next_event_of};
 ghost use Rattle.st_core.specs.Gathering.{ComesTo, IsEmpty, TurnsTo};

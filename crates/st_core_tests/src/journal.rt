@@ -3,8 +3,8 @@
 #![tactic(auto)]
 
 ghost use Rattle.std.specs.Prelude.{◌≡◌, [], ◌∷◌, ◌++◌, IfOk, OnOk};
-ghost use Rattle.st_core.specs.declared.answer.Answer.TheVariants as answer;
-ghost use Rattle.st_core.specs.declared.command.Command.TheVariants as command;
+ghost use Rattle.st_answers.specs.declared.answer.Answer.TheVariants as answer;
+ghost use Rattle.st_answers.specs.declared.command.Command.TheVariants as command;
 ghost use Rattle.st_core.specs.Callbacks.{callbacks_of};
 ghost use Rattle.st_core.specs.Run.{Runs};
 

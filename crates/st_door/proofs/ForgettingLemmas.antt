@@ -9,9 +9,9 @@ use Rattle.st_events.specs.declared.message.Message.{Message}
 use Rattle.st_events.specs.declared.refusal.Refusal.{Refusal}
 use Rattle.st_events.specs.declared.refusal.Refusal.TheVariants.{Full}
 use Rattle.st_events.specs.declared.tag.Tag.{Tag}
-use Rattle.st_core.specs.declared.command.Command.{Command}
-use Rattle.st_core.specs.declared.command.Command.TheVariants as command
-use Rattle.st_core.specs.declared.entry.Entry.TheVariants.{Info}
+use Rattle.st_answers.specs.declared.command.Command.{Command}
+use Rattle.st_answers.specs.declared.command.Command.TheVariants as command
+use Rattle.st_answers.specs.declared.entry.Entry.TheVariants.{Info}
 use Rattle.st_cell.specs.declared.source.Source.{Source}
 use Rattle.st_cell.specs.declared.source.Source.TheVariants as source
 use Rattle.st_core.specs.declared.start.Start.TheVariants.{Running, Ignored, Stopped}

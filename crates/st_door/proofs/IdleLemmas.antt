@@ -2,7 +2,7 @@
 use Rattle.std.proofs.Common.{◌≡◌, ℕ, zero, suc, ◌<◌, Bool, true, false, List, [], ◌∷◌, length, get_or, set, map, Option, Some, None, refl, ap, sym, ◌∙◌, arith, inl, inr}
 use Rattle.std.specs.List.{find, list_any}
 use Rattle.std.proofs.lemmas.Bool.{cases_Bool}
-use Rattle.st_core.specs.declared.command.Command.{Command}
+use Rattle.st_answers.specs.declared.command.Command.{Command}
 use Rattle.st_core.specs.Choice.{has_event_of, has_message_of, is_ready_of}
 use Rattle.st_core.specs.Start.{first_state}
 use Rattle.st_events.specs.declared.machine_id.MachineId.{MachineId}

@@ -9,9 +9,9 @@ use Rattle.st_core.specs.Choice.{has_message_of, is_ready_of, next_due_of}
 use Rattle.st_core.specs.Run.{step_of}
 use Rattle.st_core.specs.Tick.{expiring_of}
 use Rattle.st_core.specs.Transition.{with_moment}
-use Rattle.st_core.specs.declared.answer.Answer.TheVariants as answer
-use Rattle.st_core.specs.declared.command.Command.{Command}
-use Rattle.st_core.specs.declared.command.Command.TheVariants as command
+use Rattle.st_answers.specs.declared.answer.Answer.TheVariants as answer
+use Rattle.st_answers.specs.declared.command.Command.{Command}
+use Rattle.st_answers.specs.declared.command.Command.TheVariants as command
 use Rattle.st_events.specs.declared.machine_id.MachineId.{MachineId}
 use Rattle.st_events.specs.declared.refusal.Refusal.TheVariants.{Stopped}
 use Rattle.st_outbox.specs.declared.outbox.Outbox.{Outbox}

@@ -2,10 +2,10 @@
 use Rattle.std.proofs.Common.{◌≡◌, ℕ, suc, ◌^◌, ◌<◌, ◌≤◌, ◌⊎◌, max, nat_lt, nat_le, Bool, true, false, not, ◌&&◌, List, [], ◌∷◌, Option, Some, None, Result, Ok, Err, filter, length, refl, ap, ◌∙◌, arith, inl, inr, append-nil}
 use Rattle.std.proofs.lemmas.Bool.{cases_Bool}
 use Rattle.st_core.specs.declared.machine_state.MachineState.{MachineState}
-use Rattle.st_core.specs.declared.command.Command.{Command}
-use Rattle.st_core.specs.declared.command.Command.TheVariants as command
-use Rattle.st_core.specs.declared.answer.Answer.{Answer}
-use Rattle.st_core.specs.declared.answer.Answer.TheVariants as answer
+use Rattle.st_answers.specs.declared.command.Command.{Command}
+use Rattle.st_answers.specs.declared.command.Command.TheVariants as command
+use Rattle.st_answers.specs.declared.answer.Answer.{Answer}
+use Rattle.st_answers.specs.declared.answer.Answer.TheVariants as answer
 use Rattle.st_core.specs.Callbacks.{Callbacks, Called, called_of}
 use Rattle.st_core.specs.Choice.{next_event_of}
 use Rattle.st_core.specs.Post.{post_running}
@@ -13,7 +13,7 @@ use Rattle.st_core.specs.Run.{step_of}
 use Rattle.st_core.specs.Stop.{stop_running, unless_ended}
 use Rattle.st_core.specs.Tick.{tick_running, expiring_of, with_expiries}
 use Rattle.st_core.specs.Transition.{turn_running, transition_of, with_moment, concluded, left_by, went_on, has_numbers}
-use Rattle.st_core.specs.declared.entry.Entry.{Entry}
+use Rattle.st_answers.specs.declared.entry.Entry.{Entry}
 use Rattle.st_events.specs.declared.event.Event.{Event}
 use Rattle.st_events.specs.declared.refusal.Refusal.{Refusal}
 use Rattle.st_timeouts.specs.declared.due.Due.{Due}

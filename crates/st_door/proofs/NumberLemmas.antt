@@ -4,7 +4,7 @@ use Rattle.std.proofs.lemmas.Bool.{cases_Bool, eq-eqb, false_from_ne_true}
 use Rattle.std.proofs.lemmas.List.{map-append}
 use Rattle.std.proofs.lemmas.Slice.Eq.{bytes_eq-Decides}
 use Rattle.st_core.specs.Run.{step_of}
-use Rattle.st_core.specs.declared.command.Command.{Command}
+use Rattle.st_answers.specs.declared.command.Command.{Command}
 use Rattle.st_cell.specs.declared.source.Source.{Source}
 use Rattle.st_events.specs.declared.machine_id.MachineId.{MachineId}
 use Rattle.st_events.proofs.ComparedLemmas.{same_number}

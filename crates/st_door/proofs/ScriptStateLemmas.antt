@@ -9,12 +9,12 @@ use Rattle.st_events.specs.declared.machine_id.MachineId.{MachineId}
 use Rattle.st_events.specs.declared.refusal.Refusal.{Refusal}
 use Rattle.st_events.specs.declared.refusal.Refusal.TheVariants.{AlreadyStarted, NoSuchName, NotStopped}
 use Rattle.st_events.specs.declared.tag.Tag.{Tag}
-use Rattle.st_core.specs.declared.answer.Answer.TheVariants as answer
-use Rattle.st_core.specs.declared.command.Command.{Command}
-use Rattle.st_core.specs.declared.command.Command.TheVariants as command
+use Rattle.st_answers.specs.declared.answer.Answer.TheVariants as answer
+use Rattle.st_answers.specs.declared.command.Command.{Command}
+use Rattle.st_answers.specs.declared.command.Command.TheVariants as command
 use Rattle.st_core.specs.Start.{first_state, start_of}
 use Rattle.st_core.specs.Choice.{is_ready_of}
-use Rattle.st_core.specs.declared.report.Report.{Report}
+use Rattle.st_answers.specs.declared.report.Report.{Report}
 use Rattle.st_core.specs.declared.start.Start.TheVariants.{Running}
 use Rattle.st_door.specs.Door.{init_of}
 use Rattle.st_door.specs.Entries.{DoorCore}

@@ -5,10 +5,10 @@ use Rattle.std.proofs.Math.Path.{fun_ext}
 use Rattle.std.proofs.lemmas.Bool.{cases_Bool}
 use Rattle.st_core.specs.Choice.{next_event_of}
 use Rattle.st_core.specs.Callbacks.{Called, callbacks_of, called_of}
-use Rattle.st_core.specs.declared.answer.Answer.TheVariants as answer
-use Rattle.st_core.specs.declared.command.Command.{Command}
-use Rattle.st_core.specs.declared.command.Command.TheVariants as command
-use Rattle.st_core.specs.declared.entry.Entry.{Entry}
+use Rattle.st_answers.specs.declared.answer.Answer.TheVariants as answer
+use Rattle.st_answers.specs.declared.command.Command.{Command}
+use Rattle.st_answers.specs.declared.command.Command.TheVariants as command
+use Rattle.st_answers.specs.declared.entry.Entry.{Entry}
 use Rattle.st_core.specs.Post.{next_tag, post_running}
 use Rattle.st_core.specs.Run.{step_of}
 use Rattle.st_core.specs.Stop.{stop_running, unless_ended}
@@ -28,7 +28,7 @@ use Rattle.st_door.specs.declared.door_state.DoorState.{DoorState}
 use Rattle.st_door.specs.declared.door_state.DoorState.TheVariants.{Locked, Open}
 use Rattle.st_door.specs.Door.{is_same_state}
 use Rattle.st_door.specs.Doors.{DoorAnswer, DoorEntry, DoorMachine, History, KeptDoor, asks, door_callbacks, history_told, is_recorded, kept_told_by, refusal_in, refusal_by, post_refusal_by, source_of, told_kept}
-use Rattle.st_core.specs.declared.turned.Turned.TheVariants.{Reported, Idle}
+use Rattle.st_answers.specs.declared.turned.Turned.TheVariants.{Reported, Idle}
 
 -- ---- a door's callbacks are those of the definition
 -- states are compared as the definition compares them

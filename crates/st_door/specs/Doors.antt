@@ -6,12 +6,12 @@ use Rattle.st_core.specs.Callbacks.{Callbacks}
 use Rattle.st_core.specs.Choice.{has_message_of, is_ready_of}
 use Rattle.st_core.specs.Post.{next_tag}
 use Rattle.st_core.specs.Run.{step_of}
-use Rattle.st_core.specs.declared.answer.Answer.{Answer}
-use Rattle.st_core.specs.declared.answer.Answer.TheVariants as answer
-use Rattle.st_core.specs.declared.command.Command.{Command}
-use Rattle.st_core.specs.declared.command.Command.TheVariants as command
-use Rattle.st_core.specs.declared.entry.Entry.TheVariants.{Call, Cast}
-use Rattle.st_core.specs.declared.turned.Turned.TheVariants.{Reported, Idle}
+use Rattle.st_answers.specs.declared.answer.Answer.{Answer}
+use Rattle.st_answers.specs.declared.answer.Answer.TheVariants as answer
+use Rattle.st_answers.specs.declared.command.Command.{Command}
+use Rattle.st_answers.specs.declared.command.Command.TheVariants as command
+use Rattle.st_answers.specs.declared.entry.Entry.TheVariants.{Call, Cast}
+use Rattle.st_answers.specs.declared.turned.Turned.TheVariants.{Reported, Idle}
 use Rattle.st_scheduled.specs.Serving.{hands_out}
 use Rattle.st_cell.specs.declared.journal_entry.JournalEntry.{JournalEntry}
 use Rattle.st_cell.specs.declared.source.Source.{Source}

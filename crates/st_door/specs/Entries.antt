@@ -8,7 +8,7 @@ use Rattle.st_door.specs.declared.door_content.DoorContent.{DoorContent}
 use Rattle.st_door.specs.declared.door_data.DoorData.{DoorData}
 use Rattle.st_door.specs.declared.door_state.DoorState.{DoorState}
 use Rattle.st_core.specs.Run.{step_of}
-use Rattle.st_core.specs.declared.command.Command.{Command}
+use Rattle.st_answers.specs.declared.command.Command.{Command}
 use Rattle.st_door.specs.Doors.{NamedDoor, DoorAnswer, DoorMachine, History, KeptDoor, door_callbacks, door_named, recorded, source_of, DoorEntry}
 use Rattle.st_door.specs.Past.{with_entries}
 use Rattle.st_cell.specs.Cell.{CellState, IsOpen}

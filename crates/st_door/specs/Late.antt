@@ -2,7 +2,7 @@
 -- may be made up for at the door's next command.
 use Rattle.std.specs.Prelude.{◌≡◌, ℕ, ◌<◌, ◌≤◌, ◌⊎◌, Bool, ◌&&◌, is_none, nat_lt, List, [], ◌∷◌, Option, Some, None}
 use Rattle.st_core.specs.declared.machine_state.MachineState.{MachineState}
-use Rattle.st_core.specs.declared.command.Command.TheVariants as command
+use Rattle.st_answers.specs.declared.command.Command.TheVariants as command
 use Rattle.st_core.specs.Run.{step_of}
 use Rattle.st_core.specs.Transition.{with_moment}
 use Rattle.st_door.specs.Doors.{DoorMachine, History, KeptDoor, NamedDoor, count_in, door_callbacks, door_named, kept_of, told_kept}

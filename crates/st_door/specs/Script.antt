@@ -8,8 +8,8 @@ use Rattle.st_events.specs.declared.refusal.Refusal.{Refusal}
 use Rattle.st_events.specs.declared.refusal.Refusal.TheVariants.{AlreadyStarted, Moment, NoSuchName, NotStopped, Full}
 use Rattle.st_events.specs.declared.refused.Refused.{Refused}
 use Rattle.st_events.specs.declared.tag.Tag.{Tag}
-use Rattle.st_core.specs.declared.command.Command.{Command}
-use Rattle.st_core.specs.declared.command.Command.TheVariants as command
+use Rattle.st_answers.specs.declared.command.Command.{Command}
+use Rattle.st_answers.specs.declared.command.Command.TheVariants as command
 use Rattle.st_core.specs.declared.start.Start.{Start}
 use Rattle.st_core.specs.declared.start.Start.TheVariants.{Running, Ignored, Stopped}
 use Rattle.st_core.specs.Start.{start_of}

@@ -2,9 +2,9 @@
 use Rattle.std.specs.Prelude.{◌≡◌, ℕ, zero, suc, ◌<◌, ◌≤◌, ◌⊎◌, Bool, true, false, List, Option, Some, None, IfSome, find, length, nat_lt, slice_index_or}
 use Rattle.std.specs.List.{list_any}
 use Rattle.st_core.specs.Choice.{has_event_of, has_message_of}
-use Rattle.st_core.specs.declared.command.Command.{Command}
-use Rattle.st_core.specs.declared.command.Command.TheVariants as command
-use Rattle.st_core.specs.declared.entry.Entry.TheVariants.{Info}
+use Rattle.st_answers.specs.declared.command.Command.{Command}
+use Rattle.st_answers.specs.declared.command.Command.TheVariants as command
+use Rattle.st_answers.specs.declared.entry.Entry.TheVariants.{Info}
 use Rattle.st_events.specs.declared.machine_id.MachineId.{MachineId}
 use Rattle.st_events.specs.declared.message.Message.{Message}
 use Rattle.st_outbox.specs.Outbox.{first_message}

@@ -2,8 +2,8 @@
 ghost use Rattle.std.specs.Prelude.{◌≡◌, ◌+◌, ◌<◌, ◌≤◌, ◌^◌, true, false, Some, None, max, length, IfOk, OnOk, OnErr};
 ghost use Rattle.st_core.specs.Choice.{has_event_of, has_message_of, waiting_of};
 ghost use Rattle.st_core.specs.Run.{step_of};
-ghost use Rattle.st_core.specs.declared.command.Command.TheVariants as command;
-ghost use Rattle.st_core.specs.declared.entry.Entry.TheVariants.{Info};
+ghost use Rattle.st_answers.specs.declared.command.Command.TheVariants as command;
+ghost use Rattle.st_answers.specs.declared.entry.Entry.TheVariants.{Info};
 ghost use Rattle.st_outbox.specs.Outbox.{first_message};
 ghost use Rattle.st_scheduled.specs.Serving.{is_full};
 ghost use Rattle.st_cell.specs.Cell.{IsOpen};

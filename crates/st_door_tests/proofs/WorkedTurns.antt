@@ -10,14 +10,14 @@ use Rattle.st_events.specs.declared.decision.Decision.TheVariants as decision
 use Rattle.st_events.specs.declared.time.Time.TheVariants.{After}
 use Rattle.st_events.specs.declared.timer.Timer.{Timer}
 use Rattle.st_events.specs.declared.timer.Timer.TheVariants as timer
-use Rattle.st_core.specs.declared.call.Call.{Call}
-use Rattle.st_core.specs.declared.call.Call.TheVariants.{Handle, Enter}
-use Rattle.st_core.specs.declared.done.Done.TheVariants.{Started, Finished}
-use Rattle.st_core.specs.declared.report.Report.{Report}
+use Rattle.st_answers.specs.declared.call.Call.{Call}
+use Rattle.st_answers.specs.declared.call.Call.TheVariants.{Handle, Enter}
+use Rattle.st_answers.specs.declared.done.Done.TheVariants.{Started, Finished}
+use Rattle.st_answers.specs.declared.report.Report.{Report}
 use Rattle.st_core.specs.declared.start.Start.TheVariants.{Running}
-use Rattle.st_core.specs.declared.turned.Turned.{Turned}
-use Rattle.st_core.specs.declared.turned.Turned.TheVariants.{Reported, Idle}
-use Rattle.st_core.specs.declared.entry.Entry.TheVariants as entry
+use Rattle.st_answers.specs.declared.turned.Turned.{Turned}
+use Rattle.st_answers.specs.declared.turned.Turned.TheVariants.{Reported, Idle}
+use Rattle.st_answers.specs.declared.entry.Entry.TheVariants as entry
 use Rattle.st_core.specs.Post.{post_of}
 use Rattle.st_core.specs.Replies.{collect_of}
 use Rattle.st_core.specs.Start.{first_state, start_of}

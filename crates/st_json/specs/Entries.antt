@@ -1,12 +1,12 @@
 -- The JSON of an entry: where it came from, the command, and the answer.
 use Rattle.std.specs.Prelude.{ℕ, List, codes}
 use Rattle.serde_json.specs.Data.{Data, boolean, string, object, member, no_members}
-use Rattle.st_core.specs.declared.answer.Answer.{Answer}
-use Rattle.st_core.specs.declared.answer.Answer.TheVariants as answer
-use Rattle.st_core.specs.declared.command.Command.{Command}
-use Rattle.st_core.specs.declared.command.Command.TheVariants as command
-use Rattle.st_core.specs.declared.entry.Entry.{Entry}
-use Rattle.st_core.specs.declared.entry.Entry.TheVariants as entry
+use Rattle.st_answers.specs.declared.answer.Answer.{Answer}
+use Rattle.st_answers.specs.declared.answer.Answer.TheVariants as answer
+use Rattle.st_answers.specs.declared.command.Command.{Command}
+use Rattle.st_answers.specs.declared.command.Command.TheVariants as command
+use Rattle.st_answers.specs.declared.entry.Entry.{Entry}
+use Rattle.st_answers.specs.declared.entry.Entry.TheVariants as entry
 use Rattle.st_cell.specs.declared.journal_entry.JournalEntry.{JournalEntry}
 use Rattle.st_cell.specs.declared.source.Source.{Source}
 use Rattle.st_cell.specs.declared.source.Source.TheVariants as source

@@ -3,13 +3,13 @@ use Rattle.std.specs.Prelude.{ℕ, List, codes}
 use Rattle.serde_json.specs.Data.{Data, string, object, Members, member, no_members}
 use Rattle.st_events.specs.declared.decision.Decision.{Decision}
 use Rattle.st_events.specs.declared.timer.Timer.{Timer}
-use Rattle.st_core.specs.declared.call.Call.{Call}
-use Rattle.st_core.specs.declared.call.Call.TheVariants.{Handle, Enter, Terminate}
-use Rattle.st_core.specs.declared.done.Done.{Done}
-use Rattle.st_core.specs.declared.done.Done.TheVariants.{Started, Finished, PutOff, Ended}
-use Rattle.st_core.specs.declared.report.Report.{Report}
-use Rattle.st_core.specs.declared.turned.Turned.{Turned}
-use Rattle.st_core.specs.declared.turned.Turned.TheVariants.{Reported, Idle}
+use Rattle.st_answers.specs.declared.call.Call.{Call}
+use Rattle.st_answers.specs.declared.call.Call.TheVariants.{Handle, Enter, Terminate}
+use Rattle.st_answers.specs.declared.done.Done.{Done}
+use Rattle.st_answers.specs.declared.done.Done.TheVariants.{Started, Finished, PutOff, Ended}
+use Rattle.st_answers.specs.declared.report.Report.{Report}
+use Rattle.st_answers.specs.declared.turned.Turned.{Turned}
+use Rattle.st_answers.specs.declared.turned.Turned.TheVariants.{Reported, Idle}
 use Rattle.st_json.specs.Forms.{number_data, named_data, pair_data, list_data, option_data}
 use Rattle.st_json.specs.Events.{tag_data, timer_data, decision_data, kind_data}
 

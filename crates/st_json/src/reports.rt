@@ -1,7 +1,7 @@
 //! The JSON of what turns did.
 ghost use Rattle.std.specs.Prelude.{◌≡◌, IfOk};
 ghost use Rattle.serde_json.specs.View.{view, members_view};
-ghost use Rattle.st_core.specs.declared.call.Call.TheVariants.{Handle, Enter, Terminate};
+ghost use Rattle.st_answers.specs.declared.call.Call.TheVariants.{Handle, Enter, Terminate};
 ghost use Rattle.st_json.specs.Reports.{call_data, done_data, report_data, last_members, turned_data};
 
 use crate::forms::{StateIn, named, named_pair, with, wrapped};

@@ -3,7 +3,7 @@ use Rattle.std.proofs.Common.{◌≡◌, ℕ, inl, inr, Bool, true, false, List,
 use Rattle.std.specs.Prelude.{Result, Ok, Err, None, OnErr, is_some}
 use Rattle.st_events.specs.declared.refused.Refused.{Refused}
 use Rattle.st_events.specs.declared.token.Token.{Token}
-use Rattle.st_core.specs.declared.entry.Entry.{Entry}
+use Rattle.st_answers.specs.declared.entry.Entry.{Entry}
 use Rattle.st_core.specs.Callbacks.{Callbacks}
 use Rattle.st_scheduled.specs.declared.posted.Posted.{Posted}
 use Rattle.st_scheduled.specs.Answered.{posted_as}

@@ -3,7 +3,7 @@ use Rattle.std.specs.Prelude.{◌≡◌, ℕ, ◌<◌, ◌≤◌, ◌&&◌, Bool
 use Rattle.st_events.specs.declared.machine_id.MachineId.{MachineId}
 use Rattle.st_core.specs.Callbacks.{Callbacks}
 use Rattle.st_core.specs.Choice.{waiting_of}
-use Rattle.st_core.specs.declared.entry.Entry.{Entry}
+use Rattle.st_answers.specs.declared.entry.Entry.{Entry}
 use Rattle.st_scheduled.specs.Answered.{posted_as}
 use Rattle.st_scheduled.specs.declared.posted.Posted.{Posted}
 use Rattle.st_cell.specs.Calls.{IsJournalOf, Posts}

@@ -4,8 +4,8 @@ use Rattle.st_events.specs.declared.message.Message.{Message}
 use Rattle.st_core.specs.Callbacks.{Callbacks}
 use Rattle.st_events.specs.declared.refused.Refused.{Refused}
 use Rattle.st_events.specs.declared.token.Token.{Token}
-use Rattle.st_core.specs.declared.command.Command.{Command}
-use Rattle.st_core.specs.declared.entry.Entry.{Entry}
+use Rattle.st_answers.specs.declared.command.Command.{Command}
+use Rattle.st_answers.specs.declared.entry.Entry.{Entry}
 use Rattle.st_core.specs.declared.machine_state.MachineState.{MachineState}
 use Rattle.st_scheduled.specs.declared.step_answer.StepAnswer.{StepAnswer}
 use Rattle.st_scheduled.specs.declared.posted.Posted.{Posted}

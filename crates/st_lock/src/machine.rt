@@ -11,7 +11,7 @@ ghost use Rattle.st_lock.specs.declared.claim.Claim.{Claim};
 ghost use Rattle.st_lock.specs.Claims.{claim, Fits, inner_of, HasSameCounters};
 ghost use Rattle.st_lock.specs.Inner.{inner_at_first, HasEnd};
 ghost use Rattle.st_core.specs.Callbacks.{callbacks_of};
-ghost use Rattle.st_core.specs.declared.command.Command.TheVariants as command;
+ghost use Rattle.st_answers.specs.declared.command.Command.TheVariants as command;
 ghost use Rattle.st_scheduled.specs.Answered.{ticked_as, collected_as, replied_as, stopped_as};
 ghost use Rattle.st_lock.specs.Machines.{id_of, DeliversSomewhere, IsJournalAt, IsToldSomewhere, ServesSomewhere, TakesOutSomewhere, TurnsSomewhere};
 ghost use Rattle.st_lock.specs.Ports.{port_at_first};

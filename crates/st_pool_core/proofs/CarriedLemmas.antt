@@ -7,9 +7,9 @@ use Rattle.st_events.specs.declared.message.Message.{Message}
 use Rattle.st_events.specs.declared.refusal.Refusal.TheVariants.{NotPossible}
 use Rattle.st_events.specs.declared.token.Token.{Token}
 use Rattle.st_outbox.specs.Outbox.{first_message}
-use Rattle.st_core.specs.declared.command.Command.{Command}
-use Rattle.st_core.specs.declared.command.Command.TheVariants as command
-use Rattle.st_core.specs.declared.entry.Entry.TheVariants.{Info}
+use Rattle.st_answers.specs.declared.command.Command.{Command}
+use Rattle.st_answers.specs.declared.command.Command.TheVariants as command
+use Rattle.st_answers.specs.declared.entry.Entry.TheVariants.{Info}
 use Rattle.st_core.specs.Callbacks.{Callbacks}
 use Rattle.st_core.specs.Run.{Meets}
 use Rattle.st_core.proofs.OutboxLemmas.{is_quiet}

@@ -9,10 +9,10 @@ use Rattle.st_events.specs.declared.refusal.Refusal.TheVariants.{NotPossible, No
 use Rattle.st_events.specs.declared.refused.Refused.{Refused}
 use Rattle.st_events.specs.declared.token.Token.{Token}
 use Rattle.st_outbox.specs.Outbox.{first_message, without_message}
-use Rattle.st_core.specs.declared.command.Command.{Command}
-use Rattle.st_core.specs.declared.command.Command.TheVariants as command
-use Rattle.st_core.specs.declared.entry.Entry.TheVariants.{Info}
-use Rattle.st_core.specs.declared.report.Report.{Report}
+use Rattle.st_answers.specs.declared.command.Command.{Command}
+use Rattle.st_answers.specs.declared.command.Command.TheVariants as command
+use Rattle.st_answers.specs.declared.entry.Entry.TheVariants.{Info}
+use Rattle.st_answers.specs.declared.report.Report.{Report}
 use Rattle.st_core.specs.Callbacks.{Callbacks}
 use Rattle.st_core.proofs.OutboxLemmas.{is_quiet}
 use Rattle.st_scheduled.specs.declared.step_answer.StepAnswer.{StepAnswer}

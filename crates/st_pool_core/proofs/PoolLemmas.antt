@@ -6,9 +6,9 @@ use Rattle.st_events.specs.declared.message.Message.{Message}
 use Rattle.st_events.specs.declared.token.Token.{Token}
 use Rattle.st_events.specs.declared.refusal.Refusal.{Refusal}
 use Rattle.st_events.specs.declared.refusal.Refusal.TheVariants.{NoMemory, NotPossible, NoSuchMachine}
-use Rattle.st_core.specs.declared.command.Command.{Command}
-use Rattle.st_core.specs.declared.command.Command.TheVariants as command
-use Rattle.st_core.specs.declared.entry.Entry.TheVariants.{Info}
+use Rattle.st_answers.specs.declared.command.Command.{Command}
+use Rattle.st_answers.specs.declared.command.Command.TheVariants as command
+use Rattle.st_answers.specs.declared.entry.Entry.TheVariants.{Info}
 use Rattle.st_core.specs.Callbacks.{Callbacks}
 use Rattle.st_pool_core.specs.declared.step.Step.TheVariants as step
 use Rattle.st_scheduled.specs.declared.step_answer.StepAnswer.{StepAnswer}

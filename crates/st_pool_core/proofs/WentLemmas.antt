@@ -3,9 +3,9 @@ use Rattle.std.proofs.Common.{◌≡◌, ℕ, ◌⊎◌, inl, inr, Bool, true, f
 use Rattle.std.specs.Option.{option_map}
 use Rattle.st_events.specs.declared.machine_id.MachineId.{MachineId}
 use Rattle.st_events.specs.declared.token.Token.{Token}
-use Rattle.st_core.specs.declared.answer.Answer.{Answer}
-use Rattle.st_core.specs.declared.command.Command.{Command}
-use Rattle.st_core.specs.declared.command.Command.TheVariants as command
+use Rattle.st_answers.specs.declared.answer.Answer.{Answer}
+use Rattle.st_answers.specs.declared.command.Command.{Command}
+use Rattle.st_answers.specs.declared.command.Command.TheVariants as command
 use Rattle.st_core.specs.Callbacks.{Callbacks}
 use Rattle.st_core.specs.Run.{step_on}
 use Rattle.st_pool_core.specs.declared.step.Step.{Step}
@@ -16,8 +16,8 @@ use Rattle.std.specs.Prelude.{is_some, Result, Ok, Err}
 use Rattle.st_events.specs.declared.message.Message.{Message}
 use Rattle.st_events.specs.declared.refusal.Refusal.TheVariants.{NotPossible, Exhausted}
 use Rattle.st_events.specs.declared.refused.Refused.{Refused}
-use Rattle.st_core.specs.declared.answer.Answer.TheVariants as answer
-use Rattle.st_core.specs.declared.entry.Entry.TheVariants.{Info}
+use Rattle.st_answers.specs.declared.answer.Answer.TheVariants as answer
+use Rattle.st_answers.specs.declared.entry.Entry.TheVariants.{Info}
 use Rattle.st_core.specs.MachineState.{Machine}
 use Rattle.st_core.specs.Post.{post_of}
 use Rattle.st_outbox.specs.Outbox.{first_message}

@@ -9,11 +9,11 @@ use Rattle.st_events.specs.declared.message.Message.{Message}
 use Rattle.st_events.specs.declared.outcome.Outcome.TheVariants as outcome
 use Rattle.st_events.specs.declared.refusal.Refusal.TheVariants as refusal
 use Rattle.st_events.specs.declared.token.Token.{Token}
-use Rattle.st_core.specs.declared.answer.Answer.TheVariants as core_answer
-use Rattle.st_core.specs.declared.call.Call.TheVariants.{Handle}
-use Rattle.st_core.specs.declared.command.Command.TheVariants as command
-use Rattle.st_core.specs.declared.done.Done.TheVariants.{Finished}
-use Rattle.st_core.specs.declared.entry.Entry.TheVariants.{Cast, Info}
+use Rattle.st_answers.specs.declared.answer.Answer.TheVariants as core_answer
+use Rattle.st_answers.specs.declared.call.Call.TheVariants.{Handle}
+use Rattle.st_answers.specs.declared.command.Command.TheVariants as command
+use Rattle.st_answers.specs.declared.done.Done.TheVariants.{Finished}
+use Rattle.st_answers.specs.declared.entry.Entry.TheVariants.{Cast, Info}
 use Rattle.st_core.specs.Callbacks.{Callbacks}
 use Rattle.st_core.specs.MachineState.{Machine}
 use Rattle.st_core.specs.Start.{first_state}

@@ -7,11 +7,11 @@ use Rattle.st_events.specs.declared.refusal.Refusal.{Refusal}
 use Rattle.st_events.specs.declared.refusal.Refusal.TheVariants as refusal
 use Rattle.st_events.specs.declared.token.Token.{Token}
 use Rattle.st_outbox.specs.Outbox.{message_numbers, AreFrom}
-use Rattle.st_core.specs.declared.answer.Answer.{Answer}
-use Rattle.st_core.specs.declared.answer.Answer.TheVariants as core_answer
-use Rattle.st_core.specs.declared.command.Command.{Command}
-use Rattle.st_core.specs.declared.command.Command.TheVariants as command
-use Rattle.st_core.specs.declared.entry.Entry.TheVariants.{Info}
+use Rattle.st_answers.specs.declared.answer.Answer.{Answer}
+use Rattle.st_answers.specs.declared.answer.Answer.TheVariants as core_answer
+use Rattle.st_answers.specs.declared.command.Command.{Command}
+use Rattle.st_answers.specs.declared.command.Command.TheVariants as command
+use Rattle.st_answers.specs.declared.entry.Entry.TheVariants.{Info}
 use Rattle.st_core.specs.Callbacks.{Callbacks}
 use Rattle.st_core.specs.Transition.{turn_of}
 use Rattle.st_scheduled.specs.declared.step_answer.StepAnswer.{StepAnswer}

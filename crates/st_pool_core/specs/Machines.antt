@@ -1,7 +1,7 @@
 -- One of the machines of a pool is told a command, or served.
 use Rattle.std.specs.Prelude.{◌≡◌, ℕ, Bool, Some, is_some, List}
 use Rattle.st_events.specs.declared.machine_id.MachineId.{MachineId}
-use Rattle.st_core.specs.declared.command.Command.{Command}
+use Rattle.st_answers.specs.declared.command.Command.{Command}
 use Rattle.st_core.specs.Callbacks.{Callbacks}
 use Rattle.st_scheduled.specs.declared.step_answer.StepAnswer.{StepAnswer}
 use Rattle.st_scheduled.specs.ScheduledMachine.{ScheduledMachine}

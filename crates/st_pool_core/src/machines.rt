@@ -1,6 +1,6 @@
 //! The machines of a pool, by id.
 ghost use Rattle.std.specs.Prelude.{◌≡◌, ◌<◌, length, map, None, IfOk, IfErr, IfSome, IfNone, option_copied};
-ghost use Rattle.st_core.specs.declared.command.Command.TheVariants as command;
+ghost use Rattle.st_answers.specs.declared.command.Command.TheVariants as command;
 ghost use Rattle.st_core.specs.Callbacks.{callbacks_of};
 ghost use Rattle.st_pool_core.specs.Opening.{core_id};
 ghost use Rattle.st_pool_core.specs.PoolState.{place_of, machine_of, changed_for, is_with_callers, has_messages, with_callers_in};

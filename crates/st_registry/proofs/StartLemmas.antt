@@ -8,7 +8,7 @@ use Rattle.st_events.specs.declared.refused.Refused.{Refused}
 use Rattle.st_core.specs.Callbacks.{Callbacks, Called, begun_by}
 use Rattle.st_core.specs.MachineState.{Machine}
 use Rattle.st_core.specs.declared.machine_state.MachineState.{MachineState}
-use Rattle.st_core.specs.declared.report.Report.{Report}
+use Rattle.st_answers.specs.declared.report.Report.{Report}
 use Rattle.st_core.specs.declared.start.Start.{Start}
 use Rattle.st_core.specs.declared.start.Start.TheVariants.{Running, Ignored, Stopped}
 use Rattle.st_core.specs.Transition.{has_numbers}

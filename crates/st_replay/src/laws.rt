@@ -1,7 +1,7 @@
 //! Laws of replays, for every callback module: what entries that agree say of a machine, and which entries agree. Each is
 //! shown once, and calling it does nothing.
 ghost use Rattle.std.specs.Prelude.{◌≡◌, Bool, true, List, length, All};
-ghost use Rattle.st_core.specs.declared.answer.Answer.{Answer};
+ghost use Rattle.st_answers.specs.declared.answer.Answer.{Answer};
 ghost use Rattle.st_core.specs.Callbacks.{Callbacks};
 ghost use Rattle.st_core.specs.MachineState.{Machine};
 ghost use Rattle.st_core.specs.Run.{Runs};

@@ -4,11 +4,11 @@ use Rattle.std.specs.Prelude.{Result, Ok, Err, is_some, is_none, nat_lt, ◌^◌
 use Rattle.st_events.specs.declared.event.Event.{Event}
 use Rattle.st_events.specs.declared.refusal.Refusal.{Refusal}
 use Rattle.st_events.specs.declared.refusal.Refusal.TheVariants.{Exhausted, Moment}
-use Rattle.st_core.specs.declared.answer.Answer.TheVariants as answer
+use Rattle.st_answers.specs.declared.answer.Answer.TheVariants as answer
 use Rattle.st_core.specs.declared.machine_state.MachineState.{MachineState}
-use Rattle.st_core.specs.declared.report.Report.{Report}
-use Rattle.st_core.specs.declared.turned.Turned.{Turned}
-use Rattle.st_core.specs.declared.turned.Turned.TheVariants.{Reported}
+use Rattle.st_answers.specs.declared.report.Report.{Report}
+use Rattle.st_answers.specs.declared.turned.Turned.{Turned}
+use Rattle.st_answers.specs.declared.turned.Turned.TheVariants.{Reported}
 use Rattle.st_core.specs.Callbacks.{Callbacks, Called, called_of}
 use Rattle.st_core.specs.Choice.{has_event_of, next_event_of}
 use Rattle.st_core.specs.Stop.{unless_ended}

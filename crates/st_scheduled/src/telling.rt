@@ -1,8 +1,8 @@
 //! A machine that workers serve is told commands, and served.
 ghost use Rattle.std.specs.Prelude.{◌≡◌, ℕ, true, false, ◌||◌, Ok, IfErr};
 ghost use Rattle.st_events.specs.declared.tag.Tag.{Tag};
-ghost use Rattle.st_core.specs.declared.command.Command.TheVariants as command;
-ghost use Rattle.st_core.specs.declared.entry.Entry.{Entry};
+ghost use Rattle.st_answers.specs.declared.command.Command.TheVariants as command;
+ghost use Rattle.st_answers.specs.declared.entry.Entry.{Entry};
 ghost use Rattle.st_core.specs.Callbacks.{callbacks_of};
 ghost use Rattle.st_core.specs.Run.{step_on};
 ghost use Rattle.st_scheduled.specs.Answered.{posted_as, ticked_as, served_as, replied_as, collected_as, stopped_as, taken_out_as, is_counted, wants_numbers};

@@ -1,10 +1,10 @@
 -- The report of a turn.
 use Rattle.std.specs.Prelude.{Option, Some, None, Ok, Result}
 use Rattle.st_cell.specs.declared.journal_entry.JournalEntry.{JournalEntry}
-use Rattle.st_core.specs.declared.answer.Answer.{Answer}
-use Rattle.st_core.specs.declared.answer.Answer.TheVariants as answer
-use Rattle.st_core.specs.declared.report.Report.{Report}
-use Rattle.st_core.specs.declared.turned.Turned.TheVariants.{Reported}
+use Rattle.st_answers.specs.declared.answer.Answer.{Answer}
+use Rattle.st_answers.specs.declared.answer.Answer.TheVariants as answer
+use Rattle.st_answers.specs.declared.report.Report.{Report}
+use Rattle.st_answers.specs.declared.turned.Turned.TheVariants.{Reported}
 
 -- the report in an answer, where it is that of a turn that was made
 abbrev pub report_answered : {S C : Type 0} → Answer S C → Option (Report S)

@@ -1,7 +1,7 @@
 //! A port of a service's machine.
 ghost use Rattle.std.specs.Prelude.{◌≡◌, ℕ, length, IfOk, IfErr, OnErr};
 ghost use Rattle.st_core.specs.Callbacks.{callbacks_of};
-ghost use Rattle.st_core.specs.declared.entry.Entry.TheVariants.{Call, Cast, Info};
+ghost use Rattle.st_answers.specs.declared.entry.Entry.TheVariants.{Call, Cast, Info};
 ghost use Rattle.st_lock.specs.Bounded.{content_in, PostsWithin};
 ghost use Rattle.st_client.specs.Called.{IsCall};
 ghost use Rattle.st_service.specs.Ports.{with_post, SendsWithin};

@@ -4,7 +4,7 @@ use Rattle.st_events.specs.declared.machine_id.MachineId.{MachineId}
 use Rattle.st_events.specs.declared.token.Token.{Token}
 use Rattle.st_core.specs.Callbacks.{Callbacks}
 use Rattle.st_core.specs.Choice.{next_due_of}
-use Rattle.st_core.specs.declared.command.Command.TheVariants as command
+use Rattle.st_answers.specs.declared.command.Command.TheVariants as command
 use Rattle.st_core.specs.declared.machine_state.MachineState.{MachineState}
 use Rattle.st_scheduled.specs.Answered.{ticked_as}
 use Rattle.st_lock.specs.Machines.{IsReadAt, IsToldSomewhere}

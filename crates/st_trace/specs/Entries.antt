@@ -1,11 +1,11 @@
 -- What an entry of a journal tells: which command it is, a moment, a number, and what its turn did.
 use Rattle.std.specs.Prelude.{ℕ, max, Option, Some, None, Ok, Err, List, codes}
-use Rattle.st_core.specs.declared.answer.Answer.{Answer}
-use Rattle.st_core.specs.declared.answer.Answer.TheVariants as answer
-use Rattle.st_core.specs.declared.command.Command.{Command}
-use Rattle.st_core.specs.declared.command.Command.TheVariants as command
-use Rattle.st_core.specs.declared.report.Report.{Report}
-use Rattle.st_core.specs.declared.turned.Turned.TheVariants.{Reported, Idle}
+use Rattle.st_answers.specs.declared.answer.Answer.{Answer}
+use Rattle.st_answers.specs.declared.answer.Answer.TheVariants as answer
+use Rattle.st_answers.specs.declared.command.Command.{Command}
+use Rattle.st_answers.specs.declared.command.Command.TheVariants as command
+use Rattle.st_answers.specs.declared.report.Report.{Report}
+use Rattle.st_answers.specs.declared.turned.Turned.TheVariants.{Reported, Idle}
 use Rattle.st_cell.specs.declared.journal_entry.JournalEntry.{JournalEntry}
 use Rattle.st_cell.specs.declared.source.Source.{Source}
 use Rattle.st_cell.specs.declared.source.Source.TheVariants as source

@@ -7,17 +7,17 @@ use Rattle.st_events.specs.declared.timer.Timer.{Timer}
 use Rattle.st_events.specs.declared.timer.Timer.TheVariants as timer
 use Rattle.st_requests.specs.declared.collected.Collected.{Collected}
 use Rattle.st_requests.specs.declared.collected.Collected.TheVariants as collected
-use Rattle.st_core.specs.declared.answer.Answer.{Answer}
-use Rattle.st_core.specs.declared.answer.Answer.TheVariants as answer
-use Rattle.st_core.specs.declared.call.Call.{Call}
-use Rattle.st_core.specs.declared.call.Call.TheVariants.{Handle, Enter, Terminate}
-use Rattle.st_core.specs.declared.command.Command.{Command}
-use Rattle.st_core.specs.declared.command.Command.TheVariants as command
-use Rattle.st_core.specs.declared.done.Done.{Done}
-use Rattle.st_core.specs.declared.done.Done.TheVariants.{Started, Finished, PutOff, Ended}
-use Rattle.st_core.specs.declared.entry.Entry.{Entry}
-use Rattle.st_core.specs.declared.entry.Entry.TheVariants as entry
-use Rattle.st_core.specs.declared.report.Report.{Report}
+use Rattle.st_answers.specs.declared.answer.Answer.{Answer}
+use Rattle.st_answers.specs.declared.answer.Answer.TheVariants as answer
+use Rattle.st_answers.specs.declared.call.Call.{Call}
+use Rattle.st_answers.specs.declared.call.Call.TheVariants.{Handle, Enter, Terminate}
+use Rattle.st_answers.specs.declared.command.Command.{Command}
+use Rattle.st_answers.specs.declared.command.Command.TheVariants as command
+use Rattle.st_answers.specs.declared.done.Done.{Done}
+use Rattle.st_answers.specs.declared.done.Done.TheVariants.{Started, Finished, PutOff, Ended}
+use Rattle.st_answers.specs.declared.entry.Entry.{Entry}
+use Rattle.st_answers.specs.declared.entry.Entry.TheVariants as entry
+use Rattle.st_answers.specs.declared.report.Report.{Report}
 use Rattle.st_cell.specs.declared.journal_entry.JournalEntry.{JournalEntry}
 use Rattle.st_cell.specs.declared.source.Source.{Source}
 use Rattle.st_cell.specs.declared.source.Source.TheVariants as source

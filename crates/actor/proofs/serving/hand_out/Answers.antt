@@ -1,6 +1,6 @@
 use Rattle.std.proofs.Common.{Some, refl}
-use Rattle.st_core.specs.declared.command.Command.TheVariants as command
-use Rattle.st_core.specs.declared.answer.Answer.TheVariants as answer
+use Rattle.st_answers.specs.declared.command.Command.TheVariants as command
+use Rattle.st_answers.specs.declared.answer.Answer.TheVariants as answer
 use Rattle.st_core.specs.Callbacks.{callbacks_of}
 use Rattle.actor.proofs.ServingLemmas.{served_one}
 use Rattle.actor.proofs.serving.hand_out.Goals as goal

@@ -1,7 +1,7 @@
 use Rattle.std.proofs.Common.{inl}
 use Rattle.std.specs.Prelude.{Ok}
-use Rattle.st_core.specs.declared.command.Command.TheVariants as command
-use Rattle.st_core.specs.declared.answer.Answer.TheVariants as answer
+use Rattle.st_answers.specs.declared.command.Command.TheVariants as command
+use Rattle.st_answers.specs.declared.answer.Answer.TheVariants as answer
 use Rattle.st_core.specs.Callbacks.{callbacks_of}
 use Rattle.actor.proofs.RefusalLemmas.{tick_unserved}
 use Rattle.actor.proofs.serving.tick.Goals as goal

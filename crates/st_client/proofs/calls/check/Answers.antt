@@ -1,5 +1,5 @@
 use Rattle.std.proofs.Common.{◌≡◌, ap, ◌∙◌, subst}
-use Rattle.st_core.specs.declared.command.Command.TheVariants as command
+use Rattle.st_answers.specs.declared.command.Command.TheVariants as command
 use Rattle.st_core.specs.Callbacks.{callbacks_of}
 use Rattle.st_events.specs.declared.machine_id.MachineId.{MachineId}
 use Rattle.st_events.specs.declared.tag.Tag.{Tag}

@@ -1,5 +1,5 @@
 use Rattle.std.proofs.Common.{◌≡◌, ◌+◌, take, drop}
-use Rattle.st_core.specs.contracts.answer.AnswerPartialEq.TheImpl.{ghosts}
+use Rattle.st_answers.specs.contracts.answer.AnswerPartialEq.TheImpl.{ghosts}
 use Rattle.st_core.specs.Callbacks.{callbacks_of}
 use Rattle.st_replay.specs.Replay.{after, agreeing}
 use Rattle.st_replay.proofs.replaying.replay.Given as goal

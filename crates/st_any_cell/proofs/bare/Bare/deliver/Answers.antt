@@ -2,8 +2,8 @@ use Rattle.std.proofs.Common.{sym, subst}
 use Rattle.std.specs.Prelude.{Ok, Err}
 use Rattle.st_events.specs.declared.message.Message.{Message}
 use Rattle.st_events.specs.declared.refused.Refused.{Refused}
-use Rattle.st_core.specs.declared.command.Command.TheVariants as command
-use Rattle.st_core.specs.declared.entry.Entry.TheVariants.{Info}
+use Rattle.st_answers.specs.declared.command.Command.TheVariants as command
+use Rattle.st_answers.specs.declared.entry.Entry.TheVariants.{Info}
 use Rattle.st_core.specs.Callbacks.{callbacks_of}
 use Rattle.st_scheduled.specs.Answered.{posted_as}
 use Rattle.st_cell.specs.declared.source.Source.TheVariants as source

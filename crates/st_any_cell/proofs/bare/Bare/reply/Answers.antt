@@ -1,4 +1,4 @@
-use Rattle.st_core.specs.declared.command.Command.TheVariants as command
+use Rattle.st_answers.specs.declared.command.Command.TheVariants as command
 use Rattle.st_core.specs.Callbacks.{callbacks_of}
 use Rattle.st_scheduled.specs.Answered.{replied_as}
 use Rattle.st_cell.specs.declared.source.Source.TheVariants as source

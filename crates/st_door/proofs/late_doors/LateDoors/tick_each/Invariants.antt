@@ -1,5 +1,5 @@
 use Rattle.std.proofs.Common.{◌≡◌, ◌*◌, ◌≤◌, ◌^◌}
-use Rattle.st_core.specs.declared.command.Command.TheVariants as command
+use Rattle.st_answers.specs.declared.command.Command.TheVariants as command
 use Rattle.st_door.specs.Doors.{told_door, expired_of}
 use Rattle.st_door.proofs.TickingLemmas.{changed_front, front_sum}
 use Rattle.st_door.proofs.late_doors.LateDoors.tick_each.Given as goal

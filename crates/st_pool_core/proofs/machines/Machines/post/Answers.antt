@@ -1,6 +1,6 @@
 use Rattle.std.proofs.Common.{refl, sym, ◌∙◌}
 use Rattle.st_core.specs.Callbacks.{callbacks_of}
-use Rattle.st_core.specs.declared.command.Command.TheVariants as command
+use Rattle.st_answers.specs.declared.command.Command.TheVariants as command
 use Rattle.st_scheduled.specs.Answered.{posted_as}
 use Rattle.st_pool_core.proofs.MachineLemmas.{place_is, place_within, machine_at, changed_there, no_place, ids_stay}
 use Rattle.st_pool_core.proofs.PoolLemmas.{tells_same_id}

@@ -1,7 +1,7 @@
 use Rattle.std.proofs.Common.{◌≡◌, ◌+◌, ◌^◌, ◌<◌, false, refl, sym, ◌∙◌, arith}
 use Rattle.std.specs.Prelude.{◌&&◌, Ok}
-use Rattle.st_core.specs.declared.answer.Answer.TheVariants as answer
-use Rattle.st_core.specs.declared.command.Command.TheVariants as command
+use Rattle.st_answers.specs.declared.answer.Answer.TheVariants as answer
+use Rattle.st_answers.specs.declared.command.Command.TheVariants as command
 use Rattle.st_core.specs.Callbacks.{callbacks_of}
 use Rattle.st_core.specs.Run.{step_on}
 use Rattle.st_scheduled.specs.Serving.{is_full, needs_count}
