@@ -7,7 +7,6 @@ ghost use Rattle.st_lock.specs.Machines.{id_of};
 
 use crate::Machine;
 use crate::inner::its_cell_is_journaled;
-use crate::machine::give_back;
 use st_cell::{Journal, Module, Refusal};
 use std::sync::Wait;
 
@@ -23,11 +22,11 @@ impl<M: Module> Machine<M> {
 
         ensures refusals { IfErr result (λ refusal. refusal ≡ NoMemory) }
     {
-        let (taken, mut inner, mut holder) = self.arrive(rt);
+        let (held, mut inner) = self.arrive(rt);
         its_cell_is_journaled(&inner);
         let is_long = inner.is_long(limit);
         let answer = if is_long { inner.cut() } else { Ok(()) };
-        drop(give_back(taken, &mut holder, inner));
+        drop(held.give_back(inner));
         match answer {
             Ok(()) => Ok(is_long),
             Err(refusal) => Err(refusal),
@@ -50,14 +49,14 @@ impl<M: Module> Machine<M> {
 
         ensures refusals { IfErr result (λ refusal. refusal ≡ NoMemory) }
     {
-        let (taken, mut inner, mut holder) = self.arrive(rt);
+        let (held, mut inner) = self.arrive(rt);
         its_cell_is_journaled(&inner);
         if !inner.is_long(limit) {
-            drop(give_back(taken, &mut holder, inner));
+            drop(held.give_back(inner));
             return Ok(None);
         }
         let answer = inner.take_journal(label);
-        drop(give_back(taken, &mut holder, inner));
+        drop(held.give_back(inner));
         match answer {
             Ok(journal) => Ok(Some(journal)),
             Err(refusal) => Err(refusal),

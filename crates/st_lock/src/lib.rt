@@ -5,6 +5,7 @@
 mod bounded_port;
 mod claim;
 mod cutting;
+mod held;
 mod inner;
 mod machine;
 mod opened;

@@ -17,6 +17,7 @@ ghost use Rattle.st_lock.specs.Machines.{id_of, DeliversSomewhere, IsJournalAt, 
 ghost use Rattle.st_lock.specs.Ports.{port_at_first};
 
 use crate::claim::{ByPort, Claim};
+use crate::held::Held;
 use crate::inner::{Inner, PostOf, its_cell_is_journaled};
 use crate::{Port, Service};
 use st_cell::{
@@ -228,11 +229,11 @@ impl<M: Module> Machine<M> {
     }
 
     /// Takes the machine's own inner state, with a newcomer's claim.
-    pub(crate) fn arrive<R: Wait>(&self, rt: &R) -> (TakenOf<'_, M>, InnerOf<M>, HolderOf<M>)
-        ensures lock { lock_of result.2 ≡ taken_from result.0 }
-        ensures from { taken_from result.0 ≡ lock_id self.now.lock }
-        ensures taken { value_taken result.0 ≡ Some result.1 }
-        ensures out { HasOut result.2 (claim_of result.2) (value_taken result.0) }
+    pub(crate) fn arrive<R: Wait>(&self, rt: &R) -> (Held<'_, M>, InnerOf<M>)
+        ensures lock { lock_of result.0.holder ≡ taken_from result.0.taken }
+        ensures from { taken_from result.0.taken ≡ lock_id self.now.lock }
+        ensures taken { value_taken result.0.taken ≡ Some result.1 }
+        ensures out { HasOut result.0.holder (claim_of result.0.holder) (value_taken result.0.taken) }
         ensures own { result.1.value.cell.scheduled.core.machine.id ≡ id_of self.now }
     {
         let (taken, under, mut holder) = self.lock.arrive(rt);
@@ -248,7 +249,7 @@ impl<M: Module> Machine<M> {
             for _ in rt.forever() {}
             unreachable!()
         }
-        (taken, inner, holder)
+        (Held { taken, holder }, inner)
     }
 
     /// Takes the machine's own inner state by the holder of a port, which has posted so many events.
@@ -316,9 +317,10 @@ impl<M: Module> Machine<M> {
     {
         let machine = Arc::try_clone(this)?;
         let (counter, end, mine) = Counter::open(this.alloc)?;
-        let (taken, mut inner, mut holder) = this.arrive(rt);
+        let (held, mut inner) = this.arrive(rt);
         match inner.port(end) {
             Ok(number) => {
+                let Held { taken, mut holder } = held;
                 give_opened(taken, &mut holder, inner, number, &counter);
                 Ok(Port {
                     machine,
@@ -330,7 +332,7 @@ impl<M: Module> Machine<M> {
                 })
             }
             Err(refusal) => {
-                drop(give_back(taken, &mut holder, inner));
+                drop(held.give_back(inner));
                 Err(refusal)
             }
         }
@@ -347,11 +349,11 @@ impl<M: Module> Machine<M> {
         ensures does { TurnsSomewhere (callbacks_of M.Module M.State.eq) (id_of self.now) token now result }
         ensures returned { IfErr result (λ refused. refused.value ≡ token) }
     {
-        let (taken, mut inner, mut holder) = self.arrive(rt);
+        let (held, mut inner) = self.arrive(rt);
         its_cell_is_journaled(&inner);
         let answer = inner.turn(token, now);
         let is_awaited = inner.has_replied();
-        drop(give_back(taken, &mut holder, inner));
+        drop(held.give_back(inner));
         self.wake(is_awaited);
         answer
     }
@@ -370,10 +372,10 @@ impl<M: Module> Machine<M> {
         ensures does { TakesOutSomewhere (callbacks_of M.Module M.State.eq) (id_of self.now) token result }
         ensures returned { IfErr result (λ refused. refused.value ≡ token) }
     {
-        let (taken, mut inner, mut holder) = self.arrive(rt);
+        let (held, mut inner) = self.arrive(rt);
         its_cell_is_journaled(&inner);
         let answer = inner.take_out(token);
-        drop(give_back(taken, &mut holder, inner));
+        drop(held.give_back(inner));
         answer
     }
 
@@ -392,11 +394,11 @@ impl<M: Module> Machine<M> {
         ensures does { ServesSomewhere (callbacks_of M.Module M.State.eq) (id_of self.now) token now result }
         ensures returned { IfErr result (λ refused. refused.value ≡ token) }
     {
-        let (taken, mut inner, mut holder) = self.arrive(rt);
+        let (held, mut inner) = self.arrive(rt);
         its_cell_is_journaled(&inner);
         let answer = inner.serve(token, now);
         let is_awaited = inner.has_replied();
-        drop(give_back(taken, &mut holder, inner));
+        drop(held.give_back(inner));
         self.wake(is_awaited);
         answer
     }
@@ -424,10 +426,10 @@ impl<M: Module> Machine<M> {
         ensures does { DeliversSomewhere (callbacks_of M.Module M.State.eq) (id_of self.now) message result }
         ensures returned { IfErr result (λ refused. refused.value ≡ message) }
     {
-        let (taken, mut inner, mut holder) = self.arrive(rt);
+        let (held, mut inner) = self.arrive(rt);
         its_cell_is_journaled(&inner);
         let answer = inner.deliver(message);
-        drop(give_back(taken, &mut holder, inner));
+        drop(held.give_back(inner));
         answer
     }
 
@@ -439,10 +441,10 @@ impl<M: Module> Machine<M> {
     pub fn tick<R: Wait>(&self, rt: &R, now: u64) -> Result<Ticked, Refusal>
         ensures { IsToldSomewhere (callbacks_of M.Module M.State.eq) (id_of self.now) (command.Tick now) (ticked_as result) }
     {
-        let (taken, mut inner, mut holder) = self.arrive(rt);
+        let (held, mut inner) = self.arrive(rt);
         its_cell_is_journaled(&inner);
         let answer = inner.tick(now);
-        drop(give_back(taken, &mut holder, inner));
+        drop(held.give_back(inner));
         answer
     }
 
@@ -454,10 +456,10 @@ impl<M: Module> Machine<M> {
     pub fn collect<R: Wait>(&self, rt: &R, tag: Tag) -> Result<Collected<M::Content>, Refusal>
         ensures { IsToldSomewhere (callbacks_of M.Module M.State.eq) (id_of self.now) (command.Collect tag) (collected_as result) }
     {
-        let (taken, mut inner, mut holder) = self.arrive(rt);
+        let (held, mut inner) = self.arrive(rt);
         its_cell_is_journaled(&inner);
         let answer = inner.collect(tag);
-        drop(give_back(taken, &mut holder, inner));
+        drop(held.give_back(inner));
         answer
     }
 
@@ -472,10 +474,10 @@ impl<M: Module> Machine<M> {
         ensures does { IsToldSomewhere (callbacks_of M.Module M.State.eq) (id_of self.now) (command.Collect tag) (collected_as result) }
     {
         for _ in rt.forever() {
-            let (taken, mut inner, mut holder) = self.arrive(rt);
+            let (held, mut inner) = self.arrive(rt);
             its_cell_is_journaled(&inner);
             let answer = inner.collect(tag);
-            let gate = give_back(taken, &mut holder, inner);
+            let gate = held.give_back(inner);
             match answer {
                 Ok(Collected::Waiting) => drop(self.changed.wait(rt, gate)),
                 _ => {
@@ -501,10 +503,10 @@ impl<M: Module> Machine<M> {
         ensures does { IsToldSomewhere (callbacks_of M.Module M.State.eq) (id_of self.now) (command.Reply tag content) (replied_as result) }
         ensures returned { IfErr result (λ refused. refused.value ≡ content) }
     {
-        let (taken, mut inner, mut holder) = self.arrive(rt);
+        let (held, mut inner) = self.arrive(rt);
         its_cell_is_journaled(&inner);
         let answer = inner.reply(tag, content);
-        drop(give_back(taken, &mut holder, inner));
+        drop(held.give_back(inner));
         self.changed.notify_all();
         answer
     }
@@ -517,10 +519,10 @@ impl<M: Module> Machine<M> {
     pub fn stop<R: Wait>(&self, rt: &R, reason: Reason) -> Result<u32, Refusal>
         ensures { IsToldSomewhere (callbacks_of M.Module M.State.eq) (id_of self.now) (command.Stop reason) (stopped_as result) }
     {
-        let (taken, mut inner, mut holder) = self.arrive(rt);
+        let (held, mut inner) = self.arrive(rt);
         its_cell_is_journaled(&inner);
         let answer = inner.stop(reason);
-        drop(give_back(taken, &mut holder, inner));
+        drop(held.give_back(inner));
         self.changed.notify_all();
         answer
     }
@@ -529,9 +531,9 @@ impl<M: Module> Machine<M> {
     ///
     /// Ours: docs/DECISIONS.md, Journals.
     pub fn removable<R: Wait>(&self, rt: &R) -> bool {
-        let (taken, inner, mut holder) = self.arrive(rt);
+        let (held, inner) = self.arrive(rt);
         let answer = inner.removable();
-        drop(give_back(taken, &mut holder, inner));
+        drop(held.give_back(inner));
         answer
     }
 
@@ -549,10 +551,10 @@ impl<M: Module> Machine<M> {
 
         ensures refusals { IfErr result (λ refusal. refusal ≡ NoMemory) }
     {
-        let (taken, inner, mut holder) = self.arrive(rt);
+        let (held, inner) = self.arrive(rt);
         its_cell_is_journaled(&inner);
         let answer = inner.journal(label);
-        drop(give_back(taken, &mut holder, inner));
+        drop(held.give_back(inner));
         answer
     }
 
@@ -564,9 +566,9 @@ impl<M: Module> Machine<M> {
     pub fn cut<R: Wait>(&self, rt: &R) -> Result<(), Refusal>
         ensures refusals { IfErr result (λ refusal. refusal ≡ NoMemory) }
     {
-        let (taken, mut inner, mut holder) = self.arrive(rt);
+        let (held, mut inner) = self.arrive(rt);
         let answer = inner.cut();
-        drop(give_back(taken, &mut holder, inner));
+        drop(held.give_back(inner));
         answer
     }
 
@@ -585,10 +587,10 @@ impl<M: Module> Machine<M> {
 
         ensures refusals { IfErr result (λ refusal. refusal ≡ NoMemory) }
     {
-        let (taken, mut inner, mut holder) = self.arrive(rt);
+        let (held, mut inner) = self.arrive(rt);
         its_cell_is_journaled(&inner);
         let answer = inner.take_journal(label);
-        drop(give_back(taken, &mut holder, inner));
+        drop(held.give_back(inner));
         answer
     }
 }

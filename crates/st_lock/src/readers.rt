@@ -5,7 +5,6 @@ ghost use Rattle.st_lock.specs.Machines.{IsReadAt, id_of};
 
 use crate::Machine;
 use crate::inner::its_cell_is_journaled;
-use crate::machine::give_back;
 use st_cell::{Module, Reason};
 use std::sync::Wait;
 
@@ -16,10 +15,10 @@ impl<M: Module> Machine<M> {
     pub fn state<R: Wait>(&self, rt: &R) -> M::State
         ensures { IsReadAt (callbacks_of M.Module M.State.eq) (λ machine. machine.state) (id_of self.now) result }
     {
-        let (taken, inner, mut holder) = self.arrive(rt);
+        let (held, inner) = self.arrive(rt);
         its_cell_is_journaled(&inner);
         let answer = inner.core().state();
-        drop(give_back(taken, &mut holder, inner));
+        drop(held.give_back(inner));
         answer
     }
 
@@ -29,10 +28,10 @@ impl<M: Module> Machine<M> {
     pub fn waiting<R: Wait>(&self, rt: &R) -> usize
         ensures { IsReadAt (callbacks_of M.Module M.State.eq) (λ machine. waiting_of machine) (id_of self.now) result }
     {
-        let (taken, inner, mut holder) = self.arrive(rt);
+        let (held, inner) = self.arrive(rt);
         its_cell_is_journaled(&inner);
         let answer = inner.core().waiting();
-        drop(give_back(taken, &mut holder, inner));
+        drop(held.give_back(inner));
         answer
     }
 
@@ -43,10 +42,10 @@ impl<M: Module> Machine<M> {
     pub fn next_due<R: Wait>(&self, rt: &R) -> Option<u64>
         ensures { IsReadAt (callbacks_of M.Module M.State.eq) (λ machine. next_due_of machine) (id_of self.now) result }
     {
-        let (taken, inner, mut holder) = self.arrive(rt);
+        let (held, inner) = self.arrive(rt);
         its_cell_is_journaled(&inner);
         let answer = inner.core().next_due();
-        drop(give_back(taken, &mut holder, inner));
+        drop(held.give_back(inner));
         answer
     }
 
@@ -56,10 +55,10 @@ impl<M: Module> Machine<M> {
     pub fn ended<R: Wait>(&self, rt: &R) -> Option<(Reason, u32)>
         ensures { IsReadAt (callbacks_of M.Module M.State.eq) (λ machine. machine.ended) (id_of self.now) result }
     {
-        let (taken, inner, mut holder) = self.arrive(rt);
+        let (held, inner) = self.arrive(rt);
         its_cell_is_journaled(&inner);
         let answer = inner.core().ended();
-        drop(give_back(taken, &mut holder, inner));
+        drop(held.give_back(inner));
         answer
     }
 
@@ -69,10 +68,10 @@ impl<M: Module> Machine<M> {
     pub fn is_ready<R: Wait>(&self, rt: &R) -> bool
         ensures { IsReadAt (callbacks_of M.Module M.State.eq) (λ machine. is_ready_of machine) (id_of self.now) result }
     {
-        let (taken, inner, mut holder) = self.arrive(rt);
+        let (held, inner) = self.arrive(rt);
         its_cell_is_journaled(&inner);
         let answer = inner.core().is_ready();
-        drop(give_back(taken, &mut holder, inner));
+        drop(held.give_back(inner));
         answer
     }
 }

@@ -142,3 +142,46 @@ stop_at-requires g c = (g.met.M.Module.lawful.actions_fit, (c.requires.moment, c
 
 pub stop_at-requires-in-StopAndReply : goal.stop_at-requires-in-StopAndReply
 stop_at-requires-in-StopAndReply g c = (g.met.M.Module.lawful.actions_fit, (c.requires.moment, c.requires.empty))
+
+-- what is handed on leaves the module, and where it is refused all else
+pub returns-in-NextState-clause-unchanged_module : goal.returns-in-NextState-clause-unchanged_module
+returns-in-NextState-clause-unchanged_module g c = c.proceed.ensures.unchanged_module
+
+pub returns-in-NextState-clause-unchanged : goal.returns-in-NextState-clause-unchanged
+returns-in-NextState-clause-unchanged g c = c.proceed.ensures.unchanged
+
+pub returns-in-KeepState-clause-unchanged_module : goal.returns-in-KeepState-clause-unchanged_module
+returns-in-KeepState-clause-unchanged_module g c = c.proceed-in-KeepState.ensures.unchanged_module
+
+pub returns-in-KeepState-clause-unchanged : goal.returns-in-KeepState-clause-unchanged
+returns-in-KeepState-clause-unchanged g c = c.proceed-in-KeepState.ensures.unchanged
+
+pub returns-in-KeepStateAndData-clause-unchanged_module : goal.returns-in-KeepStateAndData-clause-unchanged_module
+returns-in-KeepStateAndData-clause-unchanged_module g c = c.proceed-in-KeepStateAndData.ensures.unchanged_module
+
+pub returns-in-KeepStateAndData-clause-unchanged : goal.returns-in-KeepStateAndData-clause-unchanged
+returns-in-KeepStateAndData-clause-unchanged g c = c.proceed-in-KeepStateAndData.ensures.unchanged
+
+pub returns-in-RepeatState-clause-unchanged_module : goal.returns-in-RepeatState-clause-unchanged_module
+returns-in-RepeatState-clause-unchanged_module g c = c.proceed-in-RepeatState.ensures.unchanged_module
+
+pub returns-in-RepeatState-clause-unchanged : goal.returns-in-RepeatState-clause-unchanged
+returns-in-RepeatState-clause-unchanged g c = c.proceed-in-RepeatState.ensures.unchanged
+
+pub returns-in-RepeatStateAndData-clause-unchanged_module : goal.returns-in-RepeatStateAndData-clause-unchanged_module
+returns-in-RepeatStateAndData-clause-unchanged_module g c = c.proceed-in-RepeatStateAndData.ensures.unchanged_module
+
+pub returns-in-RepeatStateAndData-clause-unchanged : goal.returns-in-RepeatStateAndData-clause-unchanged
+returns-in-RepeatStateAndData-clause-unchanged g c = c.proceed-in-RepeatStateAndData.ensures.unchanged
+
+pub returns-in-Stop-clause-unchanged_module : goal.returns-in-Stop-clause-unchanged_module
+returns-in-Stop-clause-unchanged_module g c = c.stop_at.ensures.unchanged_module
+
+pub returns-in-Stop-clause-unchanged : goal.returns-in-Stop-clause-unchanged
+returns-in-Stop-clause-unchanged g c = c.stop_at.ensures.unchanged
+
+pub returns-in_ok-actions-in-StopAndReply-clause-unchanged_module : goal.returns-in_ok-actions-in-StopAndReply-clause-unchanged_module
+returns-in_ok-actions-in-StopAndReply-clause-unchanged_module g c = c.stop_at-in-StopAndReply.ensures.unchanged_module
+
+pub returns-in_ok-actions-in-StopAndReply-clause-unchanged : goal.returns-in_ok-actions-in-StopAndReply-clause-unchanged
+returns-in_ok-actions-in-StopAndReply-clause-unchanged g c = c.stop_at-in-StopAndReply.ensures.unchanged

@@ -8,7 +8,7 @@ pub give_opened-requires-clause-others : goal.give_opened-requires-clause-others
 give_opened-requires-clause-others g c = λ claimed fits.
     more_fits c.deref_mut.result.now c.port.new.self c.in_ok-counter.end c.in-Ok.ensures.opened claimed
     (subst (λ inner. Fits (Some inner) claimed) (sym c.deref_mut.ensures.value)
-    (subst (λ under. Fits (inner_of under) claimed) c.arrive-taken.ensures.taken fits))
+    (subst (λ under. Fits (inner_of under) claimed) c.arrive-held.ensures.taken fits))
 
 -- and that is the new port's
 pub give_opened-requires-clause-own : goal.give_opened-requires-clause-own
