@@ -74,9 +74,14 @@ fn open(cell: &mut Cell<Load>) -> Result<(), Refusal> {
     }
 }
 
+/// Puts a cell into a box. A body that owns it there while it calls is proved much sooner.
+fn boxed(alloc: Global, cell: Cell<Load>) -> Result<Box<Cell<Load>>, Refusal> {
+    Ok(Box::new(alloc, cell)?)
+}
+
 /// A machine in a cell with one port.
-pub fn in_cell(alloc: Global, core: Core<Load>) -> Result<Cell<Load>, Refusal> {
-    let mut cell = begun(alloc, core)?;
+pub fn in_cell(alloc: Global, core: Core<Load>) -> Result<Box<Cell<Load>>, Refusal> {
+    let mut cell = boxed(alloc, begun(alloc, core)?)?;
     open(&mut cell)?;
     Ok(cell)
 }

@@ -135,7 +135,7 @@ pub enum Line {
 }
 
 /// Each line by its name.
-pub const LINES: [(&str, Line); 46] = [
+pub static LINES: [(&str, Line); 46] = [
     ("casts", Line::Casts),
     ("casts-beside", Line::CastsBeside),
     ("casts-with-ticks", Line::CastsWithTicks),
@@ -287,7 +287,7 @@ impl Line {
     /// Does a line of a machine in a cell.
     fn done_in_cell(self, alloc: Global, count: u32, more: u32) -> Result<u64, Refusal> {
         match started_in_cell(alloc)? {
-            Some(mut cell) => self.done_over(&mut cell, count, more),
+            Some(mut cell) => self.done_over(&mut *cell, count, more),
             None => Ok(0),
         }
     }
@@ -499,7 +499,7 @@ fn many_machines(alloc: Global, count: u32, many: u32) -> Result<u64, Refusal> {
 }
 
 /// A machine that has just started, in a cell.
-fn started_in_cell(alloc: Global) -> Result<Option<Cell<Load>>, Refusal> {
+fn started_in_cell(alloc: Global) -> Result<Option<Box<Cell<Load>>>, Refusal> {
     match started(alloc, Load, ID, &0)? {
         Some(load) => Ok(Some(in_cell(alloc, load)?)),
         None => Ok(None),

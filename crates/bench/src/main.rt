@@ -38,9 +38,9 @@ const NOT_UNDERSTOOD: u8 = 2;
 
 /// The line of a name.
 fn line_of(name: &str) -> Option<Line> {
-    for (known, line) in LINES {
-        if known == name {
-            return Some(line);
+    for (known, line) in &LINES {
+        if *known == name {
+            return Some(*line);
         }
     }
     None
@@ -71,8 +71,8 @@ fn report<R: Runtime + Clock>(
 ) -> Result<String, Refusal> {
     let mut log = String::new(alloc);
     if name == "all" {
-        for (known, line) in LINES {
-            measure(rt, alloc, known, line, count, more, &mut log)?;
+        for (known, line) in &LINES {
+            measure(rt, alloc, known, *line, count, more, &mut log)?;
         }
     } else if let Some(line) = line_of(name) {
         measure(rt, alloc, name, line, count, more, &mut log)?;
