@@ -2,7 +2,7 @@
 ghost use Rattle.std.specs.Prelude.{◌≡◌, ◌≤◌, ◌<◌, ◌^◌, []};
 ghost use Rattle.st_core.specs.Callbacks.{Called, callbacks_of, begun_with, begun_by, entered_by};
 ghost use Rattle.st_core.specs.Gathering.{IsEmpty};
-ghost use Rattle.st_core.specs.Start.{start_of, begun_as, started_with, ended_with, Starts, first_state};
+ghost use Rattle.st_core.specs.Start.{start_of, begun_as, started_by, started_with, ended_with, Starts, first_state};
 
 use crate::added::add_entered;
 use crate::gathered::Gathered;
@@ -16,6 +16,9 @@ use st_events::{Actions, Init, MOMENT_LIMIT, MachineId, Module, Reason, Refusal,
 use st_outbox::Outgoing;
 use st_requests::Requests;
 use std::alloc::Global;
+
+/// What a module's `init` answers.
+type InitOf<M> = Init<<M as Module>::State, <M as Module>::Data, <M as Module>::Content>;
 
 /// What comes of a start.
 ///
@@ -76,20 +79,30 @@ impl<M: Module> Core<M> {
         if now >= MOMENT_LIMIT {
             return Err(Refused::new(Refusal::Moment, module));
         }
-        match module.init(alloc, arg) {
-            Err(_) => Err(Refused::new(Refusal::NoMemory, module)),
-            Ok(Init::Ignore) => Ok(Start::Ignored),
-            Ok(Init::Stop(reason)) => Ok(Start::Stopped(reason)),
-            Ok(Init::Ok(state, data, actions)) => {
-                let opening = Opening {
-                    alloc,
-                    module,
-                    id,
-                    now,
-                    first,
-                };
-                Core::begin(opening, state, data, actions)
-            }
+        let init = match module.init(alloc, arg) {
+            Ok(init) => init,
+            Err(_) => return Err(Refused::new(Refusal::NoMemory, module)),
+        };
+        let opening = Opening {
+            alloc,
+            module,
+            id,
+            now,
+            first,
+        };
+        Core::open(opening, init)
+    }
+
+    /// Does what `init` answered.
+    fn open(opening: Opening<M>, init: InitOf<M>) -> Result<Start<M>, Refused<M>>
+        requires moment { opening.now < 2 ^ 63 }
+        requires greatest { opening.first < 2 ^ 63 }
+        ensures start { Starts opening.module result (started_by (callbacks_of M.Module M.State.eq opening.module) opening.module opening.id init opening.now opening.first) }
+    {
+        match init {
+            Init::Ignore => Ok(Start::Ignored),
+            Init::Stop(reason) => Ok(Start::Stopped(reason)),
+            Init::Ok(state, data, actions) => Core::begin(opening, state, data, actions),
         }
     }
 

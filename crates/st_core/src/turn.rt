@@ -106,32 +106,30 @@ impl<M: Module> Core<M> {
             repeats: false,
         };
         match outcome {
-            Outcome::NextState(after, data, mut actions) => {
+            Outcome::NextState(after, data, actions) => {
                 course.after = after;
                 course.changed = self.state != after;
-                self.proceed(course, Some(data), &mut actions, gathered)
+                self.proceed(course, Some(data), actions, gathered)
             }
-            Outcome::KeepState(data, mut actions) => {
-                self.proceed(course, Some(data), &mut actions, gathered)
+            Outcome::KeepState(data, actions) => {
+                self.proceed(course, Some(data), actions, gathered)
             }
-            Outcome::KeepStateAndData(mut actions) => {
-                self.proceed(course, None, &mut actions, gathered)
-            }
-            Outcome::RepeatState(data, mut actions) => {
+            Outcome::KeepStateAndData(actions) => { self.proceed(course, None, actions, gathered) }
+            Outcome::RepeatState(data, actions) => {
                 course.repeats = true;
-                self.proceed(course, Some(data), &mut actions, gathered)
+                self.proceed(course, Some(data), actions, gathered)
             }
-            Outcome::RepeatStateAndData(mut actions) => {
+            Outcome::RepeatStateAndData(actions) => {
                 course.repeats = true;
-                self.proceed(course, None, &mut actions, gathered)
+                self.proceed(course, None, actions, gathered)
             }
             Outcome::Stop(reason, data) => {
-                let mut actions = Actions::new(self.alloc);
-                self.stop_at(course, data, &mut actions, reason, gathered)
+                let actions = Actions::new(self.alloc);
+                self.stop_by(course, data, actions, reason, gathered)
             }
             Outcome::StopAndReply(reason, replies, data) => {
-                let mut actions = as_reply_actions(self.alloc, replies)?;
-                self.stop_at(course, data, &mut actions, reason, gathered)
+                let actions = as_reply_actions(self.alloc, replies)?;
+                self.stop_by(course, data, actions, reason, gathered)
             }
         }
     }
@@ -141,14 +139,14 @@ impl<M: Module> Core<M> {
         &mut self,
         course: Course<M::State>,
         data: Option<M::Data>,
-        actions: &mut Actions<M::Content>,
+        mut actions: Actions<M::Content>,
         gathered: &mut Gathered<M::State>,
     ) -> Result<Done, Refusal>
         requires moment { course.now < 2 ^ 63 }
         requires number_is { option_map (λ event. event.number) (next_event_of self.old.machine) ≡ Some course.number }
         requires empty { IsEmpty gathered.old }
         ensures step { (handled called : Called M.State M.Data M.Content)
-            → ComesTo course self.old.machine.data gathered.old.calls «data» actions.old handled → handled.reason ≡ None
+            → ComesTo course self.old.machine.data gathered.old.calls «data» actions handled → handled.reason ≡ None
             → called ≡ (if (callbacks_of M.Module M.State.eq self.old.module_).enters_is && (course.changed || course.repeats) then entered_by (callbacks_of M.Module M.State.eq self.old.module_) self.old.machine.state handled else handled)
             → TurnsTo course.number self.old.machine self.new.machine gathered.new result
             (unless_refused self.old.machine (concluded (callbacks_of M.Module M.State.eq self.old.module_) (with_moment self.old.machine course.now) course.number called called.reason)) }
@@ -157,9 +155,9 @@ impl<M: Module> Core<M> {
         ensures unchanged { OnErr result (self.new ≡ self.old) }
     {
         if is_entered(&self.module, course.changed, course.repeats) {
-            self.enter(course, data, actions, gathered)
+            self.enter(course, data, &mut actions, gathered)
         } else {
-            self.go_on(course, data, actions, gathered)
+            self.go_on(course, data, &mut actions, gathered)
         }
     }
 
@@ -196,6 +194,28 @@ impl<M: Module> Core<M> {
             None => self.go_on(course, data, actions, gathered),
             Some(reason) => self.stop_at(course, data, actions, reason, gathered),
         }
+    }
+
+    /// The machine stops as `handle` says, for a reason, with the replies that it has.
+    fn stop_by(
+        &mut self,
+        course: Course<M::State>,
+        data: Option<M::Data>,
+        mut actions: Actions<M::Content>,
+        reason: Reason,
+        gathered: &mut Gathered<M::State>,
+    ) -> Result<Done, Refusal>
+        requires moment { course.now < 2 ^ 63 }
+        requires empty { IsEmpty gathered.old }
+        ensures step { (called : Called M.State M.Data M.Content)
+            → ComesTo course self.old.machine.data gathered.old.calls «data» actions called
+            → TurnsTo course.number self.old.machine self.new.machine gathered.new result
+            (stopped (callbacks_of M.Module M.State.eq self.old.module_) (with_moment self.old.machine course.now) course.number called reason) }
+        ensures unchanged_module { self.new.module_ ≡ self.old.module_ }
+
+        ensures unchanged { OnErr result (self.new ≡ self.old) }
+    {
+        self.stop_at(course, data, &mut actions, reason, gathered)
     }
 
     /// The machine stops for a reason at the next event, with what its callbacks came to.

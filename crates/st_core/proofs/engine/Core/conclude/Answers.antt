@@ -88,7 +88,7 @@ returns-in-Stop-clause-step g c handled called handled_is called_is =
     let some : handled.reason ≡ Some c.in-Stop.reason = rw given refl in
     rw same
     (meets_same turn_takes_memory turn_without_memory _ _ _ (stops callbacks machine (with_moment machine c.args.now) c.args.number handled c.in-Stop.reason some)
-    (c.stop_at.ensures.step handled (record {
+    (c.stop_by.ensures.step handled (record {
       calls = rw given refl;
       state = rw (given, ← c.self.view_is) refl;
       «data» = rw given refl;
@@ -107,7 +107,7 @@ returns-in_ok-actions-in-StopAndReply-clause-step g c handled called handled_is 
     let some : handled.reason ≡ Some c.in-StopAndReply.reason = rw given refl in
     rw same
     (meets_same turn_takes_memory turn_without_memory _ _ _ (stops callbacks machine (with_moment machine c.args.now) c.args.number handled c.in-StopAndReply.reason some)
-    (c.stop_at-in-StopAndReply.ensures.step handled (record {
+    (c.stop_by-in-StopAndReply.ensures.step handled (record {
       calls = rw given refl;
       state = rw (given, ← c.self.view_is) refl;
       «data» = rw given refl;
@@ -137,11 +137,11 @@ proceed-requires-in-RepeatState g c = (g.met.M.Module.lawful.actions_fit, (c.req
 pub proceed-requires-in-RepeatStateAndData : goal.proceed-requires-in-RepeatStateAndData
 proceed-requires-in-RepeatStateAndData g c = (g.met.M.Module.lawful.actions_fit, (c.requires.moment, (c.requires.number_is, c.requires.empty)))
 
-pub stop_at-requires : goal.stop_at-requires
-stop_at-requires g c = (g.met.M.Module.lawful.actions_fit, (c.requires.moment, c.requires.empty))
+pub stop_by-requires : goal.stop_by-requires
+stop_by-requires g c = (g.met.M.Module.lawful.actions_fit, (c.requires.moment, c.requires.empty))
 
-pub stop_at-requires-in-StopAndReply : goal.stop_at-requires-in-StopAndReply
-stop_at-requires-in-StopAndReply g c = (g.met.M.Module.lawful.actions_fit, (c.requires.moment, c.requires.empty))
+pub stop_by-requires-in-StopAndReply : goal.stop_by-requires-in-StopAndReply
+stop_by-requires-in-StopAndReply g c = (g.met.M.Module.lawful.actions_fit, (c.requires.moment, c.requires.empty))
 
 -- what is handed on leaves the module, and where it is refused all else
 pub returns-in-NextState-clause-unchanged_module : goal.returns-in-NextState-clause-unchanged_module
@@ -175,13 +175,13 @@ pub returns-in-RepeatStateAndData-clause-unchanged : goal.returns-in-RepeatState
 returns-in-RepeatStateAndData-clause-unchanged g c = c.proceed-in-RepeatStateAndData.ensures.unchanged
 
 pub returns-in-Stop-clause-unchanged_module : goal.returns-in-Stop-clause-unchanged_module
-returns-in-Stop-clause-unchanged_module g c = c.stop_at.ensures.unchanged_module
+returns-in-Stop-clause-unchanged_module g c = c.stop_by.ensures.unchanged_module
 
 pub returns-in-Stop-clause-unchanged : goal.returns-in-Stop-clause-unchanged
-returns-in-Stop-clause-unchanged g c = c.stop_at.ensures.unchanged
+returns-in-Stop-clause-unchanged g c = c.stop_by.ensures.unchanged
 
 pub returns-in_ok-actions-in-StopAndReply-clause-unchanged_module : goal.returns-in_ok-actions-in-StopAndReply-clause-unchanged_module
-returns-in_ok-actions-in-StopAndReply-clause-unchanged_module g c = c.stop_at-in-StopAndReply.ensures.unchanged_module
+returns-in_ok-actions-in-StopAndReply-clause-unchanged_module g c = c.stop_by-in-StopAndReply.ensures.unchanged_module
 
 pub returns-in_ok-actions-in-StopAndReply-clause-unchanged : goal.returns-in_ok-actions-in-StopAndReply-clause-unchanged
-returns-in_ok-actions-in-StopAndReply-clause-unchanged g c = c.stop_at-in-StopAndReply.ensures.unchanged
+returns-in_ok-actions-in-StopAndReply-clause-unchanged g c = c.stop_by-in-StopAndReply.ensures.unchanged

@@ -15,8 +15,8 @@ returns-then-is_entered-clause-step g c handled called comes none called_is =
     c.enter.ensures.step handled called comes (called_is ∙ ap (λ (enters : Bool). if enters then entered_by callbacks machine.state handled else handled) due)
 
 -- there is none
-pub returns-else-is_entered-clause-step : goal.returns-else-is_entered-clause-step
-returns-else-is_entered-clause-step g c handled called comes none called_is =
+pub returns-clause-step : goal.returns-clause-step
+returns-clause-step g c handled called comes none called_is =
     let callbacks = callbacks_of g.M.Module g.M.State.PartialEq.eq c.args.self.now.module_ in
     let machine = c.args.self.now.machine in
     let not_due : (callbacks.enters_is && (c.args.course.changed || c.args.course.repeats)) ≡ false = rw (← c.self.view_is) (sym c.is_entered.ensures ∙ c.if-is_entered.false) in
