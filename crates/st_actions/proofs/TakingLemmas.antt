@@ -1,6 +1,7 @@
 -- Actions of one kind that leave a list one after another, and settings that later ones override.
 use Rattle.std.proofs.Common.{◌≡◌, ℕ, zero, suc, ◌+◌, true, false, Option, Some, None, List, [], ◌∷◌, ◌++◌, refl, sym, ap, ◌∙◌, take, drop, set, is_some, arith}
 use Rattle.std.specs.Prelude.{slice_get}
+use Rattle.std.proofs.lemmas.List.{append-nil}
 use Rattle.std.specs.List.{filter_map, cons_option}
 use Rattle.std.specs.Option.{option_and_then, option_to_list}
 use Rattle.st_events.specs.declared.action.Action.{Action}
@@ -96,6 +97,11 @@ module _ {A X : Type 0} (f : A → Option X) (blank : A) (no_blank : f blank ≡
   last_out xs index a x there is none =
       of_is xs ∙ (out_last xs index a x there is (after_drop xs index none) ∙ ap (λ (ys : List X). ys ++ x ∷ []) (sym (of_is (set xs index blank))))
 
+  pub last_taken : (xs : List A) (index : ℕ) (a : A) (o : Option X) → slice_get xs index ≡ Some a → o ≡ f a
+      → of (drop (index + 1) xs) ≡ [] → of xs ≡ of (set xs index blank) ++ option_to_list o
+  last_taken xs index a None there is none = sym (other_out xs index a there (sym is)) ∙ sym (append-nil (of (set xs index blank)))
+  last_taken xs index a (Some x) there is none = last_out xs index a x there (sym is) none
+
   pub none_in_front : (xs : List A) (index : ℕ) → of (take index xs) ≡ []
       → ((a : A) → slice_get xs index ≡ Some a → f a ≡ None) → of (take (index + 1) xs) ≡ []
   none_in_front xs index none not_it = ap (λ n. of (take n xs)) (one_more index) ∙ of_is (take (suc index) xs) ∙ front_more xs index (sym (of_is (take index xs)) ∙ none) not_it
@@ -188,6 +194,67 @@ module _ {C : Type 0} where
   setting_is_no_send (Update other content) setting = refl
   setting_is_no_send (Send target content) setting = cc
   setting_is_no_send Hibernate setting = refl
+
+  -- what is a reply, or an event to be inserted, is of no other kind
+  pub reply_is_no_insert : (action : Action C) → is_some (as_reply action) ≡ true → as_insert action ≡ None
+  reply_is_no_insert (Reply tag content) it = refl
+  reply_is_no_insert (Postpone last) it = refl
+  reply_is_no_insert (NextEvent kind content) it = cc
+  reply_is_no_insert (Set other time content) it = refl
+  reply_is_no_insert (Cancel other) it = refl
+  reply_is_no_insert (Update other content) it = refl
+  reply_is_no_insert (Send target content) it = refl
+  reply_is_no_insert Hibernate it = refl
+
+  pub reply_is_no_setting : (action : Action C) → is_some (as_reply action) ≡ true → as_setting action ≡ None
+  reply_is_no_setting (Reply tag content) it = refl
+  reply_is_no_setting (Postpone last) it = refl
+  reply_is_no_setting (NextEvent kind content) it = refl
+  reply_is_no_setting (Set other time content) it = cc
+  reply_is_no_setting (Cancel other) it = cc
+  reply_is_no_setting (Update other content) it = cc
+  reply_is_no_setting (Send target content) it = refl
+  reply_is_no_setting Hibernate it = refl
+
+  pub reply_is_no_send : (action : Action C) → is_some (as_reply action) ≡ true → as_send action ≡ None
+  reply_is_no_send (Reply tag content) it = refl
+  reply_is_no_send (Postpone last) it = refl
+  reply_is_no_send (NextEvent kind content) it = refl
+  reply_is_no_send (Set other time content) it = refl
+  reply_is_no_send (Cancel other) it = refl
+  reply_is_no_send (Update other content) it = refl
+  reply_is_no_send (Send target content) it = cc
+  reply_is_no_send Hibernate it = refl
+
+  pub insert_is_no_reply : (action : Action C) → is_some (as_insert action) ≡ true → as_reply action ≡ None
+  insert_is_no_reply (Reply tag content) it = cc
+  insert_is_no_reply (Postpone last) it = refl
+  insert_is_no_reply (NextEvent kind content) it = refl
+  insert_is_no_reply (Set other time content) it = refl
+  insert_is_no_reply (Cancel other) it = refl
+  insert_is_no_reply (Update other content) it = refl
+  insert_is_no_reply (Send target content) it = refl
+  insert_is_no_reply Hibernate it = refl
+
+  pub insert_is_no_setting : (action : Action C) → is_some (as_insert action) ≡ true → as_setting action ≡ None
+  insert_is_no_setting (Reply tag content) it = refl
+  insert_is_no_setting (Postpone last) it = refl
+  insert_is_no_setting (NextEvent kind content) it = refl
+  insert_is_no_setting (Set other time content) it = cc
+  insert_is_no_setting (Cancel other) it = cc
+  insert_is_no_setting (Update other content) it = cc
+  insert_is_no_setting (Send target content) it = refl
+  insert_is_no_setting Hibernate it = refl
+
+  pub insert_is_no_send : (action : Action C) → is_some (as_insert action) ≡ true → as_send action ≡ None
+  insert_is_no_send (Reply tag content) it = refl
+  insert_is_no_send (Postpone last) it = refl
+  insert_is_no_send (NextEvent kind content) it = refl
+  insert_is_no_send (Set other time content) it = refl
+  insert_is_no_send (Cancel other) it = refl
+  insert_is_no_send (Update other content) it = refl
+  insert_is_no_send (Send target content) it = cc
+  insert_is_no_send Hibernate it = refl
 
 -- ---- what stands at an index
 pub none_at : {A X : Type 0} (f : A → Option X) (xs : List A) (index : ℕ) → is_some (option_and_then f (slice_get xs index)) ≡ false

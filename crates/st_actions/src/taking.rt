@@ -23,8 +23,8 @@ pub fn take_reply<C: Drop>(actions: &mut Actions<C>, index: usize) -> Option<(Ta
         return None;
     }
     match actions.replace(index, Action::Hibernate) {
-        Some(Action::Reply(tag, content)) => Some((tag, content)),
-        _ => unreachable!(),
+        Some(action) => reply_of(action),
+        None => unreachable!(),
     }
 }
 
@@ -45,8 +45,8 @@ pub fn take_insert<C: Drop>(actions: &mut Actions<C>, index: usize) -> Option<In
         return None;
     }
     match actions.replace(index, Action::Hibernate) {
-        Some(Action::NextEvent(kind, content)) => Some(Insert { kind, content }),
-        _ => unreachable!(),
+        Some(action) => insert_of(action),
+        None => unreachable!(),
     }
 }
 
@@ -98,8 +98,38 @@ pub fn take_send<C: Drop>(actions: &mut Actions<C>, index: usize) -> Option<(Mac
         return None;
     }
     match actions.replace(index, Action::Hibernate) {
-        Some(Action::Send(target, content)) => Some((target, content)),
-        _ => unreachable!(),
+        Some(action) => send_of(action),
+        None => unreachable!(),
+    }
+}
+
+/// The reply that an action is, if it is one.
+fn reply_of<C: Drop>(action: Action<C>) -> Option<(Tag, C)>
+    ensures { result ≡ as_reply action }
+{
+    match action {
+        Action::Reply(tag, content) => Some((tag, content)),
+        _ => None,
+    }
+}
+
+/// The event to be inserted that an action is, if it is one.
+fn insert_of<C: Drop>(action: Action<C>) -> Option<Insert<C>>
+    ensures { result ≡ as_insert action }
+{
+    match action {
+        Action::NextEvent(kind, content) => Some(Insert { kind, content }),
+        _ => None,
+    }
+}
+
+/// What an action sends, and to which machine, if it does.
+fn send_of<C: Drop>(action: Action<C>) -> Option<(MachineId, C)>
+    ensures { result ≡ as_send action }
+{
+    match action {
+        Action::Send(target, content) => Some((target, content)),
+        _ => None,
     }
 }
 

@@ -1,8 +1,8 @@
-use Rattle.std.proofs.Common.{Some, refl, sym, ap, ◌∙◌}
-use Rattle.st_events.specs.declared.action.Action.TheVariants.{NextEvent, Hibernate}
+use Rattle.std.proofs.Common.{refl, sym, ◌∙◌}
+use Rattle.st_events.specs.declared.action.Action.TheVariants.{Hibernate}
 use Rattle.st_actions.specs.Plan.{replies_of, inserts_of, sends_of}
 use Rattle.st_actions.specs.Taking.{all_settings_of, as_reply, as_insert, as_setting, as_send}
-use Rattle.st_actions.proofs.TakingLemmas.{none_at, last_out, other_out, none_behind, none_behind_out, replies_are, inserts_are, settings_are, sends_are}
+use Rattle.st_actions.proofs.TakingLemmas.{none_at, some_at, other_out, last_taken, none_behind, none_behind_out, replies_are, inserts_are, settings_are, sends_are, insert_is_no_reply, insert_is_no_setting, insert_is_no_send}
 use Rattle.st_actions.proofs.taking.take_insert.Goals as goal
 
 pub unreachable-unreachable : goal.unreachable-unreachable
@@ -16,28 +16,31 @@ returns-then-not-is_insert_at-clause-none_behind g c =
 pub returns-clause-taken : goal.returns-clause-taken
 returns-clause-taken g c =
     rw c.replace.ensures.put_in
-    (last_out as_insert Hibernate refl inserts_of inserts_are c.args.actions.now c.args.index (NextEvent c.in-Some-NextEvent.kind c.in-Some-NextEvent.content) _
-    (sym c.in-Some-NextEvent.ensures.replaced ∙ ap Some c.in-Some-NextEvent.field-0-is) refl c.requires.last)
+    (last_taken as_insert Hibernate refl inserts_of inserts_are c.args.actions.now c.args.index c.in-Some.action c.insert_of.result
+    (sym c.in-Some.ensures.replaced) c.insert_of.ensures c.requires.last)
 
 pub returns-clause-none_behind : goal.returns-clause-none_behind
 returns-clause-none_behind g c =
     rw c.replace.ensures.put_in
     (none_behind_out as_insert Hibernate refl inserts_of inserts_are c.args.actions.now c.args.index c.requires.last)
 
-pub returns-clause-same_settings : goal.returns-clause-same_settings
-returns-clause-same_settings g c =
-    rw c.replace.ensures.put_in
-    (other_out as_setting Hibernate refl all_settings_of settings_are c.args.actions.now c.args.index (NextEvent c.in-Some-NextEvent.kind c.in-Some-NextEvent.content)
-    (sym c.in-Some-NextEvent.ensures.replaced ∙ ap Some c.in-Some-NextEvent.field-0-is) refl)
-
 pub returns-clause-same_replies : goal.returns-clause-same_replies
 returns-clause-same_replies g c =
+    let it = some_at as_insert c.args.actions.now c.args.index c.in-Some.action (sym c.is_insert_at.ensures ∙ c.if-not-is_insert_at.false) (sym c.in-Some.ensures.replaced) in
     rw c.replace.ensures.put_in
-    (other_out as_reply Hibernate refl replies_of replies_are c.args.actions.now c.args.index (NextEvent c.in-Some-NextEvent.kind c.in-Some-NextEvent.content)
-    (sym c.in-Some-NextEvent.ensures.replaced ∙ ap Some c.in-Some-NextEvent.field-0-is) refl)
+    (other_out as_reply Hibernate refl replies_of replies_are c.args.actions.now c.args.index c.in-Some.action (sym c.in-Some.ensures.replaced)
+    (insert_is_no_reply c.in-Some.action it))
+
+pub returns-clause-same_settings : goal.returns-clause-same_settings
+returns-clause-same_settings g c =
+    let it = some_at as_insert c.args.actions.now c.args.index c.in-Some.action (sym c.is_insert_at.ensures ∙ c.if-not-is_insert_at.false) (sym c.in-Some.ensures.replaced) in
+    rw c.replace.ensures.put_in
+    (other_out as_setting Hibernate refl all_settings_of settings_are c.args.actions.now c.args.index c.in-Some.action (sym c.in-Some.ensures.replaced)
+    (insert_is_no_setting c.in-Some.action it))
 
 pub returns-clause-same_sends : goal.returns-clause-same_sends
 returns-clause-same_sends g c =
+    let it = some_at as_insert c.args.actions.now c.args.index c.in-Some.action (sym c.is_insert_at.ensures ∙ c.if-not-is_insert_at.false) (sym c.in-Some.ensures.replaced) in
     rw c.replace.ensures.put_in
-    (other_out as_send Hibernate refl sends_of sends_are c.args.actions.now c.args.index (NextEvent c.in-Some-NextEvent.kind c.in-Some-NextEvent.content)
-    (sym c.in-Some-NextEvent.ensures.replaced ∙ ap Some c.in-Some-NextEvent.field-0-is) refl)
+    (other_out as_send Hibernate refl sends_of sends_are c.args.actions.now c.args.index c.in-Some.action (sym c.in-Some.ensures.replaced)
+    (insert_is_no_send c.in-Some.action it))

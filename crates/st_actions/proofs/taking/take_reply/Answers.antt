@@ -1,8 +1,8 @@
-use Rattle.std.proofs.Common.{Some, refl, sym, ap, ◌∙◌}
-use Rattle.st_events.specs.declared.action.Action.TheVariants.{Reply, Hibernate}
+use Rattle.std.proofs.Common.{refl, sym, ◌∙◌}
+use Rattle.st_events.specs.declared.action.Action.TheVariants.{Hibernate}
 use Rattle.st_actions.specs.Plan.{replies_of, inserts_of, sends_of}
 use Rattle.st_actions.specs.Taking.{all_settings_of, as_reply, as_insert, as_setting, as_send}
-use Rattle.st_actions.proofs.TakingLemmas.{none_at, first_out, other_out, none_in_front, none_in_front_out, replies_are, inserts_are, settings_are, sends_are}
+use Rattle.st_actions.proofs.TakingLemmas.{none_at, some_at, other_out, first_taken, none_in_front, none_in_front_out, replies_are, inserts_are, settings_are, sends_are, reply_is_no_insert, reply_is_no_setting, reply_is_no_send}
 use Rattle.st_actions.proofs.taking.take_reply.Goals as goal
 
 pub unreachable-unreachable : goal.unreachable-unreachable
@@ -16,8 +16,8 @@ returns-then-not-is_reply_at-clause-none_before g c =
 pub returns-clause-taken : goal.returns-clause-taken
 returns-clause-taken g c =
     rw c.replace.ensures.put_in
-    (first_out as_reply Hibernate refl replies_of replies_are c.args.actions.now c.args.index (Reply c.in-Some-Reply.tag c.in-Some-Reply.content) _
-    (sym c.in-Some-Reply.ensures.replaced ∙ ap Some c.in-Some-Reply.field-0-is) refl c.requires.first)
+    (first_taken as_reply Hibernate refl replies_of replies_are c.args.actions.now c.args.index c.in-Some.action c.reply_of.result
+    (sym c.in-Some.ensures.replaced) c.reply_of.ensures c.requires.first)
 
 pub returns-clause-none_before : goal.returns-clause-none_before
 returns-clause-none_before g c =
@@ -26,18 +26,21 @@ returns-clause-none_before g c =
 
 pub returns-clause-same_inserts : goal.returns-clause-same_inserts
 returns-clause-same_inserts g c =
+    let it = some_at as_reply c.args.actions.now c.args.index c.in-Some.action (sym c.is_reply_at.ensures ∙ c.if-not-is_reply_at.false) (sym c.in-Some.ensures.replaced) in
     rw c.replace.ensures.put_in
-    (other_out as_insert Hibernate refl inserts_of inserts_are c.args.actions.now c.args.index (Reply c.in-Some-Reply.tag c.in-Some-Reply.content)
-    (sym c.in-Some-Reply.ensures.replaced ∙ ap Some c.in-Some-Reply.field-0-is) refl)
+    (other_out as_insert Hibernate refl inserts_of inserts_are c.args.actions.now c.args.index c.in-Some.action (sym c.in-Some.ensures.replaced)
+    (reply_is_no_insert c.in-Some.action it))
 
 pub returns-clause-same_settings : goal.returns-clause-same_settings
 returns-clause-same_settings g c =
+    let it = some_at as_reply c.args.actions.now c.args.index c.in-Some.action (sym c.is_reply_at.ensures ∙ c.if-not-is_reply_at.false) (sym c.in-Some.ensures.replaced) in
     rw c.replace.ensures.put_in
-    (other_out as_setting Hibernate refl all_settings_of settings_are c.args.actions.now c.args.index (Reply c.in-Some-Reply.tag c.in-Some-Reply.content)
-    (sym c.in-Some-Reply.ensures.replaced ∙ ap Some c.in-Some-Reply.field-0-is) refl)
+    (other_out as_setting Hibernate refl all_settings_of settings_are c.args.actions.now c.args.index c.in-Some.action (sym c.in-Some.ensures.replaced)
+    (reply_is_no_setting c.in-Some.action it))
 
 pub returns-clause-same_sends : goal.returns-clause-same_sends
 returns-clause-same_sends g c =
+    let it = some_at as_reply c.args.actions.now c.args.index c.in-Some.action (sym c.is_reply_at.ensures ∙ c.if-not-is_reply_at.false) (sym c.in-Some.ensures.replaced) in
     rw c.replace.ensures.put_in
-    (other_out as_send Hibernate refl sends_of sends_are c.args.actions.now c.args.index (Reply c.in-Some-Reply.tag c.in-Some-Reply.content)
-    (sym c.in-Some-Reply.ensures.replaced ∙ ap Some c.in-Some-Reply.field-0-is) refl)
+    (other_out as_send Hibernate refl sends_of sends_are c.args.actions.now c.args.index c.in-Some.action (sym c.in-Some.ensures.replaced)
+    (reply_is_no_send c.in-Some.action it))
