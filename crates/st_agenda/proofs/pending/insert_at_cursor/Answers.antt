@@ -1,6 +1,7 @@
-use Rattle.std.proofs.Common.{◌≡◌, ◌≤◌, ◌+◌, ◌-◌, refl, ap, ◌∙◌, ◌∷◌, [], length, length-append, arith, rules}
+use Rattle.std.proofs.Common.{◌≡◌, ◌≤◌, ◌+◌, ◌-◌, refl, ap, ◌∙◌, ◌∷◌, [], length, length-append, arith}
 use Rattle.std.proofs.lemmas.List.{drop_all, nil_from_length}
 use Rattle.st_actions.specs.Plan.{inserts_of}
+use Rattle.st_agenda.proofs.Given.{given}
 use Rattle.st_agenda.proofs.PendingLemmas.{behind_none, behind_more, behind_all, none_taken, place_left}
 use Rattle.st_agenda.proofs.pending.insert_at_cursor.Goals as goal
 
@@ -21,7 +22,7 @@ take_insert-requires g c =
     let kept = c.loop-left.invariant in
     let one = place_left c.loop-left.actions c.loop-left.left c.loop-left.index kept.counted kept.none_behind c.loop-left-test.true in
     let back : c.loop-left.index - 1 + 1 ≡ c.loop-left.index = omega (arith, one) in
-    (search rules, rw back kept.none_behind)
+    (search given, rw back kept.none_behind)
 
 pub loop-left-smaller-in-Some : goal.loop-left-smaller-in-Some
 loop-left-smaller-in-Some g c =
@@ -71,3 +72,26 @@ returns-clause-inserted g c =
     let kept = c.loop-left.invariant in
     let none = nil_from_length (inserts_of c.loop-left.actions) (omega (arith, kept.counted, c.loop-left-test.false)) in
     behind_all c.args.queue.now c.loop-left.queue c.args.first (inserts_of c.args.actions.now) (inserts_of c.loop-left.actions) none kept.behind
+
+-- the index and the count go down while one is left, and the number is small enough
+pub overflow_sub-index : goal.overflow_sub-index
+overflow_sub-index g c =
+    let kept = c.loop-left.invariant in
+    place_left c.loop-left.actions c.loop-left.left c.loop-left.index kept.counted kept.none_behind c.loop-left-test.true
+
+pub overflow_sub-left : goal.overflow_sub-left
+overflow_sub-left g c = c.loop-left-test.true
+
+pub overflow_add-first : goal.overflow_add-first
+overflow_add-first g c = omega (arith, c.loop-left.invariant.few, c.requires.numbers, c.loop-left-test.true)
+
+pub len-index-requires : goal.len-index-requires
+len-index-requires g c = search given
+
+-- there is room for it
+pub insert_staged-requires : goal.insert_staged-requires
+insert_staged-requires g c =
+    let kept = c.loop-left.invariant in
+    let all = ap length kept.behind.1 in
+    let both = length-append (inserts_of c.loop-left.actions) kept.behind.0 in
+    record { staged = omega (arith, all, both, kept.behind.4, kept.counted, c.requires.count, c.requires.reserved, c.loop-left-test.true) }

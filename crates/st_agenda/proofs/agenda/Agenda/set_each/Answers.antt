@@ -1,5 +1,7 @@
-use Rattle.std.proofs.Common.{◌∙◌}
+use Rattle.std.proofs.Common.{◌∙◌, refl, arith}
+use Rattle.std.proofs.lemmas.List.{take_all}
 use Rattle.st_actions.specs.Taking.{all_settings_of}
+use Rattle.st_agenda.proofs.Given.{given}
 use Rattle.st_agenda.proofs.LoopLemmas.{set_none_more, set_one_more}
 use Rattle.st_agenda.proofs.agenda.Agenda.set_each.Goals.{in-Some, in_default}
 use Rattle.st_agenda.proofs.agenda.Agenda.set_each.Goals as goal
@@ -23,3 +25,31 @@ loop-index-preserved g c =
       sends = c.take_setting.ensures.same_sends ∙ kept.sends;
       as_many = c.take_setting.ensures.as_many ∙ kept.as_many;
     }
+
+-- none is done yet
+pub loop-index-init : goal.loop-index-init
+loop-index-init g c = record {
+  set = record { all = refl; once = c.requires.once; reserved = c.requires.reserved; numbers = c.requires.numbers };
+  none_before = refl;
+  sends = refl;
+  as_many = refl;
+}
+
+-- there is room for one that is left, and numbers
+pub set-requires : goal.set-requires
+set-requires g c =
+    let taken = c.in-Some.ensures.taken in
+    let reserved = rw taken at c.loop-index.invariant.set.reserved in
+    let numbers = rw taken at c.loop-index.invariant.set.numbers in
+    record { moment = c.requires.moment; reserved = omega (arith, reserved); numbers = omega (arith, numbers) }
+
+pub take_setting-requires : goal.take_setting-requires
+take_setting-requires g c = (search given, c.loop-index.invariant.none_before)
+
+-- all are
+pub returns-clause-set : goal.returns-clause-set
+returns-clause-set g c =
+    let kept = c.loop-index.invariant in
+    let whole = take_all c.loop-index.index c.loop-index.actions (omega (arith, kept.as_many, c.len-index-end.ensures.length, c.loop-index-test.false)) in
+    let none = rw whole at kept.none_before in
+    rw none at kept.set.all
