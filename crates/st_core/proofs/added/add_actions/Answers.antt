@@ -1,10 +1,11 @@
 use Rattle.std.proofs.Common.{◌++◌, ap, ◌∙◌, rules}
 use Rattle.st_actions.specs.Joined.{as_actions}
+use Rattle.st_agenda.proofs.Given.{given}
 use Rattle.st_core.proofs.AddedLemmas.{action_in, actions_in}
 use Rattle.st_core.proofs.added.add_actions.Goals as goal
 
 pub push-requires : goal.push-requires
-push-requires g c = search rules
+push-requires g c = search given
 
 pub loop-action-preserved : goal.loop-action-preserved
 loop-action-preserved g c = record {

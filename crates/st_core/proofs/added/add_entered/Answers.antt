@@ -1,4 +1,5 @@
 use Rattle.std.proofs.Common.{sym, append-nil, rules}
+use Rattle.st_agenda.proofs.Given.{given}
 use Rattle.st_core.proofs.AddedLemmas.{enter-replies}
 use Rattle.st_core.proofs.added.add_entered.Goals as goal
 
@@ -11,10 +12,10 @@ returns-in_ok-add_replies-in-StopAndReply-clause-added g c =
 
 -- what comes in fits in memory
 pub add_actions-requires : goal.add_actions-requires
-add_actions-requires g c = (search rules, (search rules, c.requires.enter_actions_fit))
+add_actions-requires g c = (search given, (search given, c.requires.enter_actions_fit))
 
 pub add_actions-requires-in-KeepStateAndData : goal.add_actions-requires-in-KeepStateAndData
-add_actions-requires-in-KeepStateAndData g c = (search rules, (search rules, c.requires.enter_actions_fit))
+add_actions-requires-in-KeepStateAndData g c = (search given, (search given, c.requires.enter_actions_fit))
 
 pub add_replies-requires : goal.add_replies-requires
-add_replies-requires g c = (search rules, (c.requires.replies_fit, c.requires.replies_fit))
+add_replies-requires g c = (search given, (c.requires.replies_fit, c.requires.replies_fit))

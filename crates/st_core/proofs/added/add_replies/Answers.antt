@@ -1,10 +1,11 @@
 use Rattle.std.proofs.Common.{◌++◌, ap, ◌∙◌, rules}
 use Rattle.st_core.specs.Callbacks.{reply_actions}
+use Rattle.st_agenda.proofs.Given.{given}
 use Rattle.st_core.proofs.AddedLemmas.{reply_in, replies_in}
 use Rattle.st_core.proofs.added.add_replies.Goals as goal
 
 pub push-requires : goal.push-requires
-push-requires g c = search rules
+push-requires g c = search given
 
 pub loop-tag-preserved : goal.loop-tag-preserved
 loop-tag-preserved g c = record {

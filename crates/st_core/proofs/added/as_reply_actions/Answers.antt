@@ -1,10 +1,11 @@
 use Rattle.std.proofs.Common.{◌++◌, ap, ◌∙◌, rules}
 use Rattle.st_core.specs.Callbacks.{reply_actions}
+use Rattle.st_agenda.proofs.Given.{given}
 use Rattle.st_core.proofs.added.as_reply_actions.Goals as goal
 
 -- what comes in fits in memory
 pub add_replies-requires : goal.add_replies-requires
-add_replies-requires g c = (search rules, (c.requires.replies_fit, c.requires.replies_fit))
+add_replies-requires g c = (search given, (c.requires.replies_fit, c.requires.replies_fit))
 
 -- there were none before
 pub returns : goal.returns

@@ -2,6 +2,7 @@ use Rattle.std.proofs.Common.{ap, sym, refl, ◌∙◌, inr, false, length, arit
 use Rattle.std.proofs.lemmas.Bool.{leb-true}
 use Rattle.st_actions.specs.Plan.{inserts_of}
 use Rattle.st_core.specs.Transition.{decisions_of}
+use Rattle.st_agenda.proofs.Given.{given}
 use Rattle.st_core.proofs.TransitionLemmas.{numbers-numbered, enough_for_inserts, fewer_inserts, first_false, second_false}
 use Rattle.st_core.proofs.prepared.prepare.Goals as goal
 use Rattle.st_core.proofs.prepared.prepare.Goals.{then-not-has_numbers-via-then-not-has_numbers, then-not-has_numbers-via-else-not-has_numbers+then-not-has_message_numbers}
@@ -62,13 +63,13 @@ prepare_sends-requires g c = record {
 }
 
 pub note_decisions-requires : goal.note_decisions-requires
-note_decisions-requires g c = (search rules, (c.in_ok-counts.ensures.counted.settings, c.requires.empty.set))
+note_decisions-requires g c = (search given, (c.in_ok-counts.ensures.counted.settings, c.requires.empty.set))
 
 pub count_last-requires : goal.count_last-requires
-count_last-requires g c = search rules
+count_last-requires g c = search given
 
 pub has_numbers-requires : goal.has_numbers-requires
-has_numbers-requires g c = (search rules, c.in_ok-counts.ensures.counted)
+has_numbers-requires g c = (search given, c.in_ok-counts.ensures.counted)
 
 -- the actions are those that were counted
 pub returns-clause-counted : goal.returns-clause-counted

@@ -4,6 +4,7 @@ use Rattle.std.specs.Prelude.{None, Some}
 use Rattle.st_core.specs.Callbacks.{Called, callbacks_of, or_old, entered_as, entered_with}
 use Rattle.st_core.specs.Run.{turn_takes_memory, turn_without_memory}
 use Rattle.st_core.specs.Transition.{with_moment}
+use Rattle.st_agenda.proofs.Given.{given}
 use Rattle.st_core.proofs.TransitionLemmas.{concluded_takes_memory, goes_on, stops, meets_same, or_old_twice}
 use Rattle.st_core.proofs.engine.Core.enter.Goals as goal
 
@@ -70,7 +71,7 @@ returns-in-Some-clause-step g c handled called comes called_is =
     }))
 
 pub add_entered-requires : goal.add_entered-requires
-add_entered-requires g c = (search rules, (g.met.M.Module.lawful.enter_outcome_fits, (g.met.M.Module.lawful.enter_actions_fit, g.met.M.Module.lawful.replies_fit)))
+add_entered-requires g c = (search given, (g.met.M.Module.lawful.enter_outcome_fits, (g.met.M.Module.lawful.enter_actions_fit, g.met.M.Module.lawful.replies_fit)))
 
 pub returns-in-None-clause-unchanged_module : goal.returns-in-None-clause-unchanged_module
 returns-in-None-clause-unchanged_module g c = c.go_on.ensures.unchanged_module
