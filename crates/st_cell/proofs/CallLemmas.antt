@@ -35,13 +35,13 @@ no_entry_for entries number source command answer is =
     ap (λ said. entries ++ entry_of number source command (kept_answer said)) is ∙ append-nil entries
 
 -- what is not counted has no entry
-unkept : {S C : Type 0} (number : ℕ) (source : Source) (command : Command C) (answer : StepAnswer S C) → is_counted answer ≡ false
+pub unkept : {S C : Type 0} (number : ℕ) (source : Source) (command : Command C) (answer : StepAnswer S C) → is_counted answer ≡ false
     → entry_of number source command (kept_answer answer) ≡ []
 unkept number source command answer counted = rw counted refl
 
 module _ {M S D C : Type 0} where
   -- the machine was told a command, or found no memory, and what was written is the entry of its answer
-  meets_with : (cell : CellState M S D C) (source : Source) (command : Command C) (takes : StepAnswer S C → Bool) (definition : StepAnswer S C × ScheduledMachine M S D C)
+  pub meets_with : (cell : CellState M S D C) (source : Source) (command : Command C) (takes : StepAnswer S C → Bool) (definition : StepAnswer S C × ScheduledMachine M S D C)
       (answer : StepAnswer S C) (new : ScheduledMachine M S D C) (journal : List (JournalEntry S C))
       → Meets takes (refused_with NoMemory (content_of command)) answer cell.scheduled new definition
       → (takes definition.0 ≡ true → call_takes_memory command definition.0 ≡ true)

@@ -405,6 +405,12 @@ module _ {M S D C : Type 0} where
         done.1 ∙ (ap (λ (journal : List (JournalEntry S C)). record old { scheduled = told.1; journal = journal }) entries
         ∙ ap (λ (scheduled : ScheduledMachine M S D C). record old { scheduled = scheduled }) none)
 
+    -- so a refused call that tells a command changes nothing
+    pub told_unchanged : {T E : Type 0} (old new : CellState M S D C) (command : Command C) (said : Result T E → StepAnswer S C) (result : Result T E)
+        → ((refused : E) → is_refused (said (Err refused)) ≡ true) → IsTold callbacks old command (said result) new → OnErr result (new ≡ old)
+    told_unchanged old new command said (Ok answer) refuses done = tt
+    told_unchanged old new command said (Err refused) refuses done = told_refused old new source.Caller command (said (Err refused)) (refuses refused) done
+
     -- a refused delivery changes nothing
     pub delivers_unchanged : (old new : CellState M S D C) (message : Message C) (result : Result Posted (Refused (Message C)))
         → Delivers callbacks old message result new → OnErr result (new ≡ old)

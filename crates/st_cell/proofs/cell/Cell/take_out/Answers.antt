@@ -25,3 +25,7 @@ returns-clause-posts g c =
 pub returns-clause-ports : goal.returns-clause-ports
 returns-clause-ports g c =
     rw (← c.self.view_is) (ap length (takes_nothing (callbacks_of g.M.Module g.M.State.PartialEq.eq) c.self.inside.journaled.cell c.take_out.new.self.cell c.args.token c.take_out.result c.take_out.ensures.does).ports)
+
+-- it is what the machine with its journal did
+pub returns-clause-does : goal.returns-clause-does
+returns-clause-does g c = rw (← c.self.view_is) c.take_out.ensures.does

@@ -30,3 +30,7 @@ returns-clause-ports g c =
 pub returns-clause-posts : goal.returns-clause-posts
 returns-clause-posts g c =
     rw (← c.self.view_is) (turns_nothing (callbacks_of g.M.Module g.M.State.PartialEq.eq) c.self.inside.journaled.cell c.turn.new.self.cell c.args.token c.args.now c.turn.result c.turn.ensures.does)
+
+-- it is what the machine with its journal did
+pub returns-clause-does : goal.returns-clause-does
+returns-clause-does g c = rw (← c.self.view_is) c.turn.ensures.does

@@ -7,12 +7,23 @@ use Rattle.st_scheduled.specs.Answered.{served_as}
 use Rattle.st_scheduled.specs.Serving.{refused_with, Serves}
 use Rattle.st_cell.proofs.CallLemmas.{served_unwritten, served_written, same_but_machine, got_places}
 use Rattle.st_cell.proofs.JournalLemmas.{longer}
+use Rattle.st_cell.proofs.TellingLemmas.{room_more, room_got}
 use Rattle.st_cell.proofs.journaled.Journaled.serve.Goals as goal
+
+-- there will be no turn
+pub returns-then-not-takes_turn-clause-served : goal.returns-then-not-takes_turn-clause-served
+returns-then-not-takes_turn-clause-served g c = c.serve_without_entry.ensures.served
+
+pub returns-then-not-takes_turn-clause-room : goal.returns-then-not-takes_turn-clause-room
+returns-then-not-takes_turn-clause-room g c = c.serve_without_entry.ensures.room
 
 -- there was no memory for the entry
 pub returns-then-is_err-clause-served : goal.returns-then-is_err-clause-served
 returns-then-is_err-clause-served g c =
     (refused_with NoMemory None, inr (c.takes_turn.ensures.turn c.if-not-takes_turn.false, refl, c.make_room.ensures.same), refl)
+
+pub returns-then-is_err-clause-room : goal.returns-then-is_err-clause-room
+returns-then-is_err-clause-room g c = room_more c.args.self.now c.make_room.new.self c.make_room.ensures.same c.make_room.ensures.more
 
 -- there are two places, one for this entry
 pub write-requires : goal.write-requires
@@ -59,3 +70,14 @@ returns-in-Err-clause-served g c =
           (subst (λ cell. Serves (callbacks_of g.M.Module g.M.State.PartialEq.eq) cell.scheduled c.args.now (refused_with c.in-Err.refusal None) after.scheduled) same c.in-Err.ensures.served) refl rest,
       refl,
     )
+
+pub returns-in-Err-clause-room : goal.returns-in-Err-clause-room
+returns-in-Err-clause-room g c room =
+    let got = got_places _ c.make_room.result (sym c.is_err.ensures.value ∙ c.if-is_err.false) c.make_room.ensures.room in
+    room_got c.args.self.now c.make_room.new.self c.serve_scheduled.new.self c.make_room.ensures.same got c.serve_scheduled.ensures.rest c.serve_scheduled.ensures.places
+
+-- or nothing was done
+pub returns-in-Ok-Sending-clause-room : goal.returns-in-Ok-Sending-clause-room
+returns-in-Ok-Sending-clause-room g c room =
+    let got = got_places _ c.make_room.result (sym c.is_err.ensures.value ∙ c.if-is_err.false) c.make_room.ensures.room in
+    room_got c.args.self.now c.make_room.new.self c.serve_scheduled.new.self c.make_room.ensures.same got c.serve_scheduled.ensures.rest c.serve_scheduled.ensures.places
