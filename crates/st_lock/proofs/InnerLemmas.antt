@@ -1,10 +1,12 @@
 -- An inner state stays one: the machine's endpoint of each port has seen all that the cell counts, after each call.
-use Rattle.std.proofs.Common.{◌≡◌, ◌≢◌, ℕ, zero, suc, ◌+◌, ◌-◌, ◌<◌, ◌≤◌, ◌⊎◌, inl, inr, ⊎_elim, false, ◌==◌, ne_eqb, List, [], ◌∷◌, ◌++◌, length, drop, set, refl, sym, ap, ◌∙◌, subst, arith}
+use Rattle.std.proofs.Common.{◌≡◌, ◌≢◌, ℕ, zero, suc, ◌+◌, ◌-◌, ◌<◌, ◌≤◌, ◌⊎◌, inl, inr, ⊎_elim, Bool, true, false, not, ◌&&◌, ◌==◌, ne_eqb, eqb-true, List, [], ◌∷◌, ◌++◌, length, drop, set, refl, sym, ap, ◌∙◌, subst, arith}
 use Rattle.std.specs.Prelude.{Some, slice_get, slice_index, get_or}
 use Rattle.std.specs.Option.{option_map}
+use Rattle.std.proofs.lemmas.Bool.{and_parts}
 use Rattle.std.proofs.lemmas.List.{length-append, length-map, length-set, map-set, drop-append-le, get_or-set_same, get_or-set_other, get_or_append_left}
 use Rattle.std.proofs.lemmas.Option.{slice_get_read, slice_get_within, slice_get-map}
 use Rattle.std.proofs.Math.Seq.{drop-length, get_or-append_seam}
+use Rattle.st_events.specs.declared.machine_id.MachineId.{MachineId}
 use Rattle.st_core.specs.MachineState.{Machine}
 use Rattle.st_cell.specs.declared.post.Post.{Post}
 use Rattle.st_cell.specs.Calls.{opened, cut}
@@ -112,6 +114,17 @@ module _ {C : Type 0} where
 
 module _ {M S D C : Type 0} where
   -- ---- the inner state after each call
+  -- where the cell and the endpoints are as they were
+  pub inner_again : (old new : CellState M S D C) (was now : List (EndpointState (Post C))) → new ≡ old → now ≡ was
+      → IsInner (record { cell = old; ends = was }) → IsInner (record { cell = new; ends = now })
+  inner_again old new was now cell ends is =
+      subst (λ (l : List (EndpointState (Post C))). IsInner (record { cell = new; ends = l })) (sym ends)
+      (subst (λ (one : CellState M S D C). IsInner (record { cell = one; ends = was })) (sym cell) is)
+
+  pub same_inner : (old new : CellState M S D C) (was now : List (EndpointState (Post C))) (inner : InnerState M S D C) → new ≡ old → now ≡ was
+      → ◌≡◌ {A = InnerState M S D C} (record { cell = old; ends = was }) inner → ◌≡◌ {A = InnerState M S D C} (record { cell = new; ends = now }) inner
+  same_inner old new was now inner cell ends is = rw (cell, ends) is
+
   -- nothing was posted
   pub inner_kept : (old new : CellState M S D C) (ends : List (EndpointState (Post C))) → HasPostedNothing old new
       → IsInner (record { cell = old; ends = ends }) → IsInner (record { cell = new; ends = ends })
@@ -241,3 +254,18 @@ module _ {M S D C : Type 0} where
     lengths = refl;
     each = λ port end place there. absurd cc;
   }
+
+-- ids that the code finds the same are equal
+pub ids_same : (one other : MachineId) → (one.slot == other.slot) && (one.serial == other.serial) ≡ true → one ≡ other
+ids_same one other same =
+    let parts = and_parts (one.slot == other.slot) (one.serial == other.serial) same in
+    let slots : one.slot ≡ other.slot = eqb-true one.slot other.slot parts.0 in
+    let serials : one.serial ≡ other.serial = eqb-true one.serial other.serial parts.1 in
+    ap (λ (n : ℕ). record one { slot = n }) slots ∙ ap (λ (n : ℕ). record other { serial = n }) serials
+
+no_other : (same : Bool) → false ≡ not same → same ≡ true
+no_other true is = refl
+no_other false is = let no : false ≡ true = is in absurd cc
+
+pub ids_not_other : (one other : MachineId) → false ≡ not ((one.slot == other.slot) && (one.serial == other.serial)) → one ≡ other
+ids_not_other one other is = ids_same one other (no_other ((one.slot == other.slot) && (one.serial == other.serial)) is)

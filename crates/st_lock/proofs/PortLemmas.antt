@@ -1,7 +1,9 @@
 -- What a port looks at and posts to, and whose journal is copied.
-use Rattle.std.proofs.Common.{◌≡◌, ℕ, ◌+◌, Bool, true, false, List, Result, Ok, Err, inl, inr, refl, subst}
+use Rattle.std.proofs.Common.{◌≡◌, ℕ, ◌+◌, Bool, true, false, List, [], ◌∷◌, ◌++◌, length, length-append, Result, Ok, Err, inl, inr, refl, ap, sym, ◌∙◌, subst}
 use Rattle.std.specs.Prelude.{◌&&◌, if◌then◌else◌, Option, Some, None, is_none, IfOk, IfSome}
 use Rattle.std.specs.Option.{option_map}
+use Rattle.std.specs.Arc.{arc_value}
+use Rattle.std.specs.Global.{Box}
 use Rattle.st_events.specs.declared.machine_id.MachineId.{MachineId}
 use Rattle.st_events.specs.declared.refusal.Refusal.{Refusal}
 use Rattle.st_events.specs.declared.refused.Refused.{Refused}
@@ -27,8 +29,19 @@ use Rattle.st_scheduled.proofs.LeftStates.{step_id}
 use Rattle.st_cell.specs.declared.journal.Journal.{Journal}
 use Rattle.st_cell.specs.declared.look.Look.{Look}
 use Rattle.st_cell.specs.Calls.{IsJournalOf, Posts, look_of}
-use Rattle.st_cell.specs.Cell.{CellState, count_for, IsOpen}
+use Rattle.st_cell.specs.Cell.{CellState, count_for, IsJournaled, IsOpen}
+use Rattle.st_cell.specs.declared.post.Post.{Post}
+use Rattle.st_claim_lock.specs.Holders.{lock_id, lock_of, claim_of, Claims, HasOut}
+use Rattle.st_claim_lock.specs.declared.holder.Holder.{Holder}
+use Rattle.st_post_counter.specs.Endpoint.{EndpointState}
+use Rattle.st_post_counter.specs.Seen.{part, IsPart}
+use Rattle.st_lock.specs.declared.claim.Claim.{Claim}
+use Rattle.st_lock.specs.declared.port.Port.TheInside.{Inside}
+use Rattle.st_lock.specs.Claims.{claim}
+use Rattle.st_lock.specs.Inner.{InnerState}
 use Rattle.st_lock.specs.Machines.{IsCellOf, IsLookAt, IsJournalAt}
+use Rattle.st_lock.specs.Ports.{IsPort, PortState, posted}
+use Rattle.st_lock.proofs.ClaimLemmas.{claims_again}
 
 -- a token that a machine of this id is issued, where it has work and none is outstanding, names the machine
 token_named : (id : MachineId) (count : ℕ) (work : Bool) (token : Option Outstanding)
@@ -91,8 +104,65 @@ module _ {M S D C : Type 0} where
     look_at id cell port count (Ok look) is own is_open counts = (cell, port, own, is_open, counts, is)
     look_at id cell port count (Err refusal) is own is_open counts = tt
 
+    -- it shows how many events were posted through the port
+    pub mine_at : (cell : CellState M S D C) (port count : ℕ) (result : Result (Look S D) Refusal) → IfOk result (λ look. look ≡ look_of port cell)
+        → count_for port cell ≡ count → IfOk result (λ look. look.mine ≡ count)
+    mine_at cell port count (Ok look) is counts = ap (λ (one : Look S D). one.mine) is ∙ counts
+    mine_at cell port count (Err refusal) is counts = tt
+
     -- the journal of a cell
     pub journal_at : (cell : CellState M S D C) (id : MachineId) (label : List ℕ) (result : Result (Journal S C) Refusal)
         → IfOk result (λ journal. IsJournalOf cell label journal) → IsCellOf callbacks id cell → IfOk result (λ journal. IsJournalAt callbacks id label journal)
     journal_at cell id label (Ok journal) is own = (cell, own, is)
     journal_at cell id label (Err refusal) is own = tt
+
+module _ {M S D C : Type 0} where
+  -- the cell that was taken from under the lock is one of the machine
+  pub taken_cell : (callbacks : M → Callbacks S D C) (id : MachineId) (taken looked inner : InnerState M S D C) → taken.cell.scheduled.core.machine.id ≡ id
+      → looked ≡ taken → IsJournaled callbacks looked.cell → inner ≡ taken → IsCellOf callbacks id inner.cell
+  taken_cell callbacks id taken looked inner own looks journaled is = record {
+    own = ap (λ (one : InnerState M S D C). one.cell.scheduled.core.machine.id) is ∙ own;
+    journaled = subst (λ (one : InnerState M S D C). IsJournaled callbacks one.cell) (looks ∙ sym is) journaled;
+  }
+
+module _ {M S D C A : Type 0} where
+  -- ---- a port, after its holder gave the inner state back
+  -- its endpoint is as it was
+  pub port_kept : (port : Inside M S D C A) (end : EndpointState (Post C)) (was now : Holder (Option (Box (InnerState M S D C))) Claim)
+      (value : Option (Box (InnerState M S D C))) → IsPort port → end ≡ port.end → HasOut was (claim port.number port.counter) value
+      → Claims now (claim_of was) → lock_of now ≡ lock_id (arc_value port.machine).lock
+      → IsPort (record { machine = port.machine; counter = port.counter; end = end; holder = now; number = port.number; count = port.count })
+  port_kept port end was now value is same out claims lock = record {
+    counter = ap (λ (one : EndpointState (Post C)). one.counter) same ∙ is.counter;
+    part = subst (λ (one : EndpointState (Post C)). IsPart one.seen) (sym same) is.part;
+    count = is.count ∙ ap (λ (one : EndpointState (Post C)). length one.seen.posts) (sym same);
+    lock = lock;
+    claims = claims_again was now (claim port.number port.counter) value out claims;
+  }
+
+  -- its endpoint saw a post
+  pub port_posted : (port : Inside M S D C A) (end : EndpointState (Post C)) (post : Post C) (was now : Holder (Option (Box (InnerState M S D C))) Claim)
+      (value : Option (Box (InnerState M S D C))) → IsPort port → end ≡ record port.end { seen = part (port.end.seen.posts ++ post ∷ []) }
+      → HasOut was (claim port.number port.counter) value → Claims now (claim_of was) → lock_of now ≡ lock_id (arc_value port.machine).lock
+      → IsPort (record { machine = port.machine; counter = port.counter; end = end; holder = now; number = port.number; count = port.count + 1 })
+  port_posted port end post was now value is saw out claims lock = record {
+    counter = ap (λ (one : EndpointState (Post C)). one.counter) saw ∙ is.counter;
+    part = subst (λ (one : EndpointState (Post C)). IsPart one.seen) (sym saw) refl;
+    count = ap (λ (n : ℕ). n + 1) is.count ∙ (sym (length-append port.end.seen.posts (post ∷ []))
+        ∙ ap (λ (one : EndpointState (Post C)). length one.seen.posts) (sym saw));
+    lock = lock;
+    claims = claims_again was now (claim port.number port.counter) value out claims;
+  }
+
+-- ---- what a contract sees of a port
+module _ {C : Type 0} where
+  -- a port whose endpoint is as it was
+  pub seen_kept : (id : MachineId) (was now : EndpointState (Post C)) (port : PortState C) → now ≡ was
+      → ◌≡◌ {A = PortState C} (record { machine = id; posts = was.seen.posts }) port → ◌≡◌ {A = PortState C} (record { machine = id; posts = now.seen.posts }) port
+  seen_kept id was now port same is = rw same is
+
+  -- a port whose endpoint saw a post
+  pub seen_posted : (id : MachineId) (was now : EndpointState (Post C)) (post : Post C) (port : PortState C) → now ≡ record was { seen = part (was.seen.posts ++ post ∷ []) }
+      → ◌≡◌ {A = PortState C} (record { machine = id; posts = was.seen.posts }) port
+      → ◌≡◌ {A = PortState C} (record { machine = id; posts = now.seen.posts }) (posted post port)
+  seen_posted id was now post port saw is = rw saw (ap (λ (one : PortState C). posted post one) is)

@@ -1,11 +1,15 @@
 -- How a trace grows by a line.
-use Rattle.std.proofs.Common.{◌≡◌, ℕ, ◌+◌, ◌≤◌, ◌<◌, List, [], ◌∷◌, ◌++◌, length, get_or, drop, suc, sym, ap, ◌∙◌, add-one, append_assoc, append-nil}
+use Rattle.std.proofs.Common.{◌≡◌, ℕ, ◌+◌, ◌≤◌, ◌^◌, ◌<◌, List, [], ◌∷◌, ◌++◌, length, get_or, drop, suc, sym, ap, ◌∙◌, add-one, arith, append_assoc, append-nil}
 use Rattle.std.proofs.Math.Seq.{drop-cons}
 use Rattle.std.proofs.lemmas.List.{drop_all}
 use Rattle.st_cell.specs.declared.journal_entry.JournalEntry.{JournalEntry}
 use Rattle.st_trace.specs.Entries.{latest_after}
 use Rattle.st_trace.specs.declared.totals.Totals.{Totals}
 use Rattle.st_trace.specs.Trace.{entry_line, entry_lines, summary_line}
+
+-- as many as there are in a slice are a word
+pub in_word : (here there : ℕ) → here ≡ there → there < 2 ^ 64 → 0 + here < 2 ^ 64
+in_word here there same within = omega (arith, same, within)
 
 module _ {S C : Type 0} (names : S → List ℕ) where
   -- the first of the lines that are left is that of the first entry that is left

@@ -1,6 +1,7 @@
-use Rattle.std.proofs.Common.{◌≡◌, ℕ, ◌-◌, List, ap, sym, ◌∙◌, subst}
+use Rattle.std.proofs.Common.{◌≡◌, ℕ, ◌-◌, List, refl, ap, sym, ◌∙◌, subst}
 use Rattle.st_cell.specs.declared.post.Post.{Post}
-use Rattle.st_cell.specs.Cell.{count_for}
+use Rattle.st_cell.specs.Calls.{look_of}
+use Rattle.st_cell.specs.Cell.{IsOpen, count_for}
 use Rattle.st_cell.specs.Journal.{numbers_of, posts_of}
 use Rattle.st_lock.specs.Inner.{EndsWith, InnerState, counters_of}
 use Rattle.st_lock.proofs.InnerLemmas.{found_at, inner_same, counters_set, numbers_end}
@@ -39,3 +40,28 @@ returns-in-Ok-clause-same g c =
           ∙ ap (λ (inner : InnerState _ _ _ _). counters_of inner.ends) c.self.view_is,
       c.agree.ensures.same.1,
     )
+
+-- the port is open in the cell, and its number is not 0
+pub look-requires : goal.look-requires
+look-requires g c = subst (λ (inner : InnerState _ _ _ _). IsOpen c.args.port inner.cell) (sym c.self.view_is) c.requires.open
+
+pub overflow_sub-port : goal.overflow_sub-port
+overflow_sub-port g c = c.requires.open.0
+
+-- both endpoints are of the counter
+pub agree-requires-clause-counter : goal.agree-requires-clause-counter
+agree-requires-clause-counter g c =
+    let found = found_at c.args.self.now c.self.inside.cell.cell c.self.inside.ends.items c.args.port c.args.counter.now c.index_mut-end.result.now c.self.view_is c.self.invariant
+    c.requires.open c.requires.end c.index_mut-end.ensures.value in
+    (found.of_counter, c.requires.mine.0)
+
+-- what is seen is seen of the cell
+pub returns-in-Ok-clause-look : goal.returns-in-Ok-clause-look
+returns-in-Ok-clause-look g c = c.in-Ok.ensures.look ∙ ap (λ (inner : InnerState _ _ _ _). look_of c.args.port inner.cell) c.self.view_is
+
+-- or nothing is, and all is as it was
+pub returns-in-Err-clause-same : goal.returns-in-Err-clause-same
+returns-in-Err-clause-same g c = (refl, refl)
+
+pub returns-in-Err-clause-refusals : goal.returns-in-Err-clause-refusals
+returns-in-Err-clause-refusals g c = c.in-Err.ensures.refusals

@@ -1,12 +1,12 @@
-use Rattle.std.proofs.Common.{Ok, Err, ◌≡◌, ◌+◌, ◌-◌, List, [], ◌∷◌, ◌++◌, length, ap, sym, ◌∙◌, subst, arith, length-append, set}
+use Rattle.std.proofs.Common.{Ok, Err, ◌≡◌, ℕ, ◌+◌, ◌-◌, ◌≤◌, List, [], ◌∷◌, ◌++◌, length, refl, ap, sym, ◌∙◌, subst, arith, length-append, set}
 use Rattle.st_core.specs.Callbacks.{callbacks_of}
 use Rattle.st_scheduled.specs.Answered.{posted_as}
 use Rattle.st_cell.specs.declared.post.Post.{Post}
 use Rattle.st_cell.specs.Calls.{Posts}
-use Rattle.st_cell.specs.Cell.{count_for}
+use Rattle.st_cell.specs.Cell.{IsOpen, count_for}
 use Rattle.st_post_counter.specs.Seen.{whole, part, Begins}
 use Rattle.st_lock.specs.Inner.{InnerState, Leaves, counters_of}
-use Rattle.st_lock.proofs.InnerLemmas.{found_at, count_posted, inner_posted, counters_set, same_before}
+use Rattle.st_lock.proofs.InnerLemmas.{found_at, count_posted, inner_posted, counters_set, same_before, inner_again, same_inner}
 use Rattle.st_lock.proofs.LeftLemmas.{called, inner_left, left_count, posted_by}
 use Rattle.st_lock.proofs.inner.Inner.post.Goals as goal
 
@@ -93,3 +93,44 @@ pub returns-in-Err-clause-does : goal.returns-in-Err-clause-does
 returns-in-Err-clause-does g c =
     subst (λ (inner : InnerState _ _ _ _). Leaves (Posts (callbacks_of g.M.Module g.M.State.PartialEq.eq) inner.cell c.args.port c.args.entry c.args.content (posted_as (Err c.in-Err.refused))) c.post.new.self.cell) c.self.view_is
     (called (Posts (callbacks_of g.M.Module g.M.State.PartialEq.eq) c.self.inside.cell.cell c.args.port c.args.entry c.args.content (posted_as (Err c.in-Err.refused))) c.self.inside.cell c.post.new.self c.in-Err.ensures.does)
+
+-- the port is open in the cell, before and behind the post, and its number is not 0
+pub post-requires : goal.post-requires
+post-requires g c = subst (λ (inner : InnerState _ _ _ _). IsOpen c.args.port inner.cell) (sym c.self.view_is) c.requires.open
+
+pub count_for-count-requires : goal.count_for-count-requires
+count_for-count-requires g c =
+    let open_at = subst (λ (inner : InnerState _ _ _ _). IsOpen c.args.port inner.cell) (sym c.self.view_is) c.requires.open in
+    (open_at.0, subst (λ (n : ℕ). c.args.port ≤ n) (sym c.in-Ok.ensures.ports) open_at.1)
+
+pub overflow_sub-port : goal.overflow_sub-port
+overflow_sub-port g c = c.requires.open.0
+
+-- the machine's endpoint is of the counter, and the port's is what it is
+pub add_post-requires-clause-counter : goal.add_post-requires-clause-counter
+add_post-requires-clause-counter g c =
+    let found = found_at c.args.self.now c.self.inside.cell.cell c.self.inside.ends.items c.args.port c.args.counter.now c.index_mut-end.result.now c.self.view_is c.self.invariant
+    c.requires.open c.requires.end c.index_mut-end.ensures.value in
+    found.of_counter
+
+pub follow-requires-clause-part : goal.follow-requires-clause-part
+follow-requires-clause-part g c = c.requires.mine.1
+
+-- a post that is refused changes nothing
+pub invariant_of-self-in-Err-1 : goal.invariant_of-self-in-Err-1
+invariant_of-self-in-Err-1 g c =
+    inner_again c.self.inside.cell.cell c.post.new.self.cell c.self.inside.ends.items c.self.inside.ends.items
+    (ap (λ state. state.cell) c.in-Err.ensures.unchanged) refl c.self.invariant
+
+pub returns-in-Err-clause-same : goal.returns-in-Err-clause-same
+returns-in-Err-clause-same g c = ap (λ (inner : InnerState _ _ _ _). counters_of inner.ends) c.self.view_is
+
+pub returns-in-Err-clause-unchanged : goal.returns-in-Err-clause-unchanged
+returns-in-Err-clause-unchanged g c = (
+  same_inner c.self.inside.cell.cell c.post.new.self.cell c.self.inside.ends.items c.self.inside.ends.items c.args.self.now
+      (ap (λ state. state.cell) c.in-Err.ensures.unchanged) refl c.self.view_is,
+  refl,
+)
+
+pub returns-in-Err-clause-returned : goal.returns-in-Err-clause-returned
+returns-in-Err-clause-returned g c = c.in-Err.ensures.returned
