@@ -9,6 +9,7 @@ pub mod RefusedLemmas
 pub mod WentLemmas
 pub mod CommandLemmas
 pub mod PoolLemmas
+pub mod WorkerSteps
 pub mod BalanceLemmas
 pub mod PlayLemmas
 pub mod OpeningLemmas

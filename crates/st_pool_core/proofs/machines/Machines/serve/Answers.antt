@@ -1,4 +1,4 @@
-use Rattle.std.proofs.Common.{refl, sym, ◌∙◌}
+use Rattle.std.proofs.Common.{arith, refl, sym, ◌∙◌}
 use Rattle.st_pool_core.proofs.MachineLemmas.{place_is, place_within, machine_at, changed_there, no_place, ids_stay}
 use Rattle.st_pool_core.proofs.machines.Machines.serve.Goals as goal
 
@@ -25,3 +25,23 @@ returns-clause-served g c =
       token = c.has_token-keeps.ensures;
       others = changed_there c.args.id c.self.inside.all.items c.in_ok-place.place _ c.index_mut-machine.result.now c.serve.new.self there c.index_mut-machine.ensures.value refl;
     })
+
+-- the machine is there
+pub index_mut-machine-requires : goal.index_mut-machine-requires
+index_mut-machine-requires g c =
+    let there = place_is c.args.id c.self.inside.all.items c.in_ok-place.place (rw (← c.self.view_is) at (sym c.place_of.ensures.place ∙ c.in_ok-place.was)) in
+    let within = place_within c.args.id c.self.inside.all.items c.in_ok-place.place there in
+    omega (arith, c.self.inside.all.ok, within)
+
+-- the rest is what the calls say
+pub serve-requires : goal.serve-requires
+serve-requires g c κs = λ within. within
+
+pub place_of-requires : goal.place_of-requires
+place_of-requires g c κs = λ within. within
+
+pub returns-in_err-place-clause-served : goal.returns-in_err-place-clause-served
+returns-in_err-place-clause-served g c = rw c.from_residual.ensures tt
+
+pub returns-clause-missing : goal.returns-clause-missing
+returns-clause-missing g c = tt

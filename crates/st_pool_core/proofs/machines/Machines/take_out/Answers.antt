@@ -1,4 +1,4 @@
-use Rattle.std.proofs.Common.{refl, sym, ◌∙◌}
+use Rattle.std.proofs.Common.{arith, refl, sym, ◌∙◌}
 use Rattle.st_core.specs.Callbacks.{callbacks_of}
 use Rattle.st_answers.specs.declared.command.Command.TheVariants as command
 use Rattle.st_scheduled.specs.Answered.{taken_out_as}
@@ -29,3 +29,23 @@ returns-clause-told g c =
       tells = c.take_out.ensures.told;
       others = changed_there c.args.id c.self.inside.all.items c.in_ok-place.place _ c.index_mut-machine.result.now c.take_out.new.self there c.index_mut-machine.ensures.value refl;
     })
+
+-- the machine is there
+pub index_mut-machine-requires : goal.index_mut-machine-requires
+index_mut-machine-requires g c =
+    let there = place_is c.args.id c.self.inside.all.items c.in_ok-place.place (rw (← c.self.view_is) at (sym c.place_of.ensures.place ∙ c.in_ok-place.was)) in
+    let within = place_within c.args.id c.self.inside.all.items c.in_ok-place.place there in
+    omega (arith, c.self.inside.all.ok, within)
+
+-- the rest is what the calls say
+pub take_out-requires : goal.take_out-requires
+take_out-requires g c κs = λ within. within
+
+pub place_of-requires : goal.place_of-requires
+place_of-requires g c κs = λ within. within
+
+pub returns-in_err-place-clause-told : goal.returns-in_err-place-clause-told
+returns-in_err-place-clause-told g c = rw c.from_residual.ensures tt
+
+pub returns-clause-missing : goal.returns-clause-missing
+returns-clause-missing g c = tt
