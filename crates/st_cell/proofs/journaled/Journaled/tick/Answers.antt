@@ -1,14 +1,14 @@
-use Rattle.std.proofs.Common.{sym, ap, ◌∙◌, arith}
+use Rattle.std.proofs.Common.{sym, ap, ◌∙◌}
 use Rattle.st_answers.specs.declared.command.Command.TheVariants as command
 use Rattle.st_core.specs.Callbacks.{callbacks_of}
 use Rattle.st_scheduled.specs.Answered.{ticked_as}
 use Rattle.st_scheduled.proofs.LeftStates.{tick_ended}
 use Rattle.st_cell.specs.declared.source.Source.TheVariants as source
-use Rattle.st_cell.proofs.CallLemmas.{got_places}
-use Rattle.st_cell.proofs.TellingLemmas.{room_told, told_untaken, told_unprepared, room_more, places_got}
+use Rattle.st_cell.proofs.TellingLemmas.{room_told, told_untaken, told_unprepared, room_more}
 use Rattle.st_cell.proofs.journaled.Journaled.tick.Goals as goal
 
--- What becomes of a tick that is made has no answer here: one would name the call, and refuse a body without it for that alone.
+-- What becomes of a tick that is made has no answer here, and neither has its entry's place:
+-- one would name the call, and refuse a body without it for that alone.
 
 -- a tick that would not be counted has no entry
 pub returns-then-not-takes_tick-clause-does : goal.returns-then-not-takes_tick-clause-does
@@ -29,10 +29,3 @@ returns-then-is_err-clause-does g c =
 
 pub returns-then-is_err-clause-room : goal.returns-then-is_err-clause-room
 returns-then-is_err-clause-room g c = room_more c.args.self.now c.make_room.new.self c.make_room.ensures.same c.make_room.ensures.more
-
--- there are two places, one for this entry
-pub write-requires : goal.write-requires
-write-requires g c =
-    let got = got_places _ c.make_room.result (sym c.is_err.ensures.value ∙ c.if-is_err.false) c.make_room.ensures.room in
-    let enough = places_got c.args.self.now c.make_room.new.self _ c.self-2.view_is c.make_room.ensures.same got in
-    omega (arith, enough)
