@@ -33,7 +33,7 @@ use Rattle.st_answers.specs.declared.done.Done.{Done}
 use Rattle.st_core.specs.declared.gathered.Gathered.{Gathered}
 use Rattle.st_core.specs.Choice.{next_event_of}
 use Rattle.st_core.specs.Stop.{unless_ended}
-use Rattle.st_core.specs.Transition.{with_moment, with_called, with_settled, has_numbers, report_of, unless_refused, went_on, stopped, concluded, transition_of, turn_running, turn_of}
+use Rattle.st_core.specs.Transition.{with_moment, with_called, with_settled, has_numbers, report_of, left_by, unless_refused, went_on, stopped, concluded, transition_of, turn_running, turn_of}
 use Rattle.st_answers.specs.declared.entry.Entry.{Entry}
 use Rattle.st_core.specs.Post.{post_of, post_running, post_refused}
 use Rattle.st_answers.specs.declared.answer.Answer.TheVariants as answer
@@ -124,10 +124,15 @@ pub meets_same : {A T : Type 0} (takes : A → Bool) (without answer : A) (old n
 meets_same takes without answer old new same meets = rw same meets
 
 -- what a turn on an event came to, where that is known
-pub told_as : {S D C : Type 0} (number : ℕ) (old new : MachineState S D C) (gathered : Gathered S) (result known : Result Done Refusal) (definition : Result (Turned S) Refusal × MachineState S D C)
+pub told_as : {M S D C : Type 0} (number : ℕ) (old new : Machine M S D C) (gathered : Gathered S) (result known : Result Done Refusal) (definition : Result (Turned S) Refusal × MachineState S D C)
     → result ≡ known → TurnsTo number old new gathered result definition
-    → Meets turn_takes_memory turn_without_memory (turned_with number old.state new.state gathered known) old new definition
-told_as number old new gathered result known definition same turns = rw (← same) turns
+    → Meets turn_takes_memory turn_without_memory (turned_with number old.machine.state new.machine.state gathered known) old.machine new.machine definition
+told_as number old new gathered result known definition same turns = rw (← same) turns.1
+
+-- where two definitions are the same, a turn that comes to one comes to the other
+pub turns_same : {M S D C : Type 0} (number : ℕ) (old new : Machine M S D C) (gathered : Gathered S) (result : Result Done Refusal) {definition other : Result (Turned S) Refusal × MachineState S D C}
+    → other ≡ definition → TurnsTo number old new gathered result definition → TurnsTo number old new gathered result other
+turns_same number old new gathered result same turns = rw same turns
 
 -- a turn that meets its definition, of a machine whose module stays, is what the command does
 pub turn_does : {M S D C : Type 0} (callbacks : M → Callbacks S D C) (old new : Machine M S D C) (now : ℕ) (result : Result (Turned S) Refusal)
@@ -137,6 +142,17 @@ turn_does {M} {S} {D} {C} callbacks old new now result same (inl met) =
     inl (ap answer.Turn met.0, machine_same new old.module_ (turn_of (callbacks old.module_) old.machine now).1 same met.1)
 turn_does {M} {S} {D} {C} callbacks old new now result same (inr none) =
     inr (none.0, ap answer.Turn none.1, machine_same new old.module_ old.machine same none.2)
+
+-- a turn that is refused leaves all
+pub turn_keeps : {M S D C : Type 0} (old new : Machine M S D C) (number : ℕ) (gathered : Gathered S) (result : Result Done Refusal) (refusal : Refusal) (done : Result (Turned S) Refusal × MachineState S D C)
+    → result ≡ Err refusal → TurnsTo number old new gathered result (unless_refused old.machine done) → new ≡ old
+turn_keeps {M} {S} {D} {C} old new number gathered result refusal done is_refused turns =
+    machine_same new old.module_ old.machine turns.0 (left (told_as number old new gathered result (Err refusal) (unless_refused old.machine done) is_refused turns))
+  where
+    left : Meets turn_takes_memory turn_without_memory (turned_with number old.machine.state new.machine.state gathered (Err refusal)) old.machine new.machine (unless_refused old.machine done)
+        → new.machine ≡ old.machine
+    left (inl met) = met.1 ∙ ap (λ (answer : Result (Turned S) Refusal). left_by answer old.machine done.1) (sym met.0)
+    left (inr none) = none.2
 
 -- new data stand in the place of data that stand in the place of others
 pub or_old_twice : {D : Type 0} (held : D) (new before : Option D) → or_old held (option_or new before) ≡ or_old (or_old held before) new

@@ -10,6 +10,7 @@ use Rattle.st_answers.specs.declared.call.Call.{Call}
 use Rattle.st_core.specs.declared.course.Course.{Course}
 use Rattle.st_core.specs.declared.gathered.Gathered.{Gathered}
 use Rattle.st_core.specs.declared.machine_state.MachineState.{MachineState}
+use Rattle.st_core.specs.MachineState.{Machine}
 use Rattle.st_core.specs.Callbacks.{Called, or_old}
 use Rattle.st_core.specs.Run.{Meets, turn_takes_memory, turn_without_memory}
 
@@ -48,8 +49,9 @@ pub record ComesTo {S D C : Type 0} (course : Course S) (held : D) (made : List 
   pub changed : called.changed ≡ course.changed
   pub actions : called.actions ≡ asked
 
--- a turn on an event ended so, or was refused: its answer and the machine after it are those of the definition; or memory
--- was wanted, and nothing changed
-abbrev pub TurnsTo : {S D C : Type 0} → ℕ → MachineState S D C → MachineState S D C → Gathered S → Result Done Refusal → Result (Turned S) Refusal × MachineState S D C → Type 0
+-- a turn on an event ended so, or was refused: the module stays, and its answer and the machine after it are those of the
+-- definition; or memory was wanted, and nothing changed
+abbrev pub TurnsTo : {M S D C : Type 0} → ℕ → Machine M S D C → Machine M S D C → Gathered S → Result Done Refusal → Result (Turned S) Refusal × MachineState S D C → Type 0
 TurnsTo number old new gathered result definition =
-    Meets turn_takes_memory turn_without_memory (turned_with number old.state new.state gathered result) old new definition
+    (new.module_ ≡ old.module_)
+    × Meets turn_takes_memory turn_without_memory (turned_with number old.machine.state new.machine.state gathered result) old.machine new.machine definition

@@ -1,5 +1,5 @@
 //! The machine goes on after an event: what the callbacks came to is done. What can fail is done before anything changes.
-ghost use Rattle.std.specs.Prelude.{◌≡◌, [], ◌<◌, ◌^◌, Some, OnErr};
+ghost use Rattle.std.specs.Prelude.{◌≡◌, [], ◌<◌, ◌^◌, Some};
 ghost use Rattle.std.specs.Option.{option_map};
 ghost use Rattle.st_core.specs.declared.gathered.Gathered.{Gathered};
 ghost use Rattle.st_core.specs.Callbacks.{Called};
@@ -39,13 +39,10 @@ impl<M: Module> Core<M> {
         requires moment { course.now < 2 ^ 63 }
         requires number_is { option_map (λ event. event.number) (next_event_of self.old.machine) ≡ Some course.number }
         requires empty { IsEmpty gathered.old }
-        ensures step { (called : Called M.State M.Data M.Content)
+        ensures { (called : Called M.State M.Data M.Content)
             → ComesTo course self.old.machine.data gathered.old.calls «data» actions.old called
-            → TurnsTo course.number self.old.machine self.new.machine gathered.new result
+            → TurnsTo course.number self.old self.new gathered.new result
             (unless_refused self.old.machine (went_on (with_moment self.old.machine course.now) course.number called)) }
-        ensures unchanged_module { self.new.module_ ≡ self.old.module_ }
-
-        ensures unchanged { OnErr result (self.new ≡ self.old) }
     {
         if actions.is_empty() {
             self.finish(course, data)
@@ -58,13 +55,10 @@ impl<M: Module> Core<M> {
     fn finish(&mut self, course: Course<M::State>, data: Option<M::Data>) -> Result<Done, Refusal>
         requires moment { course.now < 2 ^ 63 }
         requires number_is { option_map (λ event. event.number) (next_event_of self.old.machine) ≡ Some course.number }
-        ensures step { (gathered : Gathered M.State) → IsEmpty gathered → (called : Called M.State M.Data M.Content)
+        ensures { (gathered : Gathered M.State) → IsEmpty gathered → (called : Called M.State M.Data M.Content)
             → ComesTo course self.old.machine.data gathered.calls «data» [] called
-            → TurnsTo course.number self.old.machine self.new.machine gathered result
+            → TurnsTo course.number self.old self.new gathered result
             (unless_refused self.old.machine (went_on (with_moment self.old.machine course.now) course.number called)) }
-        ensures unchanged_module { self.new.module_ ≡ self.old.module_ }
-
-        ensures unchanged { OnErr result (self.new ≡ self.old) }
     {
         self.agenda.stage(1)?;
         // Nothing fails from here on.
@@ -86,13 +80,10 @@ impl<M: Module> Core<M> {
         requires moment { course.now < 2 ^ 63 }
         requires number_is { option_map (λ event. event.number) (next_event_of self.old.machine) ≡ Some course.number }
         requires empty { IsEmpty gathered.old }
-        ensures step { (called : Called M.State M.Data M.Content)
+        ensures { (called : Called M.State M.Data M.Content)
             → ComesTo course self.old.machine.data gathered.old.calls «data» actions.old called
-            → TurnsTo course.number self.old.machine self.new.machine gathered.new result
+            → TurnsTo course.number self.old self.new gathered.new result
             (unless_refused self.old.machine (went_on (with_moment self.old.machine course.now) course.number called)) }
-        ensures unchanged_module { self.new.module_ ≡ self.old.module_ }
-
-        ensures unchanged { OnErr result (self.new ≡ self.old) }
     {
         let counts = match prepare(
             self.alloc,

@@ -89,14 +89,11 @@ impl<M: Module> Core<M> {
         requires moment { now < 2 ^ 63 }
         requires number_is { option_map (λ event. event.number) (next_event_of self.old.machine) ≡ Some number }
         requires empty { IsEmpty gathered.old }
-        ensures step { (handled called : Called M.State M.Data M.Content)
+        ensures { (handled called : Called M.State M.Data M.Content)
             → handled ≡ called_with M.State.eq gathered.old.calls self.old.machine.state self.old.machine.data outcome
             → called ≡ (if is_entered (callbacks_of M.Module M.State.eq self.old.module_) self.old.machine.state outcome then entered_by (callbacks_of M.Module M.State.eq self.old.module_) self.old.machine.state handled else handled)
-            → TurnsTo number self.old.machine self.new.machine gathered.new result
+            → TurnsTo number self.old self.new gathered.new result
             (unless_refused self.old.machine (concluded (callbacks_of M.Module M.State.eq self.old.module_) (with_moment self.old.machine now) number called called.reason)) }
-        ensures unchanged_module { self.new.module_ ≡ self.old.module_ }
-
-        ensures unchanged { OnErr result (self.new ≡ self.old) }
     {
         let mut course = Course {
             now,
@@ -145,14 +142,11 @@ impl<M: Module> Core<M> {
         requires moment { course.now < 2 ^ 63 }
         requires number_is { option_map (λ event. event.number) (next_event_of self.old.machine) ≡ Some course.number }
         requires empty { IsEmpty gathered.old }
-        ensures step { (handled called : Called M.State M.Data M.Content)
+        ensures { (handled called : Called M.State M.Data M.Content)
             → ComesTo course self.old.machine.data gathered.old.calls «data» actions handled → handled.reason ≡ None
             → called ≡ (if (callbacks_of M.Module M.State.eq self.old.module_).enters_is && (course.changed || course.repeats) then entered_by (callbacks_of M.Module M.State.eq self.old.module_) self.old.machine.state handled else handled)
-            → TurnsTo course.number self.old.machine self.new.machine gathered.new result
+            → TurnsTo course.number self.old self.new gathered.new result
             (unless_refused self.old.machine (concluded (callbacks_of M.Module M.State.eq self.old.module_) (with_moment self.old.machine course.now) course.number called called.reason)) }
-        ensures unchanged_module { self.new.module_ ≡ self.old.module_ }
-
-        ensures unchanged { OnErr result (self.new ≡ self.old) }
     {
         if is_entered(&self.module, course.changed, course.repeats) {
             self.enter(course, data, &mut actions, gathered)
@@ -172,14 +166,11 @@ impl<M: Module> Core<M> {
         requires moment { course.now < 2 ^ 63 }
         requires number_is { option_map (λ event. event.number) (next_event_of self.old.machine) ≡ Some course.number }
         requires empty { IsEmpty gathered.old }
-        ensures step { (handled called : Called M.State M.Data M.Content)
+        ensures { (handled called : Called M.State M.Data M.Content)
             → ComesTo course self.old.machine.data gathered.old.calls «data» actions.old handled
             → called ≡ entered_by (callbacks_of M.Module M.State.eq self.old.module_) self.old.machine.state handled
-            → TurnsTo course.number self.old.machine self.new.machine gathered.new result
+            → TurnsTo course.number self.old self.new gathered.new result
             (unless_refused self.old.machine (concluded (callbacks_of M.Module M.State.eq self.old.module_) (with_moment self.old.machine course.now) course.number called called.reason)) }
-        ensures unchanged_module { self.new.module_ ≡ self.old.module_ }
-
-        ensures unchanged { OnErr result (self.new ≡ self.old) }
     {
         let old = self.state;
         let held = or_old(&self.data, &data);
@@ -207,13 +198,10 @@ impl<M: Module> Core<M> {
     ) -> Result<Done, Refusal>
         requires moment { course.now < 2 ^ 63 }
         requires empty { IsEmpty gathered.old }
-        ensures step { (called : Called M.State M.Data M.Content)
+        ensures { (called : Called M.State M.Data M.Content)
             → ComesTo course self.old.machine.data gathered.old.calls «data» actions called
-            → TurnsTo course.number self.old.machine self.new.machine gathered.new result
+            → TurnsTo course.number self.old self.new gathered.new result
             (stopped (callbacks_of M.Module M.State.eq self.old.module_) (with_moment self.old.machine course.now) course.number called reason) }
-        ensures unchanged_module { self.new.module_ ≡ self.old.module_ }
-
-        ensures unchanged { OnErr result (self.new ≡ self.old) }
     {
         self.stop_at(course, data, &mut actions, reason, gathered)
     }
@@ -229,13 +217,10 @@ impl<M: Module> Core<M> {
     ) -> Result<Done, Refusal>
         requires moment { course.now < 2 ^ 63 }
         requires empty { IsEmpty gathered.old }
-        ensures step { (called : Called M.State M.Data M.Content)
+        ensures { (called : Called M.State M.Data M.Content)
             → ComesTo course self.old.machine.data gathered.old.calls «data» actions.old called
-            → TurnsTo course.number self.old.machine self.new.machine gathered.new result
+            → TurnsTo course.number self.old self.new gathered.new result
             (stopped (callbacks_of M.Module M.State.eq self.old.module_) (with_moment self.old.machine course.now) course.number called reason) }
-        ensures unchanged_module { self.new.module_ ≡ self.old.module_ }
-
-        ensures unchanged { OnErr result (self.new ≡ self.old) }
     {
         let state = course.after;
         let held = or_old(&self.data, &data);

@@ -19,8 +19,8 @@ use Rattle.st_core.proofs.TransitionLemmas.{went_on_is, went_on_refused, told_is
 use Rattle.st_core.proofs.engine.Core.carry_out.Goals as goal
 
 -- the answer and what is left are the definition's
-pub returns-clause-step : goal.returns-clause-step
-returns-clause-step g c called comes =
+pub returns : goal.returns
+returns g c called comes =
     let machine = c.args.self.now.machine in
     let actions = c.args.actions.now in
     let old = c.self.inside in
@@ -47,21 +47,25 @@ returns-clause-step g c called comes =
     let told : c.prepare.new.gathered.sent ≡ sent_by machine called.actions =
     rw (comes.actions, ← c.self.view_is) (c.in-Ok.ensures.sent ∙ sym (numbers_sent old.id old.outgoing.outbox.next_number (sends_of actions))) in
     let inserted : c.prepare.new.gathered.inserted ≡ inserted_by machine called.actions = rw (comes.actions, ← c.self.view_is) c.in-Ok.ensures.inserted in
-    let set : c.prepare.new.gathered.set ≡ decisions_of (settings_of called.actions) = rw comes.actions c.in-Ok.ensures.set in
-    went_on_is machine (with_moment machine c.args.course.now) _ c.args.course.number called enough
-    (told_is (Some c.args.course.number) machine.state (c.done_by.ensures ∙ ap done_by postponed) (c.prepare.ensures.same_calls ∙ sym comes.calls) (sym comes.state) replied inserted set told)
-    (machine_is (rw (← c.self.view_is) refl) (sym comes.state)
-    (rw (c.replace.ensures, comes.data, ← c.self.view_is) refl)
-    (settled ∙ settled_is c.args.course.number latest same postponed (sym comes.changed) to_insert to_set)
-    (rw (c.answer_each.ensures.answered, to_reply, ← c.self.view_is) refl)
-    sent latest (rw (← c.self.view_is) refl))
+    let set : c.prepare.new.gathered.set ≡ decisions_of (settings_of called.actions) = rw comes.actions c.in-Ok.ensures.set in (
+      rw (← c.self.view_is) refl,
+      went_on_is machine (with_moment machine c.args.course.now) _ c.args.course.number called enough
+          (told_is (Some c.args.course.number) machine.state (c.done_by.ensures ∙ ap done_by postponed) (c.prepare.ensures.same_calls ∙ sym comes.calls) (sym comes.state) replied inserted set told)
+          (machine_is (rw (← c.self.view_is) refl) (sym comes.state)
+          (rw (c.replace.ensures, comes.data, ← c.self.view_is) refl)
+          (settled ∙ settled_is c.args.course.number latest same postponed (sym comes.changed) to_insert to_set)
+          (rw (c.answer_each.ensures.answered, to_reply, ← c.self.view_is) refl)
+          sent latest (rw (← c.self.view_is) refl)),
+    )
 
 -- numbers or memory are wanting
-pub returns-in-Err-clause-step : goal.returns-in-Err-clause-step
-returns-in-Err-clause-step g c called comes =
-    let machine = c.args.self.now.machine in
-    went_on_refused machine (with_moment machine c.args.course.now) _ c.args.course.number called c.in-Err.refusal
-    (rw (c.prepare.ensures.same_schedule, c.prepare.ensures.same_outbox, ← c.self.view_is) refl) (rw (comes.actions, comes.changed, ← c.self.view_is) c.in-Err.ensures.refusals)
+pub returns-in-Err : goal.returns-in-Err
+returns-in-Err g c called comes =
+    let machine = c.args.self.now.machine in (
+      rw (← c.self.view_is) refl,
+      went_on_refused machine (with_moment machine c.args.course.now) _ c.args.course.number called c.in-Err.refusal
+          (rw (c.prepare.ensures.same_schedule, c.prepare.ensures.same_outbox, ← c.self.view_is) refl) (rw (comes.actions, comes.changed, ← c.self.view_is) c.in-Err.ensures.refusals),
+    )
 
 pub answer_each-requires : goal.answer_each-requires
 answer_each-requires g c =

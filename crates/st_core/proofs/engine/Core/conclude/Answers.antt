@@ -3,21 +3,20 @@ use Rattle.std.proofs.lemmas.Result.{err_from_is_err_and}
 use Rattle.st_events.specs.declared.outcome.Outcome.TheVariants as outcome
 use Rattle.st_core.specs.declared.course.Course.{Course}
 use Rattle.st_core.specs.Callbacks.{callbacks_of, called_with, differs, entered_by, is_entered}
-use Rattle.st_core.specs.Run.{turn_takes_memory, turn_without_memory}
 use Rattle.st_core.specs.Transition.{with_moment}
-use Rattle.st_core.proofs.TransitionLemmas.{comes_of, concluded_takes_memory, enters_by, enters_not, meets_same, stops}
+use Rattle.st_core.proofs.TransitionLemmas.{comes_of, concluded_takes_memory, enters_by, enters_not, stops, turns_same}
 use Rattle.st_core.proofs.engine.Core.conclude.Goals as goal
 
 -- the replies as actions find no memory before anything changes
-pub returns-in_err-actions-in-StopAndReply-clause-step : goal.returns-in_err-actions-in-StopAndReply-clause-step
-returns-in_err-actions-in-StopAndReply-clause-step g c handled called handled_is called_is =
+pub returns-in_err-actions-in-StopAndReply : goal.returns-in_err-actions-in-StopAndReply
+returns-in_err-actions-in-StopAndReply g c handled called handled_is called_is =
     let callbacks = callbacks_of g.M.Module g.M.State.PartialEq.eq c.args.self.now.module_ in
     let machine = c.args.self.now.machine in
     let told = err_from_is_err_and c.from_residual.result c.from_residual.ensures.1 in
-    inr (concluded_takes_memory callbacks (with_moment machine c.args.now) c.args.number called called.reason, rw (told.1, told.2) refl, refl)
+    (refl, inr (concluded_takes_memory callbacks (with_moment machine c.args.now) c.args.number called called.reason, rw (told.1, told.2) refl, refl))
 
-pub returns-in-NextState-clause-step : goal.returns-in-NextState-clause-step
-returns-in-NextState-clause-step g c handled called handled_is called_is =
+pub returns-in-NextState : goal.returns-in-NextState
+returns-in-NextState g c handled called handled_is called_is =
     let callbacks = callbacks_of g.M.Module g.M.State.PartialEq.eq c.args.self.now.module_ in
     let machine = c.args.self.now.machine in
     let calls = c.args.gathered.now.calls in
@@ -26,11 +25,11 @@ returns-in-NextState-clause-step g c handled called handled_is called_is =
     let given = handled_is ∙ ap (λ said. called_with callbacks.same_state calls machine.state machine.data said) c.in-NextState.is in
     let entered = called_is ∙ ap (λ said. if is_entered callbacks machine.state said then entered_by callbacks machine.state handled else handled) c.in-NextState.is in
     let changed : differs callbacks.same_state machine.state (Some c.in-NextState.after) ≡ c.ne.result = rw (c.ne.ensures, ← c.self.view_is) refl in
-    c.proceed.ensures.step handled called (comes_of callbacks machine calls answered course handled called given refl changed) (rw given refl)
+    c.proceed.ensures handled called (comes_of callbacks machine calls answered course handled called given refl changed) (rw given refl)
     (enters_by callbacks machine calls answered course handled called changed refl entered)
 
-pub returns-in-KeepState-clause-step : goal.returns-in-KeepState-clause-step
-returns-in-KeepState-clause-step g c handled called handled_is called_is =
+pub returns-in-KeepState : goal.returns-in-KeepState
+returns-in-KeepState g c handled called handled_is called_is =
     let callbacks = callbacks_of g.M.Module g.M.State.PartialEq.eq c.args.self.now.module_ in
     let machine = c.args.self.now.machine in
     let calls = c.args.gathered.now.calls in
@@ -38,11 +37,11 @@ returns-in-KeepState-clause-step g c handled called handled_is called_is =
     let course : Course _ = record { now = c.args.now; number = c.args.number; after = c.self.inside.state; changed = false; repeats = false } in
     let given = handled_is ∙ ap (λ said. called_with callbacks.same_state calls machine.state machine.data said) c.in-KeepState.is in
     let entered = called_is ∙ ap (λ said. if is_entered callbacks machine.state said then entered_by callbacks machine.state handled else handled) c.in-KeepState.is in
-    c.proceed-in-KeepState.ensures.step handled called (comes_of callbacks machine calls answered course handled called given (rw (← c.self.view_is) refl) refl) (rw given refl)
+    c.proceed-in-KeepState.ensures handled called (comes_of callbacks machine calls answered course handled called given (rw (← c.self.view_is) refl) refl) (rw given refl)
     (enters_by callbacks machine calls answered course handled called refl refl entered)
 
-pub returns-in-KeepStateAndData-clause-step : goal.returns-in-KeepStateAndData-clause-step
-returns-in-KeepStateAndData-clause-step g c handled called handled_is called_is =
+pub returns-in-KeepStateAndData : goal.returns-in-KeepStateAndData
+returns-in-KeepStateAndData g c handled called handled_is called_is =
     let callbacks = callbacks_of g.M.Module g.M.State.PartialEq.eq c.args.self.now.module_ in
     let machine = c.args.self.now.machine in
     let calls = c.args.gathered.now.calls in
@@ -50,11 +49,11 @@ returns-in-KeepStateAndData-clause-step g c handled called handled_is called_is 
     let course : Course _ = record { now = c.args.now; number = c.args.number; after = c.self.inside.state; changed = false; repeats = false } in
     let given = handled_is ∙ ap (λ said. called_with callbacks.same_state calls machine.state machine.data said) c.in-KeepStateAndData.is in
     let entered = called_is ∙ ap (λ said. if is_entered callbacks machine.state said then entered_by callbacks machine.state handled else handled) c.in-KeepStateAndData.is in
-    c.proceed-in-KeepStateAndData.ensures.step handled called (comes_of callbacks machine calls answered course handled called given (rw (← c.self.view_is) refl) refl) (rw given refl)
+    c.proceed-in-KeepStateAndData.ensures handled called (comes_of callbacks machine calls answered course handled called given (rw (← c.self.view_is) refl) refl) (rw given refl)
     (enters_by callbacks machine calls answered course handled called refl refl entered)
 
-pub returns-in-RepeatState-clause-step : goal.returns-in-RepeatState-clause-step
-returns-in-RepeatState-clause-step g c handled called handled_is called_is =
+pub returns-in-RepeatState : goal.returns-in-RepeatState
+returns-in-RepeatState g c handled called handled_is called_is =
     let callbacks = callbacks_of g.M.Module g.M.State.PartialEq.eq c.args.self.now.module_ in
     let machine = c.args.self.now.machine in
     let calls = c.args.gathered.now.calls in
@@ -62,11 +61,11 @@ returns-in-RepeatState-clause-step g c handled called handled_is called_is =
     let course : Course _ = record { now = c.args.now; number = c.args.number; after = c.self.inside.state; changed = false; repeats = true } in
     let given = handled_is ∙ ap (λ said. called_with callbacks.same_state calls machine.state machine.data said) c.in-RepeatState.is in
     let entered = called_is ∙ ap (λ said. if is_entered callbacks machine.state said then entered_by callbacks machine.state handled else handled) c.in-RepeatState.is in
-    c.proceed-in-RepeatState.ensures.step handled called (comes_of callbacks machine calls answered course handled called given (rw (← c.self.view_is) refl) refl) (rw given refl)
+    c.proceed-in-RepeatState.ensures handled called (comes_of callbacks machine calls answered course handled called given (rw (← c.self.view_is) refl) refl) (rw given refl)
     (enters_by callbacks machine calls answered course handled called refl refl entered)
 
-pub returns-in-RepeatStateAndData-clause-step : goal.returns-in-RepeatStateAndData-clause-step
-returns-in-RepeatStateAndData-clause-step g c handled called handled_is called_is =
+pub returns-in-RepeatStateAndData : goal.returns-in-RepeatStateAndData
+returns-in-RepeatStateAndData g c handled called handled_is called_is =
     let callbacks = callbacks_of g.M.Module g.M.State.PartialEq.eq c.args.self.now.module_ in
     let machine = c.args.self.now.machine in
     let calls = c.args.gathered.now.calls in
@@ -74,11 +73,11 @@ returns-in-RepeatStateAndData-clause-step g c handled called handled_is called_i
     let course : Course _ = record { now = c.args.now; number = c.args.number; after = c.self.inside.state; changed = false; repeats = true } in
     let given = handled_is ∙ ap (λ said. called_with callbacks.same_state calls machine.state machine.data said) c.in-RepeatStateAndData.is in
     let entered = called_is ∙ ap (λ said. if is_entered callbacks machine.state said then entered_by callbacks machine.state handled else handled) c.in-RepeatStateAndData.is in
-    c.proceed-in-RepeatStateAndData.ensures.step handled called (comes_of callbacks machine calls answered course handled called given (rw (← c.self.view_is) refl) refl) (rw given refl)
+    c.proceed-in-RepeatStateAndData.ensures handled called (comes_of callbacks machine calls answered course handled called given (rw (← c.self.view_is) refl) refl) (rw given refl)
     (enters_by callbacks machine calls answered course handled called refl refl entered)
 
-pub returns-in-Stop-clause-step : goal.returns-in-Stop-clause-step
-returns-in-Stop-clause-step g c handled called handled_is called_is =
+pub returns-in-Stop : goal.returns-in-Stop
+returns-in-Stop g c handled called handled_is called_is =
     let callbacks = callbacks_of g.M.Module g.M.State.PartialEq.eq c.args.self.now.module_ in
     let machine = c.args.self.now.machine in
     let calls = c.args.gathered.now.calls in
@@ -87,8 +86,8 @@ returns-in-Stop-clause-step g c handled called handled_is called_is =
     let same : called ≡ handled = enters_not callbacks machine (outcome.Stop c.in-Stop.reason c.in-Stop.data) handled called refl refl entered in
     let some : handled.reason ≡ Some c.in-Stop.reason = rw given refl in
     rw same
-    (meets_same turn_takes_memory turn_without_memory _ _ _ (stops callbacks machine (with_moment machine c.args.now) c.args.number handled c.in-Stop.reason some)
-    (c.stop_by.ensures.step handled (record {
+    (turns_same _ _ _ c.stop_by.new.gathered _ (stops callbacks machine (with_moment machine c.args.now) c.args.number handled c.in-Stop.reason some)
+    (c.stop_by.ensures handled (record {
       calls = rw given refl;
       state = rw (given, ← c.self.view_is) refl;
       «data» = rw given refl;
@@ -96,8 +95,8 @@ returns-in-Stop-clause-step g c handled called handled_is called_is =
       actions = rw (given, c.new-actions.ensures) refl;
     })))
 
-pub returns-in_ok-actions-in-StopAndReply-clause-step : goal.returns-in_ok-actions-in-StopAndReply-clause-step
-returns-in_ok-actions-in-StopAndReply-clause-step g c handled called handled_is called_is =
+pub returns-in_ok-actions-in-StopAndReply : goal.returns-in_ok-actions-in-StopAndReply
+returns-in_ok-actions-in-StopAndReply g c handled called handled_is called_is =
     let callbacks = callbacks_of g.M.Module g.M.State.PartialEq.eq c.args.self.now.module_ in
     let machine = c.args.self.now.machine in
     let calls = c.args.gathered.now.calls in
@@ -106,8 +105,8 @@ returns-in_ok-actions-in-StopAndReply-clause-step g c handled called handled_is 
     let same : called ≡ handled = enters_not callbacks machine (outcome.StopAndReply c.in-StopAndReply.reason c.in-StopAndReply.replies c.in-StopAndReply.data) handled called refl refl entered in
     let some : handled.reason ≡ Some c.in-StopAndReply.reason = rw given refl in
     rw same
-    (meets_same turn_takes_memory turn_without_memory _ _ _ (stops callbacks machine (with_moment machine c.args.now) c.args.number handled c.in-StopAndReply.reason some)
-    (c.stop_by-in-StopAndReply.ensures.step handled (record {
+    (turns_same _ _ _ c.stop_by-in-StopAndReply.new.gathered _ (stops callbacks machine (with_moment machine c.args.now) c.args.number handled c.in-StopAndReply.reason some)
+    (c.stop_by-in-StopAndReply.ensures handled (record {
       calls = rw given refl;
       state = rw (given, ← c.self.view_is) refl;
       «data» = rw given refl;
@@ -143,45 +142,4 @@ stop_by-requires g c = (g.met.M.Module.lawful.actions_fit, (c.requires.moment, c
 pub stop_by-requires-in-StopAndReply : goal.stop_by-requires-in-StopAndReply
 stop_by-requires-in-StopAndReply g c = (g.met.M.Module.lawful.actions_fit, (c.requires.moment, c.requires.empty))
 
--- what is handed on leaves the module, and where it is refused all else
-pub returns-in-NextState-clause-unchanged_module : goal.returns-in-NextState-clause-unchanged_module
-returns-in-NextState-clause-unchanged_module g c = c.proceed.ensures.unchanged_module
-
-pub returns-in-NextState-clause-unchanged : goal.returns-in-NextState-clause-unchanged
-returns-in-NextState-clause-unchanged g c = c.proceed.ensures.unchanged
-
-pub returns-in-KeepState-clause-unchanged_module : goal.returns-in-KeepState-clause-unchanged_module
-returns-in-KeepState-clause-unchanged_module g c = c.proceed-in-KeepState.ensures.unchanged_module
-
-pub returns-in-KeepState-clause-unchanged : goal.returns-in-KeepState-clause-unchanged
-returns-in-KeepState-clause-unchanged g c = c.proceed-in-KeepState.ensures.unchanged
-
-pub returns-in-KeepStateAndData-clause-unchanged_module : goal.returns-in-KeepStateAndData-clause-unchanged_module
-returns-in-KeepStateAndData-clause-unchanged_module g c = c.proceed-in-KeepStateAndData.ensures.unchanged_module
-
-pub returns-in-KeepStateAndData-clause-unchanged : goal.returns-in-KeepStateAndData-clause-unchanged
-returns-in-KeepStateAndData-clause-unchanged g c = c.proceed-in-KeepStateAndData.ensures.unchanged
-
-pub returns-in-RepeatState-clause-unchanged_module : goal.returns-in-RepeatState-clause-unchanged_module
-returns-in-RepeatState-clause-unchanged_module g c = c.proceed-in-RepeatState.ensures.unchanged_module
-
-pub returns-in-RepeatState-clause-unchanged : goal.returns-in-RepeatState-clause-unchanged
-returns-in-RepeatState-clause-unchanged g c = c.proceed-in-RepeatState.ensures.unchanged
-
-pub returns-in-RepeatStateAndData-clause-unchanged_module : goal.returns-in-RepeatStateAndData-clause-unchanged_module
-returns-in-RepeatStateAndData-clause-unchanged_module g c = c.proceed-in-RepeatStateAndData.ensures.unchanged_module
-
-pub returns-in-RepeatStateAndData-clause-unchanged : goal.returns-in-RepeatStateAndData-clause-unchanged
-returns-in-RepeatStateAndData-clause-unchanged g c = c.proceed-in-RepeatStateAndData.ensures.unchanged
-
-pub returns-in-Stop-clause-unchanged_module : goal.returns-in-Stop-clause-unchanged_module
-returns-in-Stop-clause-unchanged_module g c = c.stop_by.ensures.unchanged_module
-
-pub returns-in-Stop-clause-unchanged : goal.returns-in-Stop-clause-unchanged
-returns-in-Stop-clause-unchanged g c = c.stop_by.ensures.unchanged
-
-pub returns-in_ok-actions-in-StopAndReply-clause-unchanged_module : goal.returns-in_ok-actions-in-StopAndReply-clause-unchanged_module
-returns-in_ok-actions-in-StopAndReply-clause-unchanged_module g c = c.stop_by-in-StopAndReply.ensures.unchanged_module
-
-pub returns-in_ok-actions-in-StopAndReply-clause-unchanged : goal.returns-in_ok-actions-in-StopAndReply-clause-unchanged
-returns-in_ok-actions-in-StopAndReply-clause-unchanged g c = c.stop_by-in-StopAndReply.ensures.unchanged
+-- what is handed on leaves the module

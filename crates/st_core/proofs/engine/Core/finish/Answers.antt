@@ -20,8 +20,8 @@ settle-requires g c =
     }
 
 -- the answer and what is left are the definition's
-pub returns-clause-step : goal.returns-clause-step
-returns-clause-step g c gathered empty called comes =
+pub returns : goal.returns
+returns g c gathered empty called comes =
     let machine = c.args.self.now.machine in
     let old = c.self.inside in
     let enough : has_numbers (with_moment machine c.args.course.now) called ≡ true =
@@ -31,13 +31,15 @@ returns-clause-step g c gathered empty called comes =
     let same : c.stage.new.self.schedule ≡ machine.schedule = rw (c.in_ok-stage.ensures.staged, ← c.self.view_is) refl in
     let settled : c.settle.new.self.schedule ≡ settled_in (max machine.latest c.args.course.now) machine.schedule c.args.course.number false called.changed [] [] =
     rw (c.settle.ensures.schedule, same, comes.changed) (sym (settled_nothing (max machine.latest c.args.course.now) machine.schedule c.args.course.number false c.args.course.changed)) in
-    let sent : old.outgoing.outbox ≡ with_sent machine.id machine.outbox [] = rw (← c.self.view_is) (sym (with_sent-nothing old.id old.outgoing.outbox)) in
-    went_on_is machine (with_moment machine c.args.course.now) _ c.args.course.number called enough
-    (rw (empty.replied, empty.inserted, empty.set, empty.sent, comes.calls, comes.state, comes.actions, ← c.self.view_is) refl)
-    (rw comes.actions
-    (machine_is (rw (← c.self.view_is) refl) (sym comes.state)
-    (rw (c.replace.ensures, comes.data, ← c.self.view_is) refl)
-    settled (rw (← c.self.view_is) refl) sent latest (rw (← c.self.view_is) refl)))
+    let sent : old.outgoing.outbox ≡ with_sent machine.id machine.outbox [] = rw (← c.self.view_is) (sym (with_sent-nothing old.id old.outgoing.outbox)) in (
+      rw (← c.self.view_is) refl,
+      went_on_is machine (with_moment machine c.args.course.now) _ c.args.course.number called enough
+          (rw (empty.replied, empty.inserted, empty.set, empty.sent, comes.calls, comes.state, comes.actions, ← c.self.view_is) refl)
+          (rw comes.actions
+          (machine_is (rw (← c.self.view_is) refl) (sym comes.state)
+          (rw (c.replace.ensures, comes.data, ← c.self.view_is) refl)
+          settled (rw (← c.self.view_is) refl) sent latest (rw (← c.self.view_is) refl))),
+    )
 
 -- what is left can come about
 pub invariant_of-self-2 : goal.invariant_of-self-2

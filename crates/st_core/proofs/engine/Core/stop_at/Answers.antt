@@ -1,4 +1,5 @@
-use Rattle.std.proofs.Common.{length, ap, arith}
+use Rattle.std.proofs.Common.{length, refl, ap, inr, arith}
+use Rattle.std.proofs.lemmas.Result.{err_from_is_err_and}
 use Rattle.st_actions.specs.Plan.{replies_of}
 use Rattle.st_core.proofs.AnsweringLemmas.{replies_within}
 use Rattle.st_core.proofs.StateLemmas.{answered_keeps}
@@ -17,3 +18,9 @@ invariant_of-self g c =
     let old = c.self.inside in
     rw (c.answer_all.ensures.answered, c.max-self-inside.ensures)
     (answered_keeps old.id old.agenda.schedule old.requests old.outgoing.outbox old.latest c.args.course.now old.ended (replies_of c.args.actions.now) c.requires.moment c.self.invariant)
+
+-- the list of tags finds no memory before anything changes
+pub returns-in_err-reserve_exact : goal.returns-in_err-reserve_exact
+returns-in_err-reserve_exact g c called comes =
+    let told = err_from_is_err_and c.from_residual-in_err-reserve_exact.result c.from_residual-in_err-reserve_exact.ensures.1 in
+    (refl, inr (refl, rw (told.1, told.2) refl, refl))

@@ -7,7 +7,7 @@ use Rattle.st_core.specs.Gathering.{report_with}
 use Rattle.st_core.specs.Transition.{with_moment, unless_refused, concluded}
 use Rattle.st_core.specs.Run.{turn_takes_memory, turn_without_memory}
 use Rattle.st_core.proofs.LawfulLemmas.{lawful_moment}
-use Rattle.st_core.proofs.TransitionLemmas.{machine_of, turn_wants_memory, turn_is, turn_does, told_as, meets_same}
+use Rattle.st_core.proofs.TransitionLemmas.{machine_of, turn_wants_memory, turn_is, turn_does, turn_keeps, told_as, meets_same}
 use Rattle.st_core.proofs.engine.Core.turn.Goals as goal
 
 pub conclude-requires : goal.conclude-requires
@@ -52,10 +52,25 @@ returns-in-Err-conclude-clause-does g c =
     rw (answered, c.new-gathered.ensures.calls, c.handle_alone-calls.ensures, ← c.self.view_is) refl in
     let entered : called ≡ (if is_entered callbacks machine.state c.in-Ok.outcome then entered_by callbacks machine.state handled else handled) = rw answered refl in
     let definition = unless_refused machine (concluded callbacks (with_moment machine c.args.now) event.number called called.reason) in
-    turn_does (callbacks_of g.M.Module g.M.State.PartialEq.eq) c.args.self.now c.conclude.new.self c.args.now (Err c.in-Err-conclude.refused) c.conclude.ensures.unchanged_module
+    let turns = c.conclude.ensures handled called given entered in
+    turn_does (callbacks_of g.M.Module g.M.State.PartialEq.eq) c.args.self.now c.conclude.new.self c.args.now (Err c.in-Err-conclude.refused) turns.0
     (meets_same turn_takes_memory turn_without_memory _ _ _ (turn_is callbacks machine c.args.now event ended early seen)
-    (told_as event.number machine c.conclude.new.self.machine c.conclude.new.gathered c.conclude.result (Err c.in-Err-conclude.refused) definition c.in-Err-conclude.is
-    (c.conclude.ensures.step handled called given entered)))
+    (told_as event.number c.args.self.now c.conclude.new.self c.conclude.new.gathered c.conclude.result (Err c.in-Err-conclude.refused) definition c.in-Err-conclude.is turns))
+
+pub returns-in-Err-conclude-clause-unchanged : goal.returns-in-Err-conclude-clause-unchanged
+returns-in-Err-conclude-clause-unchanged g c =
+    let callbacks = callbacks_of g.M.Module g.M.State.PartialEq.eq c.args.self.now.module_ in
+    let machine = c.args.self.now.machine in
+    let event : Event _ = record { number = c.in-Some-next.number; kind = c.in-Some-next.kind; content = c.in-Some-next.content.now } in
+    let answered : c.in-Ok.outcome ≡ outcome_of callbacks machine event = rw (c.in-Ok.ensures, ← c.self.view_is) refl in
+    let handled = handled_with callbacks.same_state event.number event.kind machine.state machine.data (outcome_of callbacks machine event) in
+    let called = called_of callbacks machine event in
+    let given : handled ≡ called_with callbacks.same_state c.new-gathered.result.calls machine.state machine.data c.in-Ok.outcome =
+    rw (answered, c.new-gathered.ensures.calls, c.handle_alone-calls.ensures, ← c.self.view_is) refl in
+    let entered : called ≡ (if is_entered callbacks machine.state c.in-Ok.outcome then entered_by callbacks machine.state handled else handled) = rw answered refl in
+    turn_keeps c.args.self.now c.conclude.new.self event.number c.conclude.new.gathered c.conclude.result c.in-Err-conclude.refused
+    (concluded callbacks (with_moment machine c.args.now) event.number called called.reason) c.in-Err-conclude.is
+    (c.conclude.ensures handled called given entered)
 
 -- it is done, and reported
 pub returns-clause-does : goal.returns-clause-does
@@ -75,8 +90,8 @@ returns-clause-does g c =
     let definition = unless_refused machine (concluded callbacks (with_moment machine c.args.now) event.number called called.reason) in
     let report_is : c.into_report-report.result ≡ report_with (Some event.number) c.in-Ok-conclude.done machine.state c.conclude.new.self.machine.state c.conclude.new.gathered =
     rw (c.into_report-report.ensures, ← c.self.view_is, ← c.self-2.view_is) refl in
+    let turns = c.conclude.ensures handled called given entered in
     rw report_is
-    (turn_does (callbacks_of g.M.Module g.M.State.PartialEq.eq) c.args.self.now c.conclude.new.self c.args.now _ c.conclude.ensures.unchanged_module
+    (turn_does (callbacks_of g.M.Module g.M.State.PartialEq.eq) c.args.self.now c.conclude.new.self c.args.now _ turns.0
     (meets_same turn_takes_memory turn_without_memory _ _ _ (turn_is callbacks machine c.args.now event ended early seen)
-    (told_as event.number machine c.conclude.new.self.machine c.conclude.new.gathered c.conclude.result (Ok c.in-Ok-conclude.done) definition c.in-Ok-conclude.is
-    (c.conclude.ensures.step handled called given entered))))
+    (told_as event.number c.args.self.now c.conclude.new.self c.conclude.new.gathered c.conclude.result (Ok c.in-Ok-conclude.done) definition c.in-Ok-conclude.is turns)))
