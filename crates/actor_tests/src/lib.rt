@@ -1,12 +1,10 @@
 //! The tests of actor: a bell that a thread owns rings, is told its wishes by another, and ends.
 #![tactic(auto)]
 
-mod bell;
 #[cfg(test)]
 mod tests;
 mod tone;
 mod wish;
 
-pub use bell::{Bell, NEIGHBOUR};
 pub use tone::Tone;
 pub use wish::Wish;

@@ -1,5 +1,6 @@
 //! A bell, served by the thread that owns it.
 
+mod bell;
 mod channel;
 mod host;
 mod memory;

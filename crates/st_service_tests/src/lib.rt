@@ -2,12 +2,10 @@
 //! st_ticker: time-outs that come by themselves, none early, and what becomes of a ticker that is let go.
 #![tactic(auto)]
 
-mod clerk;
 mod order;
 #[cfg(test)]
 mod tests;
 mod window;
 
-pub use clerk::Clerk;
 pub use order::Order;
 pub use window::Window;

@@ -3,6 +3,7 @@
 mod asked;
 mod belfry;
 mod bell;
+mod clerk;
 mod courier;
 mod couriers;
 mod desk;

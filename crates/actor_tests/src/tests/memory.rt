@@ -1,8 +1,9 @@
 //! Each call finds no memory once, and is made again.
+use super::bell::Bell;
 use super::host::{Host, got, holds, same};
 use super::notes::Notes;
 use super::tower::{Carried, ID, running, tells};
-use crate::{Bell, Wish};
+use crate::Wish;
 use actor::{Core, Events, Inlet, Observer, Refusal, Served, Unserved, channel, serve};
 use std::alloc::Global;
 use std::process::Abort;

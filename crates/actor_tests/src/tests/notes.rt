@@ -1,7 +1,8 @@
 //! What an observer of a bell notes down.
 ghost use Rattle.std.specs.Prelude.{◌≡◌, ◌+◌, ◌-◌, ◌^◌, min};
 
-use crate::{Bell, Tone, Wish};
+use super::bell::Bell;
+use crate::{Tone, Wish};
 use actor::{Core, Message, Observer, Report};
 use std::alloc::Global;
 use std::sync::Arc;

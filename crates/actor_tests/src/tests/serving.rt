@@ -1,7 +1,8 @@
 //! Bells that are served.
+use super::bell::Bell;
 use super::host::{Host, got, holds, same};
 use super::tower::{Carried, builds, cast, tells};
-use crate::{Bell, Wish};
+use crate::Wish;
 use actor::{Entry, Event, Inlet, Served};
 use std::alloc::Global;
 use std::process::Abort;

@@ -1,7 +1,8 @@
 //! A bell, with the channel in front of it, and notes of what it does.
+use super::bell::Bell;
 use super::host::{Host, got, holds, same};
 use super::notes::Notes;
-use crate::{Bell, Wish};
+use crate::Wish;
 use actor::{Core, Entry, Event, Events, Inlet, MachineId, Served, Start, channel, serve};
 use std::alloc::Global;
 use std::process::Abort;

@@ -1,7 +1,7 @@
 //! What a clerk was asked.
+use super::clerk::Clerk;
 use super::house::Threads;
 use super::said::Said;
-use crate::Clerk;
 use st_service::RequestId;
 
 /// What a clerk was asked, and has yet to reply to.

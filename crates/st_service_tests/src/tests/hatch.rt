@@ -1,9 +1,10 @@
 //! What is said to a clerk, and what he replies.
 use super::asked::Asked;
+use super::clerk::Clerk;
 use super::house::Threads;
 use super::said::Said;
 use super::tally::Counting;
-use crate::{Clerk, Order, Window};
+use crate::{Order, Window};
 use st_lock::Look;
 use st_service::{Refusal, ServicePort, Unposted};
 

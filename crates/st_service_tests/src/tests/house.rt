@@ -2,10 +2,11 @@
 //! it, and takes longer than all else there: so each stands here, once.
 ghost use Rattle.std.specs.Prelude.{◌≤◌};
 
+use super::clerk::Clerk;
 use super::hatch::Hatch;
 use super::host::{Host, got, holds, same};
 use super::tally::Counting;
-use crate::{Clerk, Order};
+use crate::Order;
 use st_service::{
     Journals, MachineId, Options, Refusal, Runtime, Service, ShutDown, Spawned, Unposted, Unspawned,
 };

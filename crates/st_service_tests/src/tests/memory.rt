@@ -1,11 +1,12 @@
 //! Each call finds no memory once, and is made again.
+use super::clerk::Clerk;
 use super::hatch::Hatch;
 use super::host::{Host, got, holds, same};
 use super::house::{ALONE, Hired, House, OPTIONS, Threads};
 use super::said::Said;
 use super::tally::{Counting, Tally};
 use super::watchdog::Watchdog;
-use crate::{Clerk, Order};
+use crate::Order;
 use st_service::{Refusal, Refused, ShutDown, Unposted, Unspawned};
 use std::alloc::Global;
 use std::process::Abort;

@@ -1,6 +1,7 @@
 //! What a clerk replied.
 use super::asked::Asked;
-use crate::{Clerk, Order};
+use super::clerk::Clerk;
+use crate::Order;
 use st_service::{Called, Refusal};
 use std::process::Abort;
 

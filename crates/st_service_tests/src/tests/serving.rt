@@ -1,11 +1,12 @@
 //! Clerks are hired, told, asked, and refuse what is too much.
 use super::asked::Asked;
+use super::clerk::Clerk;
 use super::hatch::Hatch;
 use super::host::{Host, got, holds, same};
 use super::house::{ALONE, House, OPTIONS, Threads, asks, hires, is_busy, opens, sums, tells};
 use super::said::Said;
 use super::tally::Counting;
-use crate::{Clerk, Order};
+use crate::Order;
 use st_service::{Journals, MachineId, Options, Refusal, Refused, Unspawned};
 use std::process::Abort;
 

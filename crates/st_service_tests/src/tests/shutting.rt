@@ -1,9 +1,10 @@
 //! Clerks are shut down while they work.
+use super::clerk::Clerk;
 use super::hatch::Hatch;
 use super::host::{Host, got, holds, same};
 use super::house::{ALONE, House, OPTIONS, Threads, hires, opens, tells};
 use super::tally::Counting;
-use crate::{Clerk, Order};
+use crate::Order;
 use st_service::{MachineId, Options, Refusal, Refused, Unposted, Unspawned};
 use std::process::Abort;
 

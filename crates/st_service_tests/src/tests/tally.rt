@@ -1,5 +1,6 @@
 //! An observer that counts, or is not told.
-use crate::{Clerk, Order, Window};
+use super::clerk::Clerk;
+use crate::{Order, Window};
 use st_service::{JournalEntry, MachineId, Observer, report_of};
 use std::alloc::Global;
 use std::sync::Arc;

@@ -18,7 +18,7 @@ use std::alloc::{AllocError, Global};
 pub struct Bell;
 
 /// The bell's neighbour.
-pub const NEIGHBOUR: MachineId = MachineId { slot: 2, serial: 1 };
+const NEIGHBOUR: MachineId = MachineId { slot: 2, serial: 1 };
 
 /// A list of one action.
 fn one(alloc: Global, action: Action<Wish>) -> Result<Actions<Wish>, AllocError>
