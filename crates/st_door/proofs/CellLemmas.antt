@@ -1,6 +1,6 @@
 -- What the cell of a door answers, and what its calls leave of the door's machine: what the definition says.
-use Rattle.std.proofs.Common.{◌≡◌, ◌≢◌, ℕ, ◌+◌, Bool, true, false, ◌&&◌, List, ◌++◌, length, length-append, Option, Some, None, refl, ap, sym, ◌∙◌, arith, inl, inr}
-use Rattle.std.specs.Prelude.{Result, Ok, Err, is_some}
+use Rattle.std.proofs.Common.{◌≡◌, ◌≢◌, ℕ, ◌+◌, Bool, true, false, ◌&&◌, List, ◌++◌, length, append_assoc, length-append, Option, Some, None, refl, ap, sym, ◌∙◌, arith, inl, inr}
+use Rattle.std.specs.Prelude.{Result, Ok, Err, OnOk, OnErr, is_some}
 use Rattle.std.specs.Option.{option_map}
 use Rattle.std.proofs.lemmas.Bool.{cases_Bool}
 use Rattle.st_core.specs.Choice.{has_event_of}
@@ -31,8 +31,9 @@ use Rattle.st_door.specs.declared.door_content.DoorContent.{DoorContent}
 use Rattle.st_door.specs.declared.door_state.DoorState.{DoorState}
 use Rattle.st_door.specs.declared.door.Door.{Door}
 use Rattle.st_door.specs.declared.door_data.DoorData.{DoorData}
-use Rattle.st_door.specs.Doors.{DoorAnswer, DoorEntry, DoorMachine, recorded, refusal_in, kept_told_by}
-use Rattle.st_door.specs.Entries.{DoorCore, ScheduledDoor, DoorCellState, HasTold, HasToldBy, IsDoorCell, door_in, history_in, machine_in, recorded_in, told_in}
+use Rattle.st_door.specs.Doors.{DoorAnswer, DoorEntry, DoorMachine, History, door_callbacks, history_told, kept_told_by, recorded, refusal_in}
+use Rattle.st_door.specs.Past.{with_entries}
+use Rattle.st_door.specs.Entries.{DoorCore, ScheduledDoor, DoorCellState, HasTold, HasToldBy, IsDoorCell, IsWhole, door_in, history_in, machine_in, recorded_in, told_in}
 use Rattle.st_door.proofs.ToldLemmas.{given-callbacks, told-refused}
 
 -- what a door's cell answers to a command
@@ -177,3 +178,87 @@ turned cell new token moment result ready work own found turns =
     (rw work refl, rw work refl, rw work refl, refl)
     (found-memory token done.0 (is_some new.scheduled.token) (λ none. found (ap turn_refusal done.2 ∙ none)))
     done.1).1
+
+-- ---- the door in a cell
+-- what comes of a history that has a command's entry behind it
+entries-told : (past before : History) (source : Source) (command : Command DoorContent) (said : DoorAnswer) (journal earlier : List DoorEntry) (count : ℕ)
+    → Some (with_entries past journal) ≡ Some (with_entries before earlier) → count ≡ length (before.entries ++ earlier)
+    → Some (with_entries past (journal ++ recorded (count + 1) source command said)) ≡ history_told source command said (Some (with_entries before earlier))
+entries-told past before source command said journal earlier count same counted =
+    let more : List DoorEntry = recorded (count + 1) source command said in
+    ap (λ (entries : List DoorEntry). Some (record { from = past.from; entries = entries })) (sym (append_assoc past.entries journal more))
+    ∙ (ap (λ (history : Option History). option_map (λ (h : History). with_entries h more) history) same
+    ∙ ap (λ (n : ℕ). Some (record { from = before.from; entries = (before.entries ++ earlier) ++ recorded (n + 1) source command said })) counted)
+
+-- a command leaves the history that it says, where that is kept
+history-told : (past before : Option History) (old mid new : DoorCellState) (source : Source) (command : Command DoorContent)
+    → IsWhole before old → history_in past mid ≡ history_in before old → mid.scheduled ≡ old.scheduled → HasToldBy source command mid new
+    → history_in past new ≡ history_told source command (told_in old command).0 (history_in before old)
+history-told None None old mid new source command whole same scheduled told = refl
+history-told None (Some before) old mid new source command whole same scheduled told = cc
+history-told (Some past) None old mid new source command whole same scheduled told = cc
+history-told (Some past) (Some before) old mid new source command whole same scheduled told =
+    ap (λ (journal : List DoorEntry). Some (with_entries past journal)) (told.journal
+    ∙ ap (λ (s : ScheduledDoor). mid.journal ++ recorded (s.count + 1) source command (step_of door_callbacks s.core.machine command).0) scheduled)
+    ∙ entries-told past before source command (told_in old command).0 mid.journal old.journal old.scheduled.count same whole
+
+-- the door after a command, whose history was put by before it
+pub door-told : (past before : Option History) (old mid new : DoorCellState) (source : Source) (command : Command DoorContent)
+    → IsDoorCell before old → history_in past mid ≡ history_in before old → mid.scheduled ≡ old.scheduled → HasToldBy source command mid new
+    → door_in past new ≡ kept_told_by source command (door_in before old)
+door-told past before old mid new source command kept same scheduled told =
+    ap (λ (machine : DoorMachine). record { machine = machine; history = history_in past new })
+    (told.machine ∙ ap (λ (s : ScheduledDoor). (step_of door_callbacks s.core.machine command).1) scheduled)
+    ∙ ap (λ (history : Option History). record { machine = (told_in old command).1; history = history })
+    (history-told past before old mid new source command kept.whole same scheduled told)
+
+-- one entry more is counted
+whole-more : (past : Option History) (mid new : DoorCellState) (source : Source) (command : Command DoorContent) → IsWhole past mid → HasToldBy source command mid new → IsWhole past new
+whole-more None mid new source command whole told = tt
+whole-more (Some past) mid new source command whole told =
+    let more : List DoorEntry = recorded_in mid source command in
+    let before : mid.scheduled.count ≡ length (past.entries ++ mid.journal) = whole in
+    let grown : length (past.entries ++ new.journal) ≡ length (past.entries ++ (mid.journal ++ more)) =
+    ap (λ (journal : List DoorEntry). length (past.entries ++ journal)) told.journal in
+    let counted : new.scheduled.count ≡ mid.scheduled.count + length more = told.count in
+    let done : new.scheduled.count ≡ length (past.entries ++ new.journal) =
+    omega (arith, before, grown, counted, length-append past.entries (mid.journal ++ more), length-append mid.journal more, length-append past.entries mid.journal) in
+    done
+
+-- and the history stays whole where it is put by
+whole-still : (past before : Option History) (old mid : DoorCellState) → IsWhole before old → history_in past mid ≡ history_in before old → mid.scheduled ≡ old.scheduled → IsWhole past mid
+whole-still past before old mid whole same scheduled =
+    rw (same, scheduled) whole
+
+-- a door's cell is one still
+pub cell-still : (past before : Option History) (old mid : DoorCellState) → IsDoorCell before old → history_in past mid ≡ history_in before old → mid.scheduled ≡ old.scheduled
+    → mid.ports ≡ old.ports → IsDoorCell past mid
+cell-still past before old mid kept same scheduled ports = record {
+  has_port = rw ports kept.has_port;
+  whole = whole-still past before old mid kept.whole same scheduled;
+}
+
+pub cell-told : (past before : Option History) (old mid new : DoorCellState) (source : Source) (command : Command DoorContent)
+    → IsDoorCell before old → history_in past mid ≡ history_in before old → mid.scheduled ≡ old.scheduled → mid.ports ≡ old.ports
+    → length new.ports ≡ length mid.ports → HasToldBy source command mid new → IsDoorCell past new
+cell-told past before old mid new source command kept same scheduled ports counted told =
+    let still = cell-still past before old mid kept same scheduled ports in
+    record {
+      has_port = rw counted still.has_port;
+      whole = whole-more past mid new source command still.whole told;
+    }
+
+-- the door in a cell that stays
+pub door-still : (past before : Option History) (old mid : DoorCellState) → history_in past mid ≡ history_in before old → mid.scheduled ≡ old.scheduled → door_in past mid ≡ door_in before old
+door-still past before old mid same scheduled =
+    ap (λ (s : ScheduledDoor). record { machine = s.core.machine; history = history_in past mid }) scheduled
+    ∙ ap (λ (history : Option History). record { machine = machine_in old; history = history }) same
+
+-- a door's cell is one, whatever a command came to
+pub cell-after : {T E : Type 0} (result : Result T E) (past before : Option History) (old mid new : DoorCellState) (source : Source) (command : Command DoorContent)
+    → IsDoorCell before old → history_in past mid ≡ history_in before old → mid.scheduled ≡ old.scheduled → mid.ports ≡ old.ports
+    → length new.ports ≡ length mid.ports → OnOk result (HasToldBy source command mid new) → OnErr result (new ≡ mid) → IsDoorCell past new
+cell-after (Ok done) past before old mid new source command kept same scheduled ports counted told unchanged =
+    cell-told past before old mid new source command kept same scheduled ports counted told
+cell-after (Err error) past before old mid new source command kept same scheduled ports counted told unchanged =
+    rw unchanged (cell-still past before old mid kept same scheduled ports)

@@ -2,6 +2,7 @@
 use Rattle.std.proofs.Common.{◌≡◌, ℕ, ◌<◌, ◌+◌, Bool, ◌||◌, List, ◌∷◌, ◌++◌, length, get_or, drop, map, Option, Bor, refl, sym, ap, ◌∙◌, append_assoc, add-one, drop-cons}
 use Rattle.std.proofs.Math.Bool.{or_assoc}
 use Rattle.std.specs.Io.KnownBytes.{Appends}
+use Rattle.st_door.specs.declared.effect.Effect.{Effect}
 use Rattle.st_door.specs.Grammar.{line_of}
 use Rattle.st_door.specs.Lines.{without_return}
 use Rattle.st_door.specs.Doors.{NamedDoor}
@@ -19,33 +20,25 @@ pub lines_left-cons : (pieces : List (Bor (List ℕ))) (place : ℕ) (d : Bor (L
     → lines_left pieces place ≡ without_return (get_or pieces place d).now ∷ lines_left pieces (place + 1)
 lines_left-cons pieces place d in_range = rw (drop-cons pieces place d, add-one) refl
 
--- the output grows by what one line prints
-pub output_step : (written text : List ℕ) (number : ℕ) (script next : ScriptState) (bytes : List ℕ) (here more : List (List ℕ)) (all : List ℕ)
-    → here ≡ bytes ∷ more
-    → text ≡ printed_of number (step_of script (line_of bytes)).0
-    → next ≡ (step_of script (line_of bytes)).1
-    → written ++ output_from number script here ≡ all
-    → (written ++ text) ++ output_from (number + 1) next more ≡ all
-output_step written text number script next bytes here more all is_here is_text is_next whole =
-    rw (is_text, is_next, append_assoc) (rw is_here at whole)
+-- what the line at a place brings about, and the script after it
+module _ (script : ScriptState) (pieces : List (Bor (List ℕ))) (place : ℕ) (d : Bor (List ℕ)) (in_range : place < length pieces) (next : ScriptState)
+    (is_next : next ≡ (step_of script (line_of (without_return (get_or pieces place d).now))).1) where
+  abbrev brought : Effect
+  brought = (step_of script (line_of (without_return (get_or pieces place d).now))).0
 
--- one line more is looked at for a fault
-pub faulty_step : (before now : Bool) (script next : ScriptState) (bytes : List ℕ) (here more : List (List ℕ)) (all : Bool)
-    → here ≡ bytes ∷ more
-    → now ≡ (before || is_fault (step_of script (line_of bytes)).0)
-    → next ≡ (step_of script (line_of bytes)).1
-    → (before || faulty_from script here) ≡ all
-    → (now || faulty_from next more) ≡ all
-faulty_step before now script next bytes here more all is_here is_now is_next whole =
-    rw (is_now, is_next, or_assoc) (rw is_here at whole)
+  -- the output grows by what the line prints
+  pub output_step : (written all : List ℕ) → written ++ output_from (place + 1) script (lines_left pieces place) ≡ all
+      → (written ++ printed_of (place + 1) brought) ++ output_from (place + 1 + 1) next (lines_left pieces (place + 1)) ≡ all
+  output_step written all whole = rw (is_next, append_assoc) (rw (lines_left-cons pieces place d in_range) at whole)
 
--- one line more is done
-pub after_step : (script next all : ScriptState) (bytes : List ℕ) (here more : List (List ℕ))
-    → here ≡ bytes ∷ more
-    → next ≡ (step_of script (line_of bytes)).1
-    → script_after script here ≡ all
-    → script_after next more ≡ all
-after_step script next all bytes here more is_here is_next whole = rw is_next (rw is_here at whole)
+  -- the line was looked at for a fault
+  pub faulty_step : (before now all : Bool) → now ≡ is_fault brought → (before || faulty_from script (lines_left pieces place)) ≡ all
+      → ((before || now) || faulty_from next (lines_left pieces (place + 1))) ≡ all
+  faulty_step before now all is_now whole = rw (is_now, is_next, or_assoc) (rw (lines_left-cons pieces place d in_range) at whole)
+
+  -- the line is done
+  pub after_step : (all : ScriptState) → script_after script (lines_left pieces place) ≡ all → script_after next (lines_left pieces (place + 1)) ≡ all
+  after_step all whole = rw is_next (rw (lines_left-cons pieces place d in_range) at whole)
 
 -- the doors from a place on
 pub doors_left-cons : (doors : List NamedDoor) (place : ℕ) (d : NamedDoor) → place < length doors

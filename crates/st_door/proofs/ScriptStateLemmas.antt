@@ -27,7 +27,7 @@ use Rattle.st_door.specs.declared.effect.Effect.TheVariants.{Printed, Refuses}
 use Rattle.st_door.specs.Doors.{NamedDoor, KeptDoor, DoorMachine, IsFirst, IsKept, SameLabels, asks, door_callbacks, door_limit, door_at_first, door_named, door_of, free_slot_of, has_name, is_over, is_ready_door, least_from, length_in, next_tag_of, refusal_in, relays, slots_of, source_of, kept_of, told_door, told_of, without_door}
 use Rattle.st_door.specs.Printing.{length_text, removed_text, status_of}
 use Rattle.st_door.specs.Slots.{occurrences, AreMarked, HaveSameMarks, IsLeastFree}
-use Rattle.st_door.specs.Script.{ScriptState, commanded_of, door_start_of, effect_of, length_collected, length_finished, named_status_of, next_id_of, printing, relayed_by, removed_by, removed_door, rested_of, status_finished, step_of, the_door, told_script, with_start, without_named}
+use Rattle.st_door.specs.Script.{ScriptState, door_start_of, effect_of, length_collected, length_finished, named_status_of, next_id_of, printing, relayed_by, removed_by, removed_door, rested_of, status_finished, step_of, the_door, told_script, with_start, without_named}
 use Rattle.st_door.proofs.DoorLemmas.{IsFirst-within, IsFirst-changed, IsFirst-found, IsFirst-map, IsFirst-of_map}
 use Rattle.st_door.proofs.IdleLemmas.{no_door, labels-set, labels-told, labels-more}
 use Rattle.st_door.proofs.SlotLemmas.{least-free, marked-taken, marked-same, marked-freed, freed-within}
@@ -199,6 +199,16 @@ first-still script told idle name command place other within first is_told rests
     let labels : SameLabels script.doors told.doors = rw is_told (labels-told script.doors place no_door (source_of command) command within) in
     IsFirst-labels name script.doors idle.doors other (labels-more script.doors told.doors idle.doors labels rests) first
 
+-- and each place is one still
+pub still-within : (script told idle : ScriptState) (command : Command DoorContent) (place other : ℕ) → place < length script.doors → other < length script.doors
+    → told ≡ told_at script command place → SameLabels told.doors idle.doors → other < length idle.doors
+still-within script told idle command place other within less is_told rests =
+    let labels : SameLabels script.doors told.doors = rw is_told (labels-told script.doors place no_door (source_of command) command within) in
+    let whole = labels-more script.doors told.doors idle.doors labels rests in
+    let same : length idle.doors ≡ length script.doors =
+    sym (length-slots idle.doors) ∙ (ap (λ (slots : List ℕ). length slots) whole.slots ∙ length-slots script.doors) in
+    rw same less
+
 -- and so has the name of that door
 pub first-told : (script told idle : ScriptState) (name : List ℕ) (command : Command DoorContent) (place : ℕ) → IsFirst (has_name name) script.doors place
     → told ≡ told_at script command place → SameLabels told.doors idle.doors → IsFirst (has_name name) idle.doors place
@@ -214,12 +224,12 @@ command-refused script name command place refusal first refused finish =
     ap (effect_of script finish) (told_script-refused script name command place refusal first refused)
 
 -- and one that is accepted
-pub command-done : (script : ScriptState) (name : List ℕ) (command : Command DoorContent) (place : ℕ) → IsFirst (has_name name) script.doors place
+pub command-done : (script : ScriptState) (name target : List ℕ) (command : Command DoorContent) (place : ℕ) → IsFirst (has_name name) script.doors place
     → None ≡ refusal_in (told_of command (get_or script.doors place no_door)).0
-    → commanded_of script name command
-    ≡ (Printed (named_status_of (rested_of (told_at script command place)) name), rested_of (told_at script command place))
-command-done script name command place first accepted =
-    ap (effect_of script (status_finished name)) (told_script-accepted script name command place first accepted)
+    → effect_of script (status_finished target) (told_script script name command (door_of name script.doors))
+    ≡ (Printed (named_status_of (rested_of (told_at script command place)) target), rested_of (told_at script command place))
+command-done script name target command place first accepted =
+    ap (effect_of script (status_finished target)) (told_script-accepted script name command place first accepted)
 
 -- ---- lengths
 -- what is printed of the reply to the call of a tag, and the script after it, with the door at a place
@@ -351,22 +361,9 @@ relay-aimless script name target digit none =
 -- a door is told to send a button to the one at another place, whose id this is
 module _ (script : ScriptState) (name target : List ℕ) (digit place aim : ℕ) (id : MachineId) (first : IsFirst (has_name name) script.doors place)
     (second : IsFirst (has_name target) script.doors aim) (same : id ≡ (get_or script.doors aim no_door).machine.id) where
-  relay-acted : relayed_by script name digit (door_of name script.doors) (door_of target script.doors) ≡ told_script script name (relays id digit) (door_of name script.doors)
+  pub relay-acted : relayed_by script name digit (door_of name script.doors) (door_of target script.doors) ≡ told_script script name (relays id digit) (door_of name script.doors)
   relay-acted =
       rw (IsFirst-found (has_name name) script.doors place no_door first, IsFirst-found (has_name target) script.doors aim no_door second, same) refl
-
-  pub relay-refused : (refusal : Refusal) → Some refusal ≡ refusal_in (told_of (relays id digit) (get_or script.doors place no_door)).0
-      → step_of script (line.Relay name target digit) ≡ (Refuses refusal, script)
-  relay-refused refusal refused =
-      ap (effect_of script (status_finished target)) relay-acted
-      ∙ command-refused script name (relays id digit) place refusal first refused (status_finished target)
-
-  pub relay-done : None ≡ refusal_in (told_of (relays id digit) (get_or script.doors place no_door)).0
-      → step_of script (line.Relay name target digit)
-      ≡ (Printed (named_status_of (rested_of (told_at script (relays id digit) place)) target), rested_of (told_at script (relays id digit) place))
-  relay-done accepted =
-      ap (effect_of script (status_finished target)) relay-acted
-      ∙ ap (effect_of script (status_finished target)) (told_script-accepted script name (relays id digit) place first accepted)
 
 -- ---- the reply once the doors rest
 pub idle-effect : (script idle : ScriptState) (name : List ℕ) (place : ℕ) (said : Effect × ScriptState) (effect : Effect)

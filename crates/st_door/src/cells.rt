@@ -8,19 +8,21 @@ ghost use Rattle.st_outbox.specs.Outbox.{first_message};
 ghost use Rattle.st_scheduled.specs.Serving.{is_full};
 ghost use Rattle.st_cell.specs.Cell.{IsOpen};
 ghost use Rattle.st_cell.specs.declared.source.Source.TheVariants as source;
-ghost use Rattle.st_door.specs.Doors.{door_callbacks};
+ghost use Rattle.st_door.specs.Doors.{door_callbacks, serves};
 ghost use Rattle.st_door.specs.Entries.{HasTold, HasToldBy, IsWhole, history_in, machine_in, past_in};
+ghost use Rattle.st_door.specs.Settling.{CanServe, command_for, message_from, source_for};
 
 use crate::answers::DoorAnswer;
 use crate::past::Past;
+use crate::service::Service;
 use crate::{Door, DoorContent};
 use st_cell::{Cell, a_cell_has_a_token_for_work};
-use st_core::{Answer, Entry};
+use st_core::{Answer, Command, Entry};
 use st_events::{Message, Reason, Refusal, Tag};
 use std::alloc::AllocError;
 
 /// The port of a door: the first one.
-pub(crate) const PORT: u64 = 1;
+const PORT: u64 = 1;
 
 /// How many entries the journal of a door may have. It may have more where more events wait.
 const JOURNAL_LIMIT: usize = 2;
@@ -86,11 +88,7 @@ pub(crate) fn make_ready(
 }
 
 /// Posts an event.
-pub(crate) fn post(
-    cell: &mut Cell<Door>,
-    entry: Entry,
-    content: DoorContent,
-) -> Result<DoorAnswer, AllocError>
+fn post(cell: &mut Cell<Door>, entry: Entry, content: DoorContent) -> Result<DoorAnswer, AllocError>
     requires open { IsOpen PORT cell.old }
     requires ready { is_full cell.old.scheduled ≡ false }
     ensures answer { IfOk result (λ answer. answer ≡ (step_of door_callbacks (machine_in cell.old) (command.Post entry content)).0) }
@@ -111,7 +109,7 @@ pub(crate) fn post(
 }
 
 /// Tells a door the moment.
-pub(crate) fn tick(cell: &mut Cell<Door>, moment: u64) -> Result<DoorAnswer, AllocError>
+fn tick(cell: &mut Cell<Door>, moment: u64) -> Result<DoorAnswer, AllocError>
     requires ready { is_full cell.old.scheduled ≡ false }
     ensures answer { IfOk result (λ answer. answer ≡ (step_of door_callbacks (machine_in cell.old) (command.Tick moment)).0) }
     ensures told { OnOk result (HasTold (command.Tick moment) cell.old cell.new) }
@@ -129,7 +127,7 @@ pub(crate) fn tick(cell: &mut Cell<Door>, moment: u64) -> Result<DoorAnswer, All
 }
 
 /// Ends a door.
-pub(crate) fn stop(cell: &mut Cell<Door>, reason: Reason) -> Result<DoorAnswer, AllocError>
+fn stop(cell: &mut Cell<Door>, reason: Reason) -> Result<DoorAnswer, AllocError>
     requires ready { is_full cell.old.scheduled ≡ false }
     ensures answer { IfOk result (λ answer. answer ≡ (step_of door_callbacks (machine_in cell.old) (command.Stop reason)).0) }
     ensures told { OnOk result (HasTold (command.Stop reason) cell.old cell.new) }
@@ -147,11 +145,7 @@ pub(crate) fn stop(cell: &mut Cell<Door>, reason: Reason) -> Result<DoorAnswer, 
 }
 
 /// Answers a request.
-pub(crate) fn reply(
-    cell: &mut Cell<Door>,
-    tag: Tag,
-    content: DoorContent,
-) -> Result<DoorAnswer, AllocError>
+fn reply(cell: &mut Cell<Door>, tag: Tag, content: DoorContent) -> Result<DoorAnswer, AllocError>
     requires ready { is_full cell.old.scheduled ≡ false }
     ensures answer { IfOk result (λ answer. answer ≡ (step_of door_callbacks (machine_in cell.old) (command.Reply tag content)).0) }
     ensures told { OnOk result (HasTold (command.Reply tag content) cell.old cell.new) }
@@ -168,7 +162,7 @@ pub(crate) fn reply(
 }
 
 /// Hands out what is kept for a request.
-pub(crate) fn collect(cell: &mut Cell<Door>, tag: Tag) -> Result<DoorAnswer, AllocError>
+fn collect(cell: &mut Cell<Door>, tag: Tag) -> Result<DoorAnswer, AllocError>
     requires ready { is_full cell.old.scheduled ≡ false }
     ensures answer { IfOk result (λ answer. answer ≡ (step_of door_callbacks (machine_in cell.old) (command.Collect tag)).0) }
     ensures told { OnOk result (HasTold (command.Collect tag) cell.old cell.new) }
@@ -185,7 +179,7 @@ pub(crate) fn collect(cell: &mut Cell<Door>, tag: Tag) -> Result<DoorAnswer, All
 }
 
 /// Serves a door that is ready, by its token.
-pub(crate) fn turn(cell: &mut Cell<Door>, moment: u64) -> Result<(), AllocError>
+fn turn(cell: &mut Cell<Door>, moment: u64) -> Result<(), AllocError>
     requires ready { is_full cell.old.scheduled ≡ false }
     requires work { has_event_of (machine_in cell.old) ≡ true }
     ensures told { OnOk result (HasTold (command.Turn moment) cell.old cell.new) }
@@ -209,7 +203,7 @@ pub(crate) fn turn(cell: &mut Cell<Door>, moment: u64) -> Result<(), AllocError>
 }
 
 /// Takes the first message of a door out, by its token.
-pub(crate) fn take_out(cell: &mut Cell<Door>) -> Result<Message<DoorContent>, AllocError>
+fn take_out(cell: &mut Cell<Door>) -> Result<Message<DoorContent>, AllocError>
     requires ready { is_full cell.old.scheduled ≡ false }
     requires message { has_message_of (machine_in cell.old) ≡ true }
     ensures message { IfOk result (λ message. first_message (machine_in cell.old).outbox.messages ≡ Some message) }
@@ -232,10 +226,7 @@ pub(crate) fn take_out(cell: &mut Cell<Door>) -> Result<Message<DoorContent>, Al
 }
 
 /// Delivers a message to a door. One that has ended loses it.
-pub(crate) fn deliver(
-    cell: &mut Cell<Door>,
-    message: Message<DoorContent>,
-) -> Result<(), AllocError>
+fn deliver(cell: &mut Cell<Door>, message: Message<DoorContent>) -> Result<(), AllocError>
     requires ready { is_full cell.old.scheduled ≡ false }
     requires target { message.target ≡ (machine_in cell.old).id }
     ensures told { OnOk result (HasToldBy (source.Message message.sender message.number) (command.Post Info message.content) cell.old cell.new) }
@@ -252,4 +243,53 @@ pub(crate) fn deliver(
             _ => Ok(()),
         },
     }
+}
+
+/// Tells a door that is ready for it a command that is no turn and no take-out, and answers its answer.
+pub(crate) fn tell(
+    cell: &mut Cell<Door>,
+    command: Command<DoorContent>,
+) -> Result<DoorAnswer, AllocError>
+    requires open { IsOpen PORT cell.old }
+    requires ready { is_full cell.old.scheduled ≡ false }
+    requires no_turn { serves command ≡ false }
+    ensures answer { IfOk result (λ answer. answer ≡ (step_of door_callbacks (machine_in cell.old) command).0) }
+    ensures told { OnOk result (HasTold command cell.old cell.new) }
+
+    ensures unchanged { OnErr result (cell.new ≡ cell.old) }
+
+    // Whatever the answer is.
+    ensures ports { length cell.new.ports ≡ length cell.old.ports }
+{
+    match command {
+        Command::Post(entry, content) => post(cell, entry, content),
+        Command::Tick(moment) => tick(cell, moment),
+        Command::Turn(_) | Command::TakeOut => unreachable!(),
+        Command::Reply(tag, content) => reply(cell, tag, content),
+        Command::Collect(tag) => collect(cell, tag),
+        Command::Stop(reason) => stop(cell, reason),
+    }
+}
+
+/// Serves a door that is ready for it, and answers the message that comes out.
+pub(crate) fn serve(
+    cell: &mut Cell<Door>,
+    service: Service,
+) -> Result<Option<Message<DoorContent>>, AllocError>
+    requires ready { is_full cell.old.scheduled ≡ false }
+    requires can { CanServe service (machine_in cell.old) }
+    ensures message { IfOk result (λ message. message ≡ message_from service (machine_in cell.old)) }
+    ensures told { OnOk result (HasToldBy (source_for service) (command_for service) cell.old cell.new) }
+
+    ensures unchanged { OnErr result (cell.new ≡ cell.old) }
+
+    // Whatever the answer is.
+    ensures ports { length cell.new.ports ≡ length cell.old.ports }
+{
+    match service {
+        Service::Turn(moment) => turn(cell, moment)?,
+        Service::TakeOut => return Ok(Some(take_out(cell)?)),
+        Service::Deliver(message) => deliver(cell, message)?,
+    }
+    Ok(None)
 }

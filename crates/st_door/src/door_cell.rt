@@ -13,7 +13,7 @@ ghost use Rattle.st_door.specs.Streams.{AppendsFront};
 ghost use Rattle.st_door.specs.Traces.{trace_by};
 
 use crate::answers::DoorAnswer;
-use crate::cells::{collect, deliver, make_ready, post, reply, stop, take_out, tick, turn};
+use crate::cells::{make_ready, serve, tell};
 use crate::past::Past;
 use crate::service::Service;
 use crate::tracing::write_trace;
@@ -158,14 +158,7 @@ impl DoorCell {
         ensures unchanged { OnErr result (self.new ≡ self.old) }
     {
         make_ready(&mut *self.cell, &mut self.past)?;
-        match command {
-            Command::Post(entry, content) => post(&mut *self.cell, entry, content),
-            Command::Tick(moment) => tick(&mut *self.cell, moment),
-            Command::Turn(_) | Command::TakeOut => unreachable!(),
-            Command::Reply(tag, content) => reply(&mut *self.cell, tag, content),
-            Command::Collect(tag) => collect(&mut *self.cell, tag),
-            Command::Stop(reason) => stop(&mut *self.cell, reason),
-        }
+        tell(&mut *self.cell, command)
     }
 
     /// Serves the door, and answers the message that comes out. Where memory is wanted and there is none, the door stays.
@@ -180,12 +173,7 @@ impl DoorCell {
         ensures unchanged { OnErr result (self.new ≡ self.old) }
     {
         make_ready(&mut *self.cell, &mut self.past)?;
-        match service {
-            Service::Turn(moment) => turn(&mut *self.cell, moment)?,
-            Service::TakeOut => return Ok(Some(take_out(&mut *self.cell)?)),
-            Service::Deliver(message) => deliver(&mut *self.cell, message)?,
-        }
-        Ok(None)
+        serve(&mut *self.cell, service)
     }
 
     /// Writes the door's trace under a name. It is nothing where the history is not kept.

@@ -1,8 +1,9 @@
 //! A script as a whole: bytes in, bytes out, and a status.
 ghost use Rattle.std.specs.Prelude.{◌≡◌, IfOk, IfErr, IfSome, OnOk, OnErr, MatchResult, Err};
 ghost use Rattle.std.specs.Io.KnownBytes.{Appends, IsAtEnd, Keeps};
-ghost use Rattle.st_door.specs.Lines.{lines};
-ghost use Rattle.st_door.specs.Script.{DoesSome, faulty_from, first_script_state, is_fault, output_of, script_after, status_of_script};
+ghost use Rattle.st_door.specs.Grammar.{line_of};
+ghost use Rattle.st_door.specs.Lines.{lines, without_return};
+ghost use Rattle.st_door.specs.Script.{DoesSome, faulty_from, first_script_state, is_fault, output_of, printed_of, script_after, status_of_script, step_of};
 ghost use Rattle.st_door.specs.ScriptFault.{IsOfInput, read_failures_after, write_failures_after};
 ghost use Rattle.st_door.specs.Streams.{AppendsFront, ConsumesMoreThan};
 ghost use Rattle.st_door.specs.declared.mode.Mode.TheVariants.{Run, Trace};
@@ -24,6 +25,41 @@ pub fn is_fault(effect: &Effect) -> bool
     matches!(effect, Effect::Refuses(_) | Effect::Malformed)
 }
 
+/// Does a line, and answers what it brings about.
+fn obey_bytes(alloc: Global, script: &mut Script, bytes: &[u8]) -> Result<Effect, AllocError>
+    ensures effect { IfOk result (λ effect. effect ≡ (step_of script.old (line_of (without_return bytes.now))).0) }
+    ensures script { OnOk result (script.new ≡ (step_of script.old (line_of (without_return bytes.now))).1) }
+{
+    let line = read_line(alloc, without_return(bytes))?;
+    script.obey(line)
+}
+
+/// Does the line of a number and writes what it prints, and says whether it was refused or malformed.
+fn run_line<W: Sink>(
+    alloc: Global,
+    script: &mut Script,
+    number: u64,
+    bytes: &[u8],
+    writer: &mut W,
+) -> Result<bool, ScriptFault>
+    ensures faulty { IfOk result (λ faulty. faulty ≡ is_fault (step_of script.old (line_of (without_return bytes.now))).0) }
+    ensures script { OnOk result (script.new ≡ (step_of script.old (line_of (without_return bytes.now))).1) }
+    ensures written { OnOk result (Appends (W.held writer.old) (W.held writer.new)
+        (printed_of number (step_of script.old (line_of (without_return bytes.now))).0)) }
+
+    ensures faults { IfErr result (λ fault. IsOfInput fault → ⊥) }
+    ensures failures { MatchResult result (λ _. W.failures writer.new ≡ W.failures writer.old)
+        (λ fault. W.failures writer.new ≡ write_failures_after fault (W.failures writer.old)) }
+    ensures front { OnErr result (AppendsFront (W.held writer.old) (W.held writer.new)
+        (printed_of number (step_of script.old (line_of (without_return bytes.now))).0)) }
+{
+    let effect = obey_bytes(alloc, script, bytes)?;
+    let faulty = is_fault(&effect);
+    let text = printed(alloc, number, effect)?;
+    write_output(writer, text.as_str().as_bytes())?;
+    Ok(faulty)
+}
+
 /// Does the lines of an input and writes what they print, line by line.
 pub(crate) fn run_input<W: Sink>(
     alloc: Global,
@@ -42,11 +78,7 @@ pub(crate) fn run_input<W: Sink>(
     let mut script = Script::new(alloc, Mode::Run);
     let mut faulty = false;
     for (index, bytes) in lines.iter().enumerate() {
-        let line = read_line(alloc, without_return(bytes))?;
-        let effect = script.obey(line)?;
-        faulty |= is_fault(&effect);
-        let text = printed(alloc, index as u64 + 1, effect)?;
-        write_output(writer, text.as_str().as_bytes())?;
+        faulty |= run_line(alloc, &mut script, index as u64 + 1, bytes, writer)?;
     }
     Ok(if faulty { 1 } else { 0 })
 }
@@ -60,8 +92,7 @@ fn trace_lines(alloc: Global, input: &[u8]) -> Result<(Script, bool), AllocError
     let mut script = Script::new(alloc, Mode::Trace);
     let mut faulty = false;
     for bytes in lines.iter() {
-        let line = read_line(alloc, without_return(bytes))?;
-        let effect = script.obey(line)?;
+        let effect = obey_bytes(alloc, &mut script, bytes)?;
         faulty |= is_fault(&effect);
     }
     Ok((script, faulty))

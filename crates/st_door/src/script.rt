@@ -1,12 +1,14 @@
 //! A script between two of its lines.
-ghost use Rattle.std.specs.Prelude.{◌≡◌, ◌≤◌, ◌<◌, ℕ, false, None, Ok, Err, IfOk, IfErr, OnOk, OnErr, MatchResult, IfNone, IfSome, length, slice_index_or, slice_set};
-ghost use Rattle.st_door.specs.Doors.{NamedDoor, IsFirst, SameLabels, door_limit, door_of, has_name, told_of, told_door, all_expired_of, serves};
-ghost use Rattle.st_door.specs.Printing.{status_of};
+ghost use Rattle.std.specs.Prelude.{◌≡◌, ◌≤◌, ◌<◌, ◌++◌, ◌∷◌, [], ℕ, List, false, Some, None, Ok, Err, IfOk, IfErr, OnOk, OnErr, MatchResult, IfNone, IfSome, length, slice_index_or, slice_set};
+ghost use Rattle.st_answers.specs.declared.answer.Answer.TheVariants as answer;
+ghost use Rattle.st_answers.specs.declared.command.Command.TheVariants as command;
+ghost use Rattle.st_door.specs.Doors.{NamedDoor, IsFirst, SameLabels, asks, door_at_first, door_limit, door_named, door_of, has_name, length_in, refusal_in, told_of, told_door, all_expired_of, serves};
+ghost use Rattle.st_door.specs.Printing.{length_text, status_of};
 ghost use Rattle.st_door.specs.ScriptFault.{IsOfInput, write_failures_after};
 ghost use Rattle.st_door.specs.Streams.{AppendsFront};
 ghost use Rattle.st_door.specs.Traces.{traces_of};
 ghost use Rattle.std.specs.Io.KnownBytes.{Appends};
-ghost use Rattle.st_door.specs.Script.{first_script_state, is_traced, step_of, commanded_of, with_start, without_named, door_start_of, ticked_script, rested_of};
+ghost use Rattle.st_door.specs.Script.{first_script_state, is_traced, step_of, commanded_of, effect_of, status_finished, told_script, with_start, without_named, door_start_of, ticked_script, rested_of};
 ghost use Rattle.st_door.specs.declared.effect.Effect.TheVariants.{Printed};
 ghost use Rattle.st_door.specs.declared.line.Line.TheVariants as line;
 
@@ -78,7 +80,7 @@ impl Script {
         match line {
             Line::Blank => Ok(Effect::Silent),
             Line::Malformed => Ok(Effect::Malformed),
-            Line::New { name, code } => self.obey_new(name, code),
+            Line::New { name, code } => self.obey_new(name, &code),
             Line::Button { name, digit } => {
                 let command = Command::Post(Entry::Cast, DoorContent::Button(digit));
                 self.obey_command(name.as_str(), command)
@@ -100,15 +102,15 @@ impl Script {
     }
 
     /// Starts a door under a name, and answers its status.
-    fn obey_new(&mut self, name: PlainText, code: Digits) -> Result<Effect, AllocError>
-        ensures effect { IfOk result (λ effect. effect ≡ (step_of self.old (line.New name code)).0) }
-        ensures script { OnOk result (self.new ≡ (step_of self.old (line.New name code)).1) }
+    fn obey_new(&mut self, name: PlainText, code: &Digits) -> Result<Effect, AllocError>
+        ensures effect { IfOk result (λ effect. effect ≡ (step_of self.old (line.New name code.now)).0) }
+        ensures script { OnOk result (self.new ≡ (step_of self.old (line.New name code.now)).1) }
     {
-        if let Some(taken) = self.doors.place_of(name.as_str()) {
-            let id = self.doors.id_at(taken);
+        if let Some(taken) = self.place_of(name.as_str()) {
+            let id = self.id_at(taken);
             return Ok(Effect::Refuses(Refusal::AlreadyStarted(id)));
         }
-        let place = self.doors.len();
+        let place = self.len();
         if place >= DOOR_LIMIT {
             return Ok(Effect::Refuses(Refusal::Full));
         }
@@ -129,15 +131,10 @@ impl Script {
         ensures effect { IfOk result (λ effect. effect ≡ (commanded_of self.old name.now command).0) }
         ensures script { OnOk result (self.new ≡ (commanded_of self.old name.now command).1) }
     {
-        let Some(place) = self.doors.place_of(name) else {
+        let Some(place) = self.place_of(name) else {
             return Ok(Effect::Refuses(Refusal::NoSuchName));
         };
-        let answer = self.tell(place, command)?;
-        if let Some(refusal) = refusal_in(&answer) {
-            return Ok(Effect::Refuses(refusal));
-        }
-        self.run_until_idle()?;
-        self.status_effect(place)
+        self.command_at(place, command, place)
     }
 
     /// Has the door of a name send a button to that of another, and answers the status of the other.
@@ -145,16 +142,38 @@ impl Script {
         ensures effect { IfOk result (λ effect. effect ≡ (step_of self.old (line.Relay name.now target.now digit)).0) }
         ensures script { OnOk result (self.new ≡ (step_of self.old (line.Relay name.now target.now digit)).1) }
     {
-        let Some(place) = self.doors.place_of(name) else {
+        let Some(place) = self.place_of(name) else {
             return Ok(Effect::Refuses(Refusal::NoSuchName));
         };
-        let Some(aim) = self.doors.place_of(target) else {
+        let Some(aim) = self.place_of(target) else {
             return Ok(Effect::Refuses(Refusal::NoSuchName));
         };
-        let id = self.doors.id_at(aim);
+        let id = self.id_at(aim);
         let relays = Command::Post(Entry::Cast, DoorContent::Relay(id, digit));
-        let answer = self.tell(place, relays)?;
-        if let Some(refusal) = refusal_in(&answer) {
+        self.command_at(place, relays, aim)
+    }
+
+    /// Tells the door at a place a command that is no turn, and answers the status of the door at another place, or why the
+    /// command is refused.
+    fn command_at(
+        &mut self,
+        place: usize,
+        command: Command<DoorContent>,
+        aim: usize,
+    ) -> Result<Effect, AllocError>
+        requires place { place < length self.old.doors }
+        requires aim { aim < length self.old.doors }
+        requires no_turn { serves command ≡ false }
+        ensures effect { IfOk result (λ effect. (name target : List ℕ)
+            → IsFirst (has_name name) self.old.doors place
+            → IsFirst (has_name target) self.old.doors aim
+            → effect ≡ (effect_of self.old (status_finished target) (told_script self.old name command (door_of name self.old.doors))).0) }
+        ensures script { OnOk result ((name target : List ℕ)
+            → IsFirst (has_name name) self.old.doors place
+            → IsFirst (has_name target) self.old.doors aim
+            → self.new ≡ (effect_of self.old (status_finished target) (told_script self.old name command (door_of name self.old.doors))).1) }
+    {
+        if let Some(refusal) = self.refusal_to(place, command)? {
             return Ok(Effect::Refuses(refusal));
         }
         self.run_until_idle()?;
@@ -166,7 +185,7 @@ impl Script {
         ensures effect { IfOk result (λ effect. effect ≡ (step_of self.old (line.Show name.now)).0) }
         ensures script { OnOk result (self.new ≡ (step_of self.old (line.Show name.now)).1) }
     {
-        let Some(place) = self.doors.place_of(name) else {
+        let Some(place) = self.place_of(name) else {
             return Ok(Effect::Refuses(Refusal::NoSuchName));
         };
         self.run_until_idle()?;
@@ -210,21 +229,51 @@ impl Script {
         ensures effect { IfOk result (λ effect. effect ≡ (step_of self.old (line.Length name.now)).0) }
         ensures script { OnOk result (self.new ≡ (step_of self.old (line.Length name.now)).1) }
     {
-        let Some(place) = self.doors.place_of(name) else {
+        let Some(place) = self.place_of(name) else {
             return Ok(Effect::Refuses(Refusal::NoSuchName));
         };
-        let machine = self.doors.id_at(place);
+        let machine = self.id_at(place);
+        let asked = self.ask_length(place)?;
+        let request = match asked {
+            Ok(number) => number,
+            Err(refusal) => return Ok(Effect::Refuses(refusal)),
+        };
+        self.run_until_idle()?;
+        let digits = self.collect_length(place, Tag { machine, request })?;
+        self.length_effect(name, digits)
+    }
+
+    /// Asks the door at a place how long its code is, and answers the number of the request, or why that is refused.
+    fn ask_length(&mut self, place: usize) -> Result<Result<u64, Refusal>, AllocError>
+        requires { place < length self.old.doors }
+        ensures asked { IfOk result (λ asked. IfOk asked (λ number. (d : NamedDoor) → answer.Post (Ok number) ≡ (told_of asks (slice_index_or self.old.doors place d)).0)) }
+        ensures refused { IfOk result (λ asked. IfErr asked (λ refusal. (d : NamedDoor) → Some refusal ≡ refusal_in (told_of asks (slice_index_or self.old.doors place d)).0)) }
+        ensures told { OnOk result ((d : NamedDoor) → self.new ≡ record self.old { doors = slice_set self.old.doors place (told_door asks (slice_index_or self.old.doors place d)) }) }
+    {
         let asks = Command::Post(Entry::Call, DoorContent::CodeLength);
         let Answer::Post(posted) = self.tell(place, asks)? else {
             unreachable!()
         };
-        let request = match posted {
-            Ok(number) => number,
-            Err(refused) => return Ok(Effect::Refuses(refused.refusal)),
-        };
-        self.run_until_idle()?;
-        let collected = self.tell(place, Command::Collect(Tag { machine, request }))?;
-        let digits = length_in(&collected);
+        match posted {
+            Ok(number) => Ok(Ok(number)),
+            Err(refused) => Ok(Err(refused.refusal)),
+        }
+    }
+
+    /// Collects the reply to a request at the door at a place, and answers the length that it says, if it says one.
+    fn collect_length(&mut self, place: usize, tag: Tag) -> Result<Option<usize>, AllocError>
+        requires { place < length self.old.doors }
+        ensures digits { IfOk result (λ digits. (d : NamedDoor) → digits ≡ length_in (told_of (command.Collect tag) (slice_index_or self.old.doors place d)).0) }
+        ensures told { OnOk result ((d : NamedDoor) → self.new ≡ record self.old { doors = slice_set self.old.doors place (told_door (command.Collect tag) (slice_index_or self.old.doors place d)) }) }
+    {
+        let collected = self.tell(place, Command::Collect(tag))?;
+        Ok(length_in(&collected))
+    }
+
+    /// Answers the length of the code of the door of a name.
+    fn length_effect(&self, name: &str, digits: Option<usize>) -> Result<Effect, AllocError>
+        ensures { IfOk result (λ effect. effect ≡ Printed (length_text name.now digits)) }
+    {
         let text = code_length(self.alloc, name, digits)?;
         Ok(Effect::Printed(PlainText::from(text)))
     }
@@ -238,22 +287,46 @@ impl Script {
         Ok(Effect::Printed(PlainText::from(self.doors.names(self.alloc)?)))
     }
 
+    /// How many doors there are.
+    fn len(&self) -> usize
+        ensures { result ≡ length self.now.doors }
+    {
+        self.doors.len()
+    }
+
+    /// The place of the door of a name.
+    fn place_of(&self, name: &str) -> Option<usize>
+        ensures place { IfSome result (IsFirst (has_name name.now) self.now.doors) }
+
+        ensures missing { IfNone result (door_of name.now self.now.doors ≡ None) }
+    {
+        self.doors.place_of(name)
+    }
+
+    /// The id of the door at a place.
+    fn id_at(&self, place: usize) -> MachineId
+        requires { place < length self.now.doors }
+        ensures { (d : NamedDoor) → result ≡ (slice_index_or self.now.doors place d).machine.id }
+    {
+        self.doors.id_at(place)
+    }
+
     /// Starts a door under a name that is not taken, and answers why that is refused, if it is.
-    fn start_door(&mut self, name: PlainText, code: Digits) -> Result<Option<Refusal>, AllocError>
+    fn start_door(&mut self, name: PlainText, code: &Digits) -> Result<Option<Refusal>, AllocError>
         requires free { door_of name self.old.doors ≡ None }
         requires reserved { length self.old.doors < door_limit }
-        ensures started { IfOk result (λ refusal. IfNone refusal (with_start self.old name (door_start_of self.old code) ≡ Ok self.new)) }
-        ensures refused { IfOk result (λ refusal. IfSome refusal (λ refusal. (with_start self.old name (door_start_of self.old code) ≡ Err refusal) × (self.new ≡ self.old))) }
+        ensures started { IfOk result (λ refusal. IfNone refusal (with_start self.old name (door_start_of self.old code.now) ≡ Ok self.new)) }
+        ensures refused { IfOk result (λ refusal. IfSome refusal (λ refusal. (with_start self.old name (door_start_of self.old code.now) ≡ Err refusal) × (self.new ≡ self.old))) }
     {
         let slot = self.slots.least_free()?;
         let Some(serial) = self.started.checked_add(1) else {
             return Err(AllocError);
         };
         let id = MachineId { slot, serial };
-        match Core::start(self.alloc, Door, id, &code, self.moment) {
-            Ok(Start::Running(core, _report)) => {
-                let door = DoorCell::new(self.alloc, core, self.traced)?;
-                self.doors.push(name.into_string(), door)?;
+        match Core::start(self.alloc, Door, id, code, self.moment) {
+            Ok(Start::Running(core, report)) => {
+                drop(report);
+                register(self.alloc, &mut self.doors, name, core, self.traced)?;
                 self.slots.take(slot);
                 self.started = serial;
                 Ok(None)
@@ -295,6 +368,21 @@ impl Script {
         self.from = from;
         self.until = until;
         Ok(answer)
+    }
+
+    /// Tells the door at a place a command that is no turn, and answers why it is refused, if it is.
+    fn refusal_to(
+        &mut self,
+        place: usize,
+        command: Command<DoorContent>,
+    ) -> Result<Option<Refusal>, AllocError>
+        requires place { place < length self.old.doors }
+        requires no_turn { serves command ≡ false }
+        ensures refusal { IfOk result (λ refusal. (d : NamedDoor) → refusal ≡ refusal_in (told_of command (slice_index_or self.old.doors place d)).0) }
+        ensures told { OnOk result ((d : NamedDoor) → self.new ≡ record self.old { doors = slice_set self.old.doors place (told_door command (slice_index_or self.old.doors place d)) }) }
+    {
+        let answer = self.tell(place, command)?;
+        Ok(refusal_in(&answer))
     }
 
     /// Goes to a moment and ticks each door at it, and answers how many time-outs expire. Where any
@@ -352,6 +440,23 @@ impl Script {
         let text = self.doors.status_at(self.alloc, place)?;
         Ok(Effect::Printed(PlainText::from(text)))
     }
+}
+
+/// Puts the machine of a door that has started among the doors, under a name that is not taken.
+fn register(
+    alloc: Global,
+    doors: &mut LateDoors,
+    name: PlainText,
+    core: Core<Door>,
+    traced: bool,
+) -> Result<(), AllocError>
+    requires { door_of name doors.old ≡ None }
+    ensures pushed { OnOk result (doors.new ≡ doors.old ++ door_named name (door_at_first traced core.machine) ∷ []) }
+
+    ensures unchanged { OnErr result (doors.new ≡ doors.old) }
+{
+    let door = DoorCell::new(alloc, core, traced)?;
+    doors.push(name.into_string(), door)
 }
 
 /// Says whether a mode prints the histories of doors, and so keeps them.

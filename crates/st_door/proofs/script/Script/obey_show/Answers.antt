@@ -1,22 +1,17 @@
-use Rattle.std.proofs.Common.{◌≡◌, ap}
 use Rattle.st_door.specs.Doors.{IsFirst, has_name}
-use Rattle.st_door.specs.Script.{ScriptState}
 use Rattle.st_door.proofs.DoorLemmas.{IsFirst-within, if_ok, ok_always}
-use Rattle.st_door.proofs.IdleLemmas.{no_door}
 use Rattle.st_door.proofs.ScriptStateLemmas.{IsFirst-labels, show-done, idle-effect, idle-script}
+use Rattle.st_door.proofs.IdleLemmas.{no_door}
 use Rattle.st_door.proofs.script.Script.obey_show.Goals as goal
 
 -- the place is that of the name, also once the doors rest
 pub status_effect-requires : goal.status_effect-requires
 status_effect-requires c =
-    let doors : c.self.inside.doors ≡ c.args.self.now.doors = ap (λ (script : ScriptState). script.doors) c.self.view_is in
-    let first : IsFirst (has_name c.args.name.now) c.args.self.now.doors c.in-Some.place = rw (← doors) c.in-Some.ensures.place in
-    IsFirst-within _ _ _ (IsFirst-labels c.args.name.now c.args.self.now.doors c.run_until_idle.new.self.doors c.in-Some.place c.in_ok-run_until_idle.ensures.same_labels first)
+    IsFirst-within _ _ _ (IsFirst-labels c.args.name.now c.args.self.now.doors c.run_until_idle.new.self.doors c.in-Some.place c.in_ok-run_until_idle.ensures.same_labels c.in-Some.ensures.place)
 
 pub returns-clause-effect : goal.returns-clause-effect
 returns-clause-effect c =
-    let doors : c.self.inside.doors ≡ c.args.self.now.doors = ap (λ (script : ScriptState). script.doors) c.self.view_is in
-    let first : IsFirst (has_name c.args.name.now) c.args.self.now.doors c.in-Some.place = rw (← doors) c.in-Some.ensures.place in
+    let first : IsFirst (has_name c.args.name.now) c.args.self.now.doors c.in-Some.place = c.in-Some.ensures.place in
     let idle = IsFirst-labels c.args.name.now c.args.self.now.doors c.run_until_idle.new.self.doors c.in-Some.place c.in_ok-run_until_idle.ensures.same_labels first in
     if_ok _ _ c.status_effect.result (λ effect says.
     idle-effect c.args.self.now c.run_until_idle.new.self c.args.name.now c.in-Some.place _ effect c.in_ok-run_until_idle.ensures.rested
@@ -25,7 +20,5 @@ returns-clause-effect c =
 
 pub returns-clause-script : goal.returns-clause-script
 returns-clause-script c =
-    let doors : c.self.inside.doors ≡ c.args.self.now.doors = ap (λ (script : ScriptState). script.doors) c.self.view_is in
-    let first : IsFirst (has_name c.args.name.now) c.args.self.now.doors c.in-Some.place = rw (← doors) c.in-Some.ensures.place in
     ok_always _ c.status_effect.result (idle-script c.args.self.now c.run_until_idle.new.self c.args.name.now _ c.in_ok-run_until_idle.ensures.rested
-    (show-done c.args.self.now c.args.name.now c.in-Some.place first))
+    (show-done c.args.self.now c.args.name.now c.in-Some.place c.in-Some.ensures.place))
