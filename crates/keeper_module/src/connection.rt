@@ -1,5 +1,5 @@
 //! The module of a connection: it is lent to one client at a time.
-ghost use Rattle.std.specs.Prelude.{◌≡◌, [], ◌∷◌, IfOk};
+ghost use Rattle.std.specs.Prelude.{◌≡◌, [], ◌∷◌, ◌++◌, IfOk};
 ghost use Rattle.std.proofs.Common.{rules};
 ghost use Rattle.keeper_module.specs.Pooling.{init_of, handle_of, enters, enter_of, terminate_of, stays, postpones, tells, lease_runs, doubled, with_longer_pause, with_check_out, connects, fails, lends, check_out_of, call_of, check_in_of, renew_of, cast_of, connected, lost, info_of, overdue, leaves, timeout_of, lasts};
 
@@ -50,14 +50,23 @@ type Entered = EnterOutcome<History, Content>;
 /// It has enter calls: they set the time-outs of an attempt, of a pause, and of a connection that nobody wants.
 ///
 /// Ours: an example of a pooled resource.
-#[derive(Clone, Copy, Debug, PartialEq, Eq)]
+#[derive(Clone, Copy)]
 pub struct Connection;
 
 /// One action.
 fn one(alloc: Global, action: Action<Content>) -> Result<Actions<Content>, AllocError>
     ensures { IfOk result (λ actions. actions ≡ action ∷ []) }
 {
-    let mut actions = Actions::new(alloc);
+    and(Actions::new(alloc), action)
+}
+
+/// One action more, behind the others.
+fn and(
+    mut actions: Actions<Content>,
+    action: Action<Content>,
+) -> Result<Actions<Content>, AllocError>
+    ensures { IfOk result (λ more. more ≡ actions ++ action ∷ []) }
+{
     actions.push(action)?;
     Ok(actions)
 }
@@ -139,8 +148,7 @@ fn lends(alloc: Global, tag: Tag, client: u32, data: &History) -> Result<Handled
     ensures { IfOk result (λ outcome. outcome ≡ lends tag client «data».now) }
 {
     let reply = Content::CheckedOut(data.place.number);
-    let mut actions = one(alloc, Action::Reply(tag, reply))?;
-    actions.push(lease_runs())?;
+    let actions = and(one(alloc, Action::Reply(tag, reply))?, lease_runs())?;
     Ok(Outcome::NextState(Link::Busy(client), with_check_out(data), actions))
 }
 
@@ -156,8 +164,8 @@ fn check_out(
 {
     match state {
         Link::Down => {
-            let mut actions = one(alloc, Action::Postpone(true))?;
-            actions.push(tells(data, Content::Connect))?;
+            let waits = one(alloc, Action::Postpone(true))?;
+            let actions = and(waits, tells(data, Content::Connect))?;
             Ok(Outcome::NextState(Link::Connecting, *data, actions))
         }
         Link::Free => lends(alloc, tag, client, data),
@@ -235,8 +243,8 @@ fn connected(alloc: Global, data: &History) -> Handled
 fn lost(alloc: Global, data: &History) -> Result<Handled, AllocError>
     ensures { IfOk result (λ outcome. outcome ≡ lost «data».now) }
 {
-    let mut actions = one(alloc, Action::Cancel(LEASE))?;
-    actions.push(tells(data, Content::Connect))?;
+    let no_lease = one(alloc, Action::Cancel(LEASE))?;
+    let actions = and(no_lease, tells(data, Content::Connect))?;
     Ok(Outcome::NextState(Link::Connecting, *data, actions))
 }
 
@@ -260,8 +268,8 @@ fn info(alloc: Global, content: Content, state: Link, data: &History) -> Result<
 fn overdue(alloc: Global, data: &History) -> Result<Handled, AllocError>
     ensures { IfOk result (λ outcome. outcome ≡ overdue «data».now) }
 {
-    let mut actions = one(alloc, Action::NextEvent(Kind::Info, Content::Failed))?;
-    actions.push(tells(data, Content::Close))?;
+    let failed = one(alloc, Action::NextEvent(Kind::Info, Content::Failed))?;
+    let actions = and(failed, tells(data, Content::Close))?;
     Ok(Outcome::KeepStateAndData(actions))
 }
 

@@ -3,7 +3,7 @@
 /// The content of events, of replies and of messages. A client is a number.
 ///
 /// Manual: `event_content()`.
-#[derive(Clone, Copy, Debug, PartialEq, Eq)]
+#[derive(Clone, Copy, PartialEq, Eq)]
 pub enum Content {
     /// This client wants the connection, by a call. Manual: `call/2`.
     CheckOut(u32),

@@ -5,7 +5,7 @@ use crate::Place;
 /// What a connection remembers.
 ///
 /// Manual: `data()`.
-#[derive(Clone, Copy, Debug, PartialEq, Eq)]
+#[derive(Clone, Copy)]
 pub struct History {
     /// Where it belongs.
     pub place: Place,

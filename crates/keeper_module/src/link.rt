@@ -3,7 +3,7 @@
 /// How far the connection is, and who has it.
 ///
 /// Manual: `state()`, a term of any form in `handle_event_function`.
-#[derive(Clone, Copy, Debug, PartialEq, Eq)]
+#[derive(Clone, Copy, PartialEq, Eq)]
 pub enum Link {
     /// It is not connected. Ours: the first state.
     Down,

@@ -5,7 +5,7 @@ use st_events::MachineId;
 /// Whose connection it is, and which of them.
 ///
 /// Ours: the argument of a start.
-#[derive(Clone, Copy, Debug, PartialEq, Eq)]
+#[derive(Clone, Copy)]
 pub struct Place {
     /// Who opens and closes sockets: to whom messages go.
     pub owner: MachineId,

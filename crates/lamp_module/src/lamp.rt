@@ -43,7 +43,7 @@ pub enum Press {
 
 /// A lamp. A switch turns it on while its bulb lasts, and off; it turns itself off after 10,000
 /// milliseconds. Another bulb leaves it as it is.
-#[derive(Clone, Copy, Debug, PartialEq, Eq)]
+#[derive(Clone, Copy)]
 pub struct Lamp;
 
 impl Module for Lamp {

@@ -1,7 +1,8 @@
 //! The module of a cabin: it takes calls, and moves only while the door is closed.
-ghost use Rattle.std.specs.Prelude.{◌≡◌, [], ◌∷◌, IfOk};
+ghost use Rattle.std.specs.Prelude.{◌≡◌, [], ◌∷◌, ◌++◌, IfOk};
 ghost use Rattle.std.proofs.Common.{rules};
-ghost use Rattle.lift_module.specs.Riding.{init_of, handle_of, enters, enter_of, terminate_of, stays, postpones, leaves, tries_again, replies, halts, nearer, passes, arrives, opened, call_of, parks, timeout_of, told_of};
+ghost use Rattle.st_events.specs.declared.outcome.Outcome.TheVariants.{KeepStateAndData};
+ghost use Rattle.lift_module.specs.Riding.{init_of, handle_of, enters, enter_of, terminate_of, stays, postpones, leaves, tries_again, replies, halts, nearer, passes, rests, arrives, opened, call_of, parks, timeout_of, told_of};
 
 use crate::{Content, Journey, Motion};
 use st_events::{
@@ -45,16 +46,32 @@ type Entered = EnterOutcome<Journey, Content>;
 /// is its floor.
 ///
 /// Ours: an example of two machines that send each other messages.
-#[derive(Clone, Copy, Debug, PartialEq, Eq)]
+#[derive(Clone, Copy)]
 pub struct Cabin;
 
 /// One action.
 fn one(alloc: Global, action: Action<Content>) -> Result<Actions<Content>, AllocError>
     ensures { IfOk result (λ actions. actions ≡ action ∷ []) }
 {
-    let mut actions = Actions::new(alloc);
+    and(Actions::new(alloc), action)
+}
+
+/// One action more, behind the others.
+fn and(
+    mut actions: Actions<Content>,
+    action: Action<Content>,
+) -> Result<Actions<Content>, AllocError>
+    ensures { IfOk result (λ more. more ≡ actions ++ action ∷ []) }
+{
     actions.push(action)?;
     Ok(actions)
+}
+
+/// Both stay, and one thing is asked for.
+fn asks(alloc: Global, action: Action<Content>) -> Result<Handled, AllocError>
+    ensures { IfOk result (λ outcome. outcome ≡ KeepStateAndData (action ∷ [])) }
+{
+    Ok(Outcome::KeepStateAndData(one(alloc, action)?))
 }
 
 /// Both stay, and nothing is asked for.
@@ -94,8 +111,8 @@ fn leaves(
 ) -> Result<Handled, AllocError>
     ensures { IfOk result (λ outcome. outcome ≡ leaves caller target «data».now) }
 {
-    let mut actions = one(alloc, Action::Cancel(PARKING))?;
-    actions.push(Action::Send(data.door, Content::Close))?;
+    let no_parking = one(alloc, Action::Cancel(PARKING))?;
+    let actions = and(no_parking, Action::Send(data.door, Content::Close))?;
     let journey = Journey {
         target,
         caller,
@@ -109,8 +126,8 @@ fn leaves(
 fn halts(alloc: Global, data: &Journey) -> Result<Handled, AllocError>
     ensures { IfOk result (λ outcome. outcome ≡ halts «data».now) }
 {
-    let mut actions = replies(alloc, data.caller, Content::Failed)?;
-    actions.push(Action::Cancel(PARKING))?;
+    let told = replies(alloc, data.caller, Content::Failed)?;
+    let actions = and(told, Action::Cancel(PARKING))?;
     Ok(Outcome::NextState(Motion::Stopped, *data, actions))
 }
 
@@ -152,15 +169,25 @@ fn passes(alloc: Global, data: &Journey) -> Result<Handled, AllocError>
     }
 }
 
+/// Who waited for it is told, and it is to park later; where nobody waited it has parked.
+fn rests(alloc: Global, caller: Option<Tag>) -> Result<Actions<Content>, AllocError>
+    ensures { IfOk result (λ actions. actions ≡ rests caller) }
+{
+    match caller {
+        None => Ok(Actions::new(alloc)),
+        Some(tag) => {
+            let time = Time::After(PARKING_TIME);
+            let told = one(alloc, Action::Reply(tag, Content::Arrived))?;
+            and(told, Action::Set(PARKING, time, Content::Go(HOME)))
+        }
+    }
+}
+
 /// The door is open at its floor: who waited for it is told, and it is to park later.
 fn arrives(alloc: Global, data: &Journey) -> Result<Handled, AllocError>
     ensures { IfOk result (λ outcome. outcome ≡ arrives «data».now) }
 {
-    let mut actions = replies(alloc, data.caller, Content::Arrived)?;
-    if data.caller.is_some() {
-        let time = Time::After(PARKING_TIME);
-        actions.push(Action::Set(PARKING, time, Content::Go(HOME)))?;
-    }
+    let actions = rests(alloc, data.caller)?;
     let journey = Journey {
         caller: None,
         ..*data
@@ -191,14 +218,10 @@ fn call(
 {
     match state {
         Motion::Resting if floor == data.floor => {
-            let actions = one(alloc, Action::Reply(tag, Content::Arrived))?;
-            Ok(Outcome::KeepStateAndData(actions))
+            asks(alloc, Action::Reply(tag, Content::Arrived))
         }
         Motion::Resting => leaves(alloc, Some(tag), floor, data),
-        Motion::Stopped => {
-            let actions = one(alloc, Action::Reply(tag, Content::Failed))?;
-            Ok(Outcome::KeepStateAndData(actions))
-        }
+        Motion::Stopped => asks(alloc, Action::Reply(tag, Content::Failed)),
         _ => postpones(alloc),
     }
 }
@@ -248,8 +271,7 @@ fn told(
         }
         (Content::Opened, Motion::Moving) => opened(alloc, data),
         (Content::Park(floor), Motion::Resting) => {
-            let actions = one(alloc, Action::Update(PARKING, Content::Go(floor)))?;
-            Ok(Outcome::KeepStateAndData(actions))
+            asks(alloc, Action::Update(PARKING, Content::Go(floor)))
         }
         (Content::Park(_), _) => postpones(alloc),
         _ => Ok(stays(alloc)),

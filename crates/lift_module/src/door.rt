@@ -26,7 +26,7 @@ type Entered = EnterOutcome<MachineId, Content>;
 /// it is closed, and else 0.
 ///
 /// Ours: an example of two machines that send each other messages.
-#[derive(Clone, Copy, Debug, PartialEq, Eq)]
+#[derive(Clone, Copy)]
 pub struct Door;
 
 /// One action.

@@ -5,7 +5,7 @@ use st_events::{MachineId, Tag};
 /// Where the cabin is, where it goes, and for whom.
 ///
 /// Manual: `data()`.
-#[derive(Clone, Copy, Debug, PartialEq, Eq)]
+#[derive(Clone, Copy)]
 pub struct Journey {
     /// The door.
     pub door: MachineId,

@@ -5,7 +5,7 @@ use crate::Fault;
 /// A line to the client.
 ///
 /// Ours: the replies of a small mailbox.
-#[derive(Clone, Copy, Debug, PartialEq, Eq)]
+#[derive(Clone, Copy, PartialEq, Eq)]
 pub enum Answer {
     /// The greeting. Ours: `+OK ready`.
     Ready,

@@ -3,7 +3,7 @@
 /// What a line of the client asks for. A name is a number here: the program knows which.
 ///
 /// Ours: the commands of a small mailbox.
-#[derive(Clone, Copy, Debug, PartialEq, Eq)]
+#[derive(Clone, Copy, PartialEq, Eq)]
 pub enum Command {
     /// The client has this name. Ours: `user NAME`.
     User(u32),

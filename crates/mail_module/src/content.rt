@@ -5,7 +5,7 @@ use crate::{Answer, Command};
 /// The content of events, of replies and of messages.
 ///
 /// Manual: `event_content()`.
-#[derive(Clone, Copy, Debug, PartialEq, Eq)]
+#[derive(Clone, Copy, PartialEq, Eq)]
 pub enum Content {
     /// A line of the client, which comes as a call. Manual: `call/2`.
     Asked(Command),

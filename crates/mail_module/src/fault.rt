@@ -3,7 +3,7 @@
 /// What follows `-ERR`.
 ///
 /// Ours: the faults of a small mailbox.
-#[derive(Clone, Copy, Debug, PartialEq, Eq)]
+#[derive(Clone, Copy, PartialEq, Eq)]
 pub enum Fault {
     /// The line is no command. Ours: `-ERR no command`.
     NoCommand,

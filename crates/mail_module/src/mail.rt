@@ -1,7 +1,10 @@
 //! The module of a mailbox: it handles the lines of a small protocol.
-ghost use Rattle.std.specs.Prelude.{◌≡◌, [], ◌∷◌, IfOk};
+ghost use Rattle.std.specs.Prelude.{◌≡◌, [], ◌∷◌, ◌++◌, IfOk};
 ghost use Rattle.std.proofs.Common.{rules};
-ghost use Rattle.mail_module.specs.Protocol.{init_of, handle_of, enters, enter_of, terminate_of, idle_runs, answers, keeps, closes, is_right, has_mail, wrong, passed, wanted, call_of, timeout_of, stray_of, info_of, says, tells};
+ghost use Rattle.st_events.specs.declared.outcome.Outcome.TheVariants.{KeepStateAndData, NextState};
+ghost use Rattle.mail_module.specs.declared.answer.Answer.TheVariants.{Fine};
+ghost use Rattle.mail_module.specs.declared.phase.Phase.TheVariants.{Named};
+ghost use Rattle.mail_module.specs.Protocol.{init_of, handle_of, enters, enter_of, terminate_of, idle_runs, answers, keeps, closes, is_right, has_mail, with_user, wrong, passed, wanted, call_of, timeout_of, stray_of, info_of, says, tells};
 
 use crate::{Answer, Command, Content, Fault, Mailbox, Phase, Session, Take};
 use st_events::{
@@ -40,7 +43,7 @@ type Entered = EnterOutcome<Session, Content>;
 /// the machine once all that waits was refused.
 ///
 /// Ours: an example of a protocol's handler.
-#[derive(Clone, Copy, Debug, PartialEq, Eq)]
+#[derive(Clone, Copy)]
 pub struct Mail;
 
 /// The event time-out: the client says nothing.
@@ -54,18 +57,33 @@ fn idle_runs() -> Action<Content>
 fn one(alloc: Global, action: Action<Content>) -> Result<Actions<Content>, AllocError>
     ensures { IfOk result (λ actions. actions ≡ action ∷ []) }
 {
-    let mut actions = Actions::new(alloc);
+    and(Actions::new(alloc), action)
+}
+
+/// One action more, behind the others.
+fn and(
+    mut actions: Actions<Content>,
+    action: Action<Content>,
+) -> Result<Actions<Content>, AllocError>
+    ensures { IfOk result (λ more. more ≡ actions ++ action ∷ []) }
+{
     actions.push(action)?;
     Ok(actions)
+}
+
+/// State and data stay, and one thing is asked for.
+fn asks(alloc: Global, action: Action<Content>) -> Result<Handled, AllocError>
+    ensures { IfOk result (λ outcome. outcome ≡ KeepStateAndData (action ∷ [])) }
+{
+    Ok(Outcome::KeepStateAndData(one(alloc, action)?))
 }
 
 /// A call is answered, and the client is waited for.
 fn answers(alloc: Global, tag: Tag, answer: Answer) -> Result<Actions<Content>, AllocError>
     ensures { IfOk result (λ actions. actions ≡ answers tag answer) }
 {
-    let mut actions = one(alloc, Action::Reply(tag, Content::Said(answer)))?;
-    actions.push(idle_runs())?;
-    Ok(actions)
+    let said = one(alloc, Action::Reply(tag, Content::Said(answer)))?;
+    and(said, idle_runs())
 }
 
 /// State and data stay, and a call is answered.
@@ -79,7 +97,8 @@ fn keeps(alloc: Global, tag: Tag, answer: Answer) -> Result<Handled, AllocError>
 fn closes(alloc: Global, data: &Session, last: Action<Content>) -> Result<Handled, AllocError>
     ensures { IfOk result (λ outcome. outcome ≡ closes «data».now last) }
 {
-    Ok(Outcome::NextState(Phase::Closing, *data, one(alloc, last)?))
+    let actions = one(alloc, last)?;
+    Ok(Outcome::NextState(Phase::Closing, *data, actions))
 }
 
 /// The last word to the client answers its call.
@@ -138,9 +157,9 @@ fn passed(alloc: Global, tag: Tag, pin: u32, data: &Session) -> Result<Handled, 
     ensures { IfOk result (λ outcome. outcome ≡ passed tag pin «data».now) }
 {
     if is_right(data, pin) {
-        let mut actions = one(alloc, Action::Cancel(LOGIN))?;
-        actions.push(Action::Reply(tag, Content::Said(Answer::Fine)))?;
-        actions.push(idle_runs())?;
+        let actions = one(alloc, Action::Cancel(LOGIN))?;
+        let actions = and(actions, Action::Reply(tag, Content::Said(Answer::Fine)))?;
+        let actions = and(actions, idle_runs())?;
         Ok(Outcome::NextState(Phase::Open, *data, actions))
     } else {
         wrong(alloc, tag, data)
@@ -159,6 +178,14 @@ fn wanted(alloc: Global, tag: Tag, number: u32, data: &Session) -> Result<Handle
     }
 }
 
+/// The client says its name.
+fn named(alloc: Global, tag: Tag, user: u32, data: &Session) -> Result<Handled, AllocError>
+    ensures { IfOk result (λ outcome. outcome ≡ NextState Named (with_user «data».now user) (answers tag Fine)) }
+{
+    let actions = answers(alloc, tag, Answer::Fine)?;
+    Ok(Outcome::NextState(Phase::Named, Session { user, ..*data }, actions))
+}
+
 /// A command of the client. While a mail is being taken it is postponed.
 fn call(
     alloc: Global,
@@ -170,21 +197,14 @@ fn call(
     ensures { IfOk result (λ outcome. outcome ≡ call_of tag command state «data».now) }
 {
     match (command, state) {
-        (_, Phase::Busy(_)) => {
-            let actions = one(alloc, Action::Postpone(true))?;
-            Ok(Outcome::KeepStateAndData(actions))
-        }
+        (_, Phase::Busy(_)) => asks(alloc, Action::Postpone(true)),
         (_, Phase::Closing) => {
             let refused = Content::Said(Answer::Not(Fault::Closing));
-            let actions = one(alloc, Action::Reply(tag, refused))?;
-            Ok(Outcome::KeepStateAndData(actions))
+            asks(alloc, Action::Reply(tag, refused))
         }
         (Command::Quit, _) => replies_last(alloc, tag, Answer::Bye, data),
         (Command::Unknown, _) => keeps(alloc, tag, Answer::Not(Fault::NoCommand)),
-        (Command::User(user), Phase::Greeted) => {
-            let actions = answers(alloc, tag, Answer::Fine)?;
-            Ok(Outcome::NextState(Phase::Named, Session { user, ..*data }, actions))
-        }
+        (Command::User(user), Phase::Greeted) => named(alloc, tag, user, data),
         (Command::Pass(pin), Phase::Named) => passed(alloc, tag, pin, data),
         (Command::Stat, Phase::Open) => keeps(alloc, tag, Answer::Mails(data.mailbox.mails)),
         (Command::Noop, Phase::Open) => keeps(alloc, tag, Answer::Fine),
@@ -223,7 +243,7 @@ fn stray(alloc: Global, state: Phase) -> Result<Handled, AllocError>
 {
     match state {
         Phase::Busy(_) | Phase::Closing => Ok(Outcome::KeepStateAndData(Actions::new(alloc))),
-        _ => Ok(Outcome::KeepStateAndData(one(alloc, idle_runs())?)),
+        _ => asks(alloc, idle_runs()),
     }
 }
 
@@ -274,12 +294,9 @@ impl Module for Mail {
             user: 0,
             tries: TRIES,
         };
-        let mut actions = one(
-            alloc,
-            Action::Send(mailbox.client, Content::Said(Answer::Ready)),
-        )?;
-        actions.push(Action::Set(LOGIN, Time::After(LOGIN_TIME), Content::TimeOut))?;
-        actions.push(idle_runs())?;
+        let greets = Action::Send(mailbox.client, Content::Said(Answer::Ready));
+        let login_runs = Action::Set(LOGIN, Time::After(LOGIN_TIME), Content::TimeOut);
+        let actions = and(and(one(alloc, greets)?, login_runs)?, idle_runs())?;
         Ok(Init::Ok(Phase::Greeted, data, actions))
     }
 

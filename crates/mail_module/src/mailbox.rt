@@ -5,7 +5,7 @@ use st_events::MachineId;
 /// Whose mailbox it is, what opens it, and what is in it.
 ///
 /// Ours: the argument of a start.
-#[derive(Clone, Copy, Debug, PartialEq, Eq)]
+#[derive(Clone, Copy)]
 pub struct Mailbox {
     /// To whom lines go that answer no call.
     pub client: MachineId,

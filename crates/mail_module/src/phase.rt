@@ -5,7 +5,7 @@ use crate::Take;
 /// Where the protocol is.
 ///
 /// Manual: `state()`, a term of any form in `handle_event_function`.
-#[derive(Clone, Copy, Debug, PartialEq, Eq)]
+#[derive(Clone, Copy, PartialEq, Eq)]
 pub enum Phase {
     /// The client was greeted: its name is wanted. Ours: the first state.
     Greeted,

@@ -5,7 +5,7 @@ use crate::Mailbox;
 /// The mailbox, and what the client said.
 ///
 /// Manual: `data()`.
-#[derive(Clone, Copy, Debug, PartialEq, Eq)]
+#[derive(Clone, Copy)]
 pub struct Session {
     /// The mailbox.
     pub mailbox: Mailbox,

@@ -4,7 +4,7 @@ ghost use Rattle.st_events.specs.Timers.{AskedOnce};
 ghost use Rattle.st_actions.specs.Plan.{inserts_of};
 ghost use Rattle.st_actions.specs.Taking.{all_settings_of};
 
-use super::host::{Host, got, holds, same};
+use super::host::{Host, got, holds, is_count, is_moment, is_number, same};
 use st_actions::count_last;
 use st_agenda::{Agenda, Item, Schedule};
 use st_events::{Action, Actions, CopyContent, Event, Kind, PlainList, Time, Timer};
@@ -112,13 +112,13 @@ fn run(rt: &Host<impl Abort>, agenda: &Agenda<u64>, wanted: &[(Timer, u64, Due)]
 /// Looks which event comes next, with its number, its kind and its content; and that so many wait.
 fn comes(rt: &impl Abort, agenda: &Agenda<u64>, event: Seen, waiting: usize) {
     same(rt, "the next event", &seen(agenda), &event);
-    same(rt, "how many wait", &agenda.waiting(), &waiting);
+    is_count(rt, "how many wait", agenda.waiting(), waiting);
 }
 
 /// Looks which number the next event gets, and when the next time-out expires.
 fn next(rt: &impl Abort, agenda: &Agenda<u64>, number: u64, due: Option<u64>) {
-    same(rt, "the next number", &agenda.next_number(), &number);
-    same(rt, "the next moment", &agenda.next_due(), &due);
+    is_number(rt, "the next number", agenda.next_number(), number);
+    is_moment(rt, "the next moment", agenda.next_due(), due);
 }
 
 /// Looks that what can be read without memory is as it was.
@@ -178,7 +178,7 @@ fn push(rt: &Host<impl Abort>, agenda: &mut Agenda<u64>, content: u64, number: u
             push_again(rt, agenda, content)
         }
     };
-    same(rt, "the number that it gets", &given, &number);
+    is_number(rt, "the number that it gets", given, number);
 }
 
 /// Reserves for inserted events and timers. Where memory was refused, nothing has changed, and the call
@@ -277,13 +277,16 @@ fn tick_in<R: Abort, L: Ledger>(
 {
     let steps = &mut Steps::<L>::new(blank);
     let before = readable(agenda);
-    let mut count = agenda.expire(now as u64, steps);
-    if count.is_err() {
-        reads_as(rt, agenda, &before);
-        rt.retry();
-        count = agenda.expire(now as u64, steps);
-    }
-    same(rt, "how many expire", &count.ok(), &Some(expired));
+    let count = match agenda.expire(now as u64, steps) {
+        Ok(count) => count,
+        Err(_) => {
+            reads_as(rt, agenda, &before);
+            rt.retry();
+            let count = agenda.expire(now as u64, steps);
+            got(rt, "one allocation alone is refused", count)
+        }
+    };
+    is_count(rt, "how many expire", count, expired);
 }
 
 /// Looks how many numbers the updates among these settings would take, where the state changes or not.
@@ -297,7 +300,7 @@ fn updates(
 ) {
     let actions = actions_of(rt, alloc, &[], settings);
     let taken = agenda.numbers_of_updates(&actions, changed);
-    same(rt, "how many numbers updates take", &taken, &wanted);
+    is_number(rt, "how many numbers updates take", taken, wanted);
 }
 
 /// Makes a call that changes nothing, and looks at its answer.

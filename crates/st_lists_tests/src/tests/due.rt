@@ -1,7 +1,7 @@
 //! Tests of st_due: each call with memory at hand and where one allocation is refused, and long runs beside a plain list.
 ghost use Rattle.std.specs.Prelude.{◌≤◌};
 
-use super::host::{Host, got, holds, same};
+use super::host::{Host, got, holds, is_count, is_moment, is_number, same};
 use st_due::{DueMachine, DueQueue, MachineId};
 use std::process::Abort;
 
@@ -72,12 +72,12 @@ fn write(moments: &mut [Option<u64>], number: usize, moment: Option<u64>) {
 fn shows(rt: &impl Abort, queue: &DueQueue, moments: &[Option<u64>]) {
     for (number, moment) in moments.iter().enumerate() {
         let found = queue.moment_of(machine(number));
-        same(rt, "the moment of a machine", &found, moment);
+        is_moment(rt, "the moment of a machine", found, *moment);
     }
     let count = moments.iter().filter(|moment| moment.is_some()).count();
-    same(rt, "how many there are", &queue.len(), &count);
+    is_count(rt, "how many there are", queue.len(), count);
     let earliest = first_of(moments).map(|first| first.1);
-    same(rt, "the earliest moment", &queue.first(), &earliest);
+    is_moment(rt, "the earliest moment", queue.first(), earliest);
 }
 
 /// Reserves for so many. A call that finds no memory changes nothing that can be read, and is made again.
@@ -143,7 +143,7 @@ fn make(rt: &Host<impl Abort>, queue: &mut DueQueue, moments: &mut [Option<u64>]
             let taken = take(rt, queue, moments, now);
             same(rt, "what is taken out", &taken, &wanted);
         }
-        Call::First(wanted) => same(rt, "the earliest moment", &queue.first(), &wanted),
+        Call::First(wanted) => is_moment(rt, "the earliest moment", queue.first(), wanted),
         Call::Reserve(count) => reserve_for(rt, queue, count, moments),
     }
 }
@@ -339,7 +339,7 @@ fn many_calls_answer_as_a_plain_list(rt: HostRuntime) {
 fn note_thousands(rt: &Host<impl Abort>, queue: &mut DueQueue, count: usize) {
     for slot in 0..count {
         if queue.reserve(1).is_err() {
-            same(rt, "how many there are", &queue.len(), &slot);
+            is_count(rt, "how many there are", queue.len(), slot);
             rt.retry();
             got(rt, "one allocation alone is refused", queue.reserve(1));
         }
@@ -353,7 +353,7 @@ fn take_thousands(rt: &Host<impl Abort>, queue: &mut DueQueue, count: usize) {
     for _ in 0..count {
         let taken = queue.take(u64::MAX).expect(rt, "one is left");
         let own = next(taken.machine.slot as u64) >> 50;
-        same(rt, "its own moment", &taken.moment, &own);
+        is_number(rt, "its own moment", taken.moment, own);
         let row = (taken.moment, taken.machine.slot);
         holds(rt, "in order", last <= row);
         last = row;

@@ -45,7 +45,8 @@ impl<R: AllocGlobal> Host<R> {
 impl<R: Abort> Host<R> {
     /// A call found no memory, and is made again. One allocation alone is refused, so there is one such call.
     pub fn retry(&self) {
-        assert_eq!(self; self.retries.get(), 0);
+        let first = self.retries.get() == 0;
+        holds(self, "one call alone is made again", first);
         self.retries.set(1);
     }
 
@@ -71,7 +72,8 @@ impl<R: Abort + AllocGlobal + Print> Host<R> {
     pub fn end(&self) -> bool {
         for _ in 0..10_000 {
             if Box::new(self.alloc(), 'x').is_err() {
-                assert_eq!(self; self.retries.get(), 0);
+                let none = self.retries.get() == 0;
+                holds(self, "no call was made again", none);
                 self.end_with_memory();
                 return true;
             }
@@ -112,6 +114,26 @@ pub fn holds(rt: &impl Abort, word: &str, fact: bool)
 /// Ends the test with this word and both values where they differ.
 pub fn same<T: PartialEq + Debug>(rt: &impl Abort, word: &str, found: &T, wanted: &T) {
     assert!(rt; found == wanted, "{word}: {found:?} in place of {wanted:?}");
+}
+
+/// The same for numbers.
+pub fn is_number(rt: &impl Abort, word: &str, found: u64, wanted: u64) {
+    same(rt, word, &found, &wanted);
+}
+
+/// The same for how many there are.
+pub fn is_count(rt: &impl Abort, word: &str, found: usize, wanted: usize) {
+    same(rt, word, &found, &wanted);
+}
+
+/// The same for a moment, or none.
+pub fn is_moment(rt: &impl Abort, word: &str, found: Option<u64>, wanted: Option<u64>) {
+    same(rt, word, &found, &wanted);
+}
+
+/// The same for a letter, or none.
+pub fn is_letter(rt: &impl Abort, word: &str, found: Option<char>, wanted: Option<char>) {
+    same(rt, word, &found, &wanted);
 }
 
 /// What a call gave. Ends the test with this word where it was refused.

@@ -1,9 +1,14 @@
 //! Tests of st_long_list: each call once with memory at hand, and all of them where one allocation is refused.
 ghost use Rattle.std.specs.Prelude.{◌≤◌};
 
-use super::host::{Host, got, holds, same};
+use super::host::{Host, got, holds, is_count, same};
 use st_long_list::LongList;
 use std::process::Abort;
+
+/// Looks that it is this number, or that there is none.
+fn is_item(rt: &impl Abort, word: &str, found: Option<u32>, wanted: Option<u32>) {
+    same(rt, word, &found, &wanted);
+}
 
 /// All that can be read of a list without a change to it, of up to 2,048 elements.
 #[derive(Drop)]
@@ -30,14 +35,10 @@ fn readable(list: &LongList<u32>) -> Seen {
 /// Looks that all that can be read is as it was.
 fn unchanged(rt: &impl Abort, list: &LongList<u32>, before: &Seen) {
     let after = readable(list);
-    same(rt, "the length stays", &after.len, &before.len);
-    same(
-        rt,
-        "it is empty as before",
-        &after.is_empty,
-        &before.is_empty,
-    );
-    same(rt, "the last one stays", &after.last, &before.last);
+    is_count(rt, "the length stays", after.len, before.len);
+    let is_same = after.is_empty == before.is_empty;
+    holds(rt, "it is empty as before", is_same);
+    is_item(rt, "the last one stays", after.last, before.last);
     holds(rt, "the elements stay", after.items == before.items);
 }
 
@@ -77,14 +78,14 @@ fn crowd_in(rt: &Host<impl Abort>, list: &mut LongList<u32>, place: usize, first
 /// The numbers from one up to another leave, each from the same place.
 fn leave(rt: &impl Abort, list: &mut LongList<u32>, place: usize, first: u32, end: u32) {
     for number in first..end {
-        same(rt, "what leaves", &list.remove(place), &Some(number));
+        is_item(rt, "what leaves", list.remove(place), Some(number));
     }
 }
 
 /// The numbers from one up to another leave from the end of the list, where the least stands last.
 fn pop_up(rt: &impl Abort, list: &mut LongList<u32>, first: u32, end: u32) {
     for number in first..end {
-        same(rt, "what leaves", &list.pop(), &Some(number));
+        is_item(rt, "what leaves", list.pop(), Some(number));
     }
 }
 
@@ -92,7 +93,7 @@ fn pop_up(rt: &impl Abort, list: &mut LongList<u32>, first: u32, end: u32) {
 fn pop_down(rt: &impl Abort, list: &mut LongList<u32>, first: u32, count: u32) {
     for number in 0..count {
         let wanted = Some(first.wrapping_sub(number));
-        same(rt, "what leaves", &list.pop(), &wanted);
+        is_item(rt, "what leaves", list.pop(), wanted);
     }
 }
 
@@ -100,7 +101,7 @@ fn pop_down(rt: &impl Abort, list: &mut LongList<u32>, first: u32, count: u32) {
 fn goes_up(rt: &impl Abort, list: &LongList<u32>, place: usize, end: usize, first: u32, step: u32) {
     let mut number = first;
     for place in place..end {
-        same(rt, "it goes up", &list.get(place).copied(), &Some(number));
+        is_item(rt, "it goes up", list.get(place).copied(), Some(number));
         number = number.wrapping_add(step);
     }
 }
@@ -116,16 +117,16 @@ fn goes_down(
 ) {
     let mut number = first;
     for place in place..end {
-        same(rt, "it goes down", &list.get(place).copied(), &Some(number));
+        is_item(rt, "it goes down", list.get(place).copied(), Some(number));
         number = number.wrapping_sub(step);
     }
 }
 
 /// Looks how many there are, and at the last one.
 fn ends(rt: &impl Abort, list: &LongList<u32>, len: usize, last: Option<u32>) {
-    same(rt, "how many", &list.len(), &len);
+    is_count(rt, "how many", list.len(), len);
     holds(rt, "none only of none", list.is_empty() == (len == 0));
-    same(rt, "the last", &list.last().copied(), &last);
+    is_item(rt, "the last", list.last().copied(), last);
     holds(rt, "none behind it", list.get(len) == None);
 }
 

@@ -1,7 +1,7 @@
 //! Tests of st_outbox: each call once with memory at hand, and all of them where one allocation is refused.
 ghost use Rattle.std.specs.Prelude.{◌≤◌};
 
-use super::host::{Host, got, holds, same};
+use super::host::{Host, got, holds, is_number, same};
 use st_events::{CopyContent, MachineId, Message, NUMBER_LIMIT};
 use st_outbox::{Outbox, Outgoing};
 use std::alloc::{AllocError, Global};
@@ -106,7 +106,7 @@ fn take(rt: &impl Abort, outgoing: &mut Outgoing<char>, row: Option<(u64, u64, c
 
 /// Looks at the number that the next message gets.
 fn next(rt: &impl Abort, outgoing: &Outgoing<char>, number: u64) {
-    same(rt, "the next number", &outgoing.next_number(), &number);
+    is_number(rt, "the next number", outgoing.next_number(), number);
 }
 
 /// Makes a call, and looks at its answer.

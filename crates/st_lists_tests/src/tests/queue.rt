@@ -1,7 +1,7 @@
 //! Tests of st_queue: each call once with memory at hand, and all of them where one allocation is refused.
 ghost use Rattle.std.specs.Prelude.{◌≡◌, ◌<◌};
 
-use super::host::{Host, holds, same};
+use super::host::{Host, holds, is_letter, same};
 use st_queue::EventQueue;
 use st_steps::Steps;
 use std::alloc::Global;
@@ -9,6 +9,32 @@ use std::io::Print;
 use std::marker::{Brand, Send};
 use std::process::Abort;
 use std::sync::ledger::{Blank, Ledger};
+
+/// A call of a queue, or a look at it, and what it is to answer.
+#[derive(Clone, Copy)]
+enum Call {
+    /// These events are pushed.
+    Push(&'static [char]),
+    /// So many nodes are to be ready.
+    Stage(usize),
+    /// An event comes in at the cursor, on a node that is ready.
+    Insert(char),
+    /// An event comes in at the end, on a node that is ready.
+    PushStaged(char),
+    /// So many events are passed over.
+    Skip(usize),
+    /// These events are passed over.
+    SkipThese(&'static [char]),
+    /// These events are taken out.
+    Take(&'static [char]),
+    /// The cursor goes back to the first event.
+    Rewind,
+    /// None is there to take or to pass over.
+    AtEnd,
+    /// With a word, all that can be read: how many events there are, how many of them stand before the cursor, how many
+    /// nodes are ready, and the event at the cursor.
+    Shows(&'static str, usize, usize, usize, Option<char>),
+}
 
 /// All that can be read of a queue without a change to it.
 fn readable(queue: &EventQueue<char>) -> (usize, bool, usize, usize, Option<char>) {
@@ -139,7 +165,7 @@ fn skip_these<L: Ledger>(
     steps: &mut Steps<L>,
 ) {
     for event in events {
-        same(rt, "the next", &queue.peek().copied(), &Some(*event));
+        is_letter(rt, "the next", queue.peek().copied(), Some(*event));
         holds(rt, "it is passed over", queue.skip(steps) == Some(()));
     }
 }
@@ -153,145 +179,154 @@ fn take_these<L: Ledger>(
 ) {
     for event in events {
         holds(rt, "there is one to take", !queue.is_empty());
-        same(rt, "what is taken", &queue.remove(steps), &Some(*event));
+        is_letter(rt, "what is taken", queue.remove(steps), Some(*event));
     }
 }
 
-/// Events come in at both ends of the cursor and leave, and all are there.
-fn come_and_leave<L: Ledger>(
-    rt: &Host<impl Abort>,
-    queue: &mut EventQueue<char>,
-    steps: &mut Steps<L>,
-) {
-    shows(rt, "no event", queue, 0, 0, 0, None);
-    push_all(rt, queue, &['a', 'b', 'c', 'd', 'e'], steps);
-    skip(rt, queue, 2, steps);
-    take_these(rt, queue, &['c'], steps);
-    shows(rt, "one left", queue, 4, 2, 0, Some('d'));
-    stage(rt, queue, 2, steps);
-    shows(rt, "two nodes are ready", queue, 4, 2, 2, Some('d'));
-    insert_staged(rt, queue, 'y', steps);
-    insert_staged(rt, queue, 'x', steps);
-    shows(rt, "two are inserted", queue, 6, 2, 0, Some('x'));
-    queue.rewind(steps);
-    shows(rt, "the cursor is back", queue, 6, 0, 0, Some('a'));
-}
-
-/// Events come in behind the six of `come_and_leave`, and all are passed over in order.
-fn pass_over_all<L: Ledger>(
-    rt: &Host<impl Abort>,
-    queue: &mut EventQueue<char>,
-    steps: &mut Steps<L>,
-) {
-    stage(rt, queue, 2, steps);
-    push(rt, queue, 'f', steps);
-    shows(rt, "a push uses no node", queue, 7, 0, 2, Some('a'));
-    skip(rt, queue, 1, steps);
-    push_staged(rt, queue, 'g', steps);
-    shows(rt, "a staged one uses one", queue, 8, 1, 1, Some('b'));
-    queue.rewind(steps);
-    let all = ['a', 'b', 'x', 'y', 'd', 'e', 'f', 'g'];
-    skip_these(rt, queue, &all, steps);
+/// Looks that none is there to take or to pass over.
+fn is_at_end<L: Ledger>(rt: &impl Abort, queue: &mut EventQueue<char>, steps: &mut Steps<L>) {
     holds(rt, "none to take", queue.remove(steps) == None);
     holds(rt, "none to pass over", queue.skip(steps) == None);
-    shows(rt, "all are passed over", queue, 8, 8, 1, None);
 }
 
-/// The body of a test, which makes its count of steps from a blank.
-fn answers<L: Ledger>(rt: &Host<impl Abort>, alloc: Global, blank: Blank)
+/// Makes a call, and looks at its answer.
+fn make<L: Ledger>(
+    rt: &Host<impl Abort>,
+    queue: &mut EventQueue<char>,
+    call: Call,
+    steps: &mut Steps<L>,
+) {
+    match call {
+        Call::Push(events) => push_all(rt, queue, events, steps),
+        Call::Stage(count) => stage(rt, queue, count, steps),
+        Call::Insert(event) => insert_staged(rt, queue, event, steps),
+        Call::PushStaged(event) => push_staged(rt, queue, event, steps),
+        Call::Skip(count) => skip(rt, queue, count, steps),
+        Call::SkipThese(events) => skip_these(rt, queue, events, steps),
+        Call::Take(events) => take_these(rt, queue, events, steps),
+        Call::Rewind => queue.rewind(steps),
+        Call::AtEnd => is_at_end(rt, queue, steps),
+        Call::Shows(word, len, before, staged, event) => {
+            shows(rt, word, queue, len, before, staged, event);
+        }
+    }
+}
+
+/// Makes calls one after the other, from no event on, and looks at their answers. It makes its count of steps from a
+/// blank.
+fn answer_all<L: Ledger>(rt: &Host<impl Abort>, alloc: Global, blank: Blank, calls: &[Call])
     requires name { blank.name ≡ L.name }
     requires parts { blank.parts ≡ L.parts }
     requires some { 0 < blank.parts }
 {
     let mut steps = Steps::<L>::new(blank);
     let mut queue = EventQueue::new(alloc);
-    come_and_leave(rt, &mut queue, &mut steps);
-    pass_over_all(rt, &mut queue, &mut steps);
+    for call in calls {
+        make(rt, &mut queue, *call, &mut steps);
+    }
 }
 
+/// Events come in at both ends of the cursor and leave, others come in behind them, and all are passed over in order.
 #[test]
 fn each_call_answers(rt: HostRuntime) {
+    static CALLS: [Call; 22] = [
+        Call::Shows("no event", 0, 0, 0, None),
+        Call::Push(&['a', 'b', 'c', 'd', 'e']),
+        Call::Skip(2),
+        Call::Take(&['c']),
+        Call::Shows("one left", 4, 2, 0, Some('d')),
+        Call::Stage(2),
+        Call::Shows("two nodes are ready", 4, 2, 2, Some('d')),
+        Call::Insert('y'),
+        Call::Insert('x'),
+        Call::Shows("two are inserted", 6, 2, 0, Some('x')),
+        Call::Rewind,
+        Call::Shows("the cursor is back", 6, 0, 0, Some('a')),
+        Call::Stage(2),
+        Call::Push(&['f']),
+        Call::Shows("a push uses no node", 7, 0, 2, Some('a')),
+        Call::Skip(1),
+        Call::PushStaged('g'),
+        Call::Shows("a staged one uses one", 8, 1, 1, Some('b')),
+        Call::Rewind,
+        Call::SkipThese(&['a', 'b', 'x', 'y', 'd', 'e', 'f', 'g']),
+        Call::AtEnd,
+        Call::Shows("all are passed over", 8, 8, 1, None),
+    ];
     let rt = Host::new(rt);
-    answers::<Brand>(&rt, rt.alloc(), Blank::new(1));
+    answer_all::<Brand>(&rt, rt.alloc(), Blank::new(1), &CALLS);
     rt.end();
-}
-
-/// The body of a test, which makes its count of steps from a blank.
-fn refusals<L: Ledger>(rt: &Host<impl Abort>, alloc: Global, blank: Blank)
-    requires name { blank.name ≡ L.name }
-    requires parts { blank.parts ≡ L.parts }
-    requires some { 0 < blank.parts }
-{
-    let mut steps = Steps::<L>::new(blank);
-    let mut queue = EventQueue::new(alloc);
-    push_all(rt, &mut queue, &['a', 'b', 'c', 'd'], &mut steps);
-    skip(rt, &mut queue, 2, &mut steps);
-    push(rt, &mut queue, 'e', &mut steps);
-    take_these(rt, &mut queue, &['c'], &mut steps);
-    push_all(rt, &mut queue, &['f', 'g', 'h', 'i'], &mut steps);
-    skip(rt, &mut queue, 6, &mut steps);
-    push(rt, &mut queue, 'j', &mut steps);
-    shows(rt, "nine are there", &queue, 9, 8, 0, Some('j'));
-    queue.rewind(&mut steps);
-    let all = ['a', 'b', 'd', 'e', 'f', 'g', 'h', 'i', 'j'];
-    take_these(rt, &mut queue, &all, &mut steps);
-    holds(rt, "none is left", queue.is_empty());
 }
 
 #[test]
 fn a_refused_call_changes_nothing(rt: HostRuntime) {
+    static CALLS: [Call; 11] = [
+        Call::Push(&['a', 'b', 'c', 'd']),
+        Call::Skip(2),
+        Call::Push(&['e']),
+        Call::Take(&['c']),
+        Call::Push(&['f', 'g', 'h', 'i']),
+        Call::Skip(6),
+        Call::Push(&['j']),
+        Call::Shows("nine are there", 9, 8, 0, Some('j')),
+        Call::Rewind,
+        Call::Take(&['a', 'b', 'd', 'e', 'f', 'g', 'h', 'i', 'j']),
+        Call::Shows("none is left", 0, 0, 0, None),
+    ];
     let rt = Host::new(rt);
-    refusals::<Brand>(&rt, rt.alloc(), Blank::new(1));
+    answer_all::<Brand>(&rt, rt.alloc(), Blank::new(1), &CALLS);
     rt.end();
 }
 
-/// Pushes take memory, and keep the three nodes that are ready.
-fn push_beside_three<L: Ledger>(
-    rt: &Host<impl Abort>,
-    queue: &mut EventQueue<char>,
-    steps: &mut Steps<L>,
-) {
-    for event in ['a', 'b', 'c', 'd', 'e', 'f'] {
-        push(rt, queue, event, steps);
-        holds(rt, "a push uses no node", queue.staged() == 3);
-    }
-}
-
-/// Twenty nodes that are ready take ten events at the cursor and ten at the end.
-fn use_twenty<L: Ledger>(rt: &impl Abort, queue: &mut EventQueue<char>, steps: &mut Steps<L>) {
-    for _ in 0..10 {
-        holds(rt, "two nodes are ready", queue.staged() > 1);
-        queue.insert_staged('x', steps);
-        queue.push_staged('y', steps);
-    }
-}
-
-/// The body of a test, which makes its count of steps from a blank.
-fn staged_events<L: Ledger>(rt: &Host<impl Abort>, alloc: Global, blank: Blank)
-    requires name { blank.name ≡ L.name }
-    requires parts { blank.parts ≡ L.parts }
-    requires some { 0 < blank.parts }
-{
-    let mut steps = Steps::<L>::new(blank);
-    let mut queue = EventQueue::new(alloc);
-    stage(rt, &mut queue, 3, &mut steps);
-    // A smaller count makes no node and takes none away.
-    stage(rt, &mut queue, 1, &mut steps);
-    holds(rt, "three nodes stay ready", queue.staged() == 3);
-    push_beside_three(rt, &mut queue, &mut steps);
-    stage(rt, &mut queue, 20, &mut steps);
-    use_twenty(rt, &mut queue, &mut steps);
-    shows(rt, "each node is used", &queue, 26, 0, 0, Some('x'));
-    let first = [
-        'x', 'x', 'x', 'x', 'x', 'x', 'x', 'x', 'x', 'x', 'a', 'b', 'c', 'd', 'e', 'f', 'y',
-    ];
-    take_these(rt, &mut queue, &first, &mut steps);
-}
-
+/// Pushes take memory, and keep the three nodes that are ready. Twenty nodes that are ready take ten events at the cursor
+/// and ten at the end.
 #[test]
 fn a_staged_event_takes_no_memory(rt: HostRuntime) {
+    static CALLS: [Call; 38] = [
+        Call::Stage(3),
+        // A smaller count makes no node and takes none away.
+        Call::Stage(1),
+        Call::Shows("three nodes stay ready", 0, 0, 3, None),
+        Call::Push(&['a']),
+        Call::Shows("a push uses no node", 1, 0, 3, Some('a')),
+        Call::Push(&['b']),
+        Call::Shows("a push uses no node", 2, 0, 3, Some('a')),
+        Call::Push(&['c']),
+        Call::Shows("a push uses no node", 3, 0, 3, Some('a')),
+        Call::Push(&['d']),
+        Call::Shows("a push uses no node", 4, 0, 3, Some('a')),
+        Call::Push(&['e']),
+        Call::Shows("a push uses no node", 5, 0, 3, Some('a')),
+        Call::Push(&['f']),
+        Call::Shows("a push uses no node", 6, 0, 3, Some('a')),
+        Call::Stage(20),
+        Call::Insert('x'),
+        Call::PushStaged('y'),
+        Call::Insert('x'),
+        Call::PushStaged('y'),
+        Call::Insert('x'),
+        Call::PushStaged('y'),
+        Call::Insert('x'),
+        Call::PushStaged('y'),
+        Call::Insert('x'),
+        Call::PushStaged('y'),
+        Call::Insert('x'),
+        Call::PushStaged('y'),
+        Call::Insert('x'),
+        Call::PushStaged('y'),
+        Call::Insert('x'),
+        Call::PushStaged('y'),
+        Call::Insert('x'),
+        Call::PushStaged('y'),
+        Call::Insert('x'),
+        Call::PushStaged('y'),
+        Call::Shows("each node is used", 26, 0, 0, Some('x')),
+        Call::Take(&[
+            'x', 'x', 'x', 'x', 'x', 'x', 'x', 'x', 'x', 'x', 'a', 'b', 'c', 'd', 'e', 'f', 'y',
+        ]),
+    ];
     let rt = Host::new(rt);
-    staged_events::<Brand>(&rt, rt.alloc(), Blank::new(1));
+    answer_all::<Brand>(&rt, rt.alloc(), Blank::new(1), &CALLS);
     rt.end();
 }
 
@@ -316,6 +351,19 @@ fn push_number<L: Ledger>(
     }
 }
 
+/// Takes the numbers from 1 on out, so many.
+fn take_numbers<L: Ledger>(
+    rt: &impl Abort,
+    queue: &mut EventQueue<u32>,
+    count: u32,
+    steps: &mut Steps<L>,
+) {
+    for number in 1..=count {
+        let taken = queue.remove(steps);
+        same(rt, "what is taken", &taken, &Some(number));
+    }
+}
+
 /// Pushes a thousand events. Each takes memory, so where one allocation is refused, one push is, and it says which.
 fn a_thousand<L: Ledger>(rt: &Host<impl Abort>, output: &impl Print, alloc: Global, blank: Blank)
     requires name { blank.name ≡ L.name }
@@ -328,10 +376,7 @@ fn a_thousand<L: Ledger>(rt: &Host<impl Abort>, output: &impl Print, alloc: Glob
         push_number(rt, output, &mut queue, number, &mut steps);
     }
     holds(rt, "a thousand are there", queue.len() == 1_000);
-    for number in 1..=1_000u32 {
-        let taken = queue.remove(&mut steps);
-        same(rt, "what is taken", &taken, &Some(number));
-    }
+    take_numbers(rt, &mut queue, 1_000, &mut steps);
 }
 
 #[test]

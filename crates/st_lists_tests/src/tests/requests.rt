@@ -111,7 +111,7 @@ fn open(rt: &Host<impl Abort>, requests: &mut Requests<u32>, tag: Tag) {
 /// Answers a request, and looks whether the reply is taken.
 fn answer(rt: &impl Abort, requests: &mut Requests<u32>, tag: Tag, content: u32, taken: bool) {
     let was_open = requests.answer(tag, content);
-    same(rt, "the reply is taken", &was_open, &taken);
+    holds(rt, "the reply is taken", was_open == taken);
 }
 
 /// Collects what is kept for a request.

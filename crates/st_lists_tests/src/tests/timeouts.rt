@@ -4,7 +4,7 @@ ghost use Rattle.std.specs.Prelude.{◌≡◌, ◌<◌};
 mod call;
 mod seen;
 
-use super::host::{Host, holds, same};
+use super::host::{Host, holds, is_count, is_letter};
 use call::Call::{Copy, List, Reserve, Set, Shows, Takes, Update};
 use call::Shows::{Content, CountDue, FirstZero, IsLive, NextDue, Runs};
 use call::Takes::{Cancel, NextExpiry, Take, TakeDue};
@@ -382,7 +382,7 @@ fn set_twice<L: Ledger>(
     let number = u64::from(place);
     set(rt, timeouts, timer, 1_000, 'a', number, 0, steps);
     let old = set(rt, timeouts, timer, moment, 'b', number, 0, steps);
-    same(rt, "what was set for a second", &old, &Some('a'));
+    is_letter(rt, "what was set for a second", old, Some('a'));
 }
 
 /// The name of a timer that has one.
@@ -418,11 +418,11 @@ fn are_due<L: Ledger>(
     count: usize,
     steps: &mut Steps<L>,
 ) {
-    same(
+    is_count(
         rt,
         "how many are due",
-        &timeouts.count_due(now, steps),
-        &count,
+        timeouts.count_due(now, steps),
+        count,
     );
 }
 
@@ -439,7 +439,7 @@ fn many_run<L: Ledger>(rt: &Host<impl Abort>, timeouts: &mut Timeouts<char>, ste
 fn thirds_stop<L: Ledger>(rt: &impl Abort, timeouts: &mut Timeouts<char>, steps: &mut Steps<L>) {
     for third in 0..167 {
         let stopped = timeouts.cancel(timer_and_moment(third * 3).0);
-        same(rt, "what is stopped", &stopped, &Some('b'));
+        is_letter(rt, "what is stopped", stopped, Some('b'));
     }
     are_due(rt, timeouts, 1_000, 333, steps);
 }

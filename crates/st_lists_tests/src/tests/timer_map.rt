@@ -1,7 +1,7 @@
 //! Tests of st_timer_map: each call once with memory at hand, and all of them where one allocation is refused.
 ghost use Rattle.std.specs.Prelude.{◌≤◌, true};
 
-use super::host::{Host, got, holds, same};
+use super::host::{Host, got, holds, is_count, is_letter, same};
 use st_timer_map::{Mark, Timer, TimerMap};
 use std::process::Abort;
 
@@ -105,7 +105,7 @@ fn put(
         got(rt, "one allocation alone is refused", map.reserve(1));
     }
     let found = letter_of(map.put(timer, plain(new)));
-    same(rt, "the letter that was there", &found, &old);
+    is_letter(rt, "the letter that was there", found, old);
 }
 
 /// Puts letters that were not there.
@@ -124,18 +124,18 @@ fn replace(
     old: Option<char>,
 ) {
     let found = letter_of(map.replace(timer, plain(new)));
-    same(rt, "the letter that was there", &found, &old);
+    is_letter(rt, "the letter that was there", found, old);
 }
 
 /// Takes the letter of a timer out, which is this one.
 fn remove(rt: &impl Abort, map: &mut TimerMap<Letter>, timer: Timer, letter: Option<char>) {
     let found = letter_of(map.remove(timer));
-    same(rt, "the letter that is taken out", &found, &letter);
+    is_letter(rt, "the letter that is taken out", found, letter);
 }
 
 /// Looks how many timers have a letter.
 fn counts(rt: &impl Abort, map: &TimerMap<Letter>, count: usize) {
-    same(rt, "how many there are", &map.len(), &count);
+    is_count(rt, "how many there are", map.len(), count);
 }
 
 /// Five letters are put, of which one replaces another, and one is marked.
@@ -178,7 +178,7 @@ fn each_call_answers(rt: HostRuntime) {
     let rt = Host::new(rt);
     let mut map = TimerMap::new(rt.alloc());
     counts(&rt, &map, 0);
-    same(&rt, "none is reserved for", &map.reserved(), &0);
+    is_count(&rt, "none is reserved for", map.reserved(), 0);
     has_none(&rt, &map, Timer::Event);
     letters_come(&rt, &mut map);
     letters_leave(&rt, &mut map);
@@ -244,9 +244,26 @@ fn half_change(rt: &Host<impl Abort>, map: &mut TimerMap<Letter>, old: char, new
     }
 }
 
+/// They get a letter in place of another twelve times, from the b to the m.
+fn half_change_often(rt: &Host<impl Abort>, map: &mut TimerMap<Letter>) {
+    let mut last = 'a';
+    for new in ['b', 'c', 'd', 'e', 'f', 'g', 'h', 'i', 'j', 'k', 'l', 'm'] {
+        half_change(rt, map, last, new);
+        last = new;
+    }
+}
+
+/// Looks that of a hundred timers each second one has a letter, from the second on.
+fn fifty_are_there(rt: &impl Abort, map: &TimerMap<Letter>) {
+    for name in 0..100 {
+        let is_there = map.get(Timer::Named(name)).is_some();
+        holds(rt, "each second one is there", is_there == (name % 2 == 1));
+    }
+}
+
 /// Looks at the rows: those that kept their letter come first, in order, and then those that changed it.
 fn are_in_order(rt: &impl Abort, list: &[Row]) {
-    same(rt, "how many are listed", &list.len(), &50);
+    is_count(rt, "how many are listed", list.len(), 50);
     let mut name = 3_u32;
     for row in list {
         let letter = if name % 4 == 3 { 'a' } else { 'm' };
@@ -262,17 +279,10 @@ fn a_timer_put_again_goes_last_and_the_holes_are_closed(rt: HostRuntime) {
     let mut map = TimerMap::new(rt.alloc());
     reserve_for(&rt, &mut map, 101);
     fifty_stay(&rt, &mut map);
-    let mut last = 'a';
-    for new in ['b', 'c', 'd', 'e', 'f', 'g', 'h', 'i', 'j', 'k', 'l', 'm'] {
-        half_change(&rt, &mut map, last, new);
-        last = new;
-    }
+    half_change_often(&rt, &mut map);
     remove(&rt, &mut map, Timer::State, Some('s'));
     are_in_order(&rt, look(&rt, &map).as_slice());
-    for name in 0..100 {
-        let is_there = map.get(Timer::Named(name)).is_some();
-        holds(&rt, "each second one is there", is_there == (name % 2 == 1));
-    }
+    fifty_are_there(&rt, &map);
     rt.end();
 }
 

@@ -1,9 +1,9 @@
 //! A pool where one allocation is refused: nothing is lost, nobody hangs, and the call is made again.
-use super::counted::{Counted, token};
+use super::counted::Counted;
 use super::flood::Flood;
-use super::host::{Host, holds, same};
+use super::host::{Host, is_number};
 use super::silent::Silent;
-use super::started::{closes, schedules, started, times};
+use super::started::{are_left, closes, closes_again, schedules, started};
 use std::alloc::Global;
 use std::process::Abort;
 use std::sync::Arc;
@@ -41,27 +41,8 @@ fn a_refused_call_loses_no_token(rt: HostRuntime) {
     schedules(&rt, &pool, 0, 200);
     let end = closes(&rt, &mut pool);
     pool.drain();
-    same(&rt, "two hundred are left", &end.left.len(), &200);
-    for slot in 0..200 {
-        same(
-            &rt,
-            "each is left once",
-            &times(end.left.as_slice(), token(slot)),
-            &1,
-        );
-    }
-    let again = closes(&rt, &mut pool);
-    same(
-        &rt,
-        "the second close counts the same turns",
-        &again.turns,
-        &end.turns,
-    );
-    holds(
-        &rt,
-        "the second close finds none left",
-        again.left.is_empty(),
-    );
+    are_left(&rt, &end, 200);
+    closes_again(&rt, &mut pool, end.turns);
     rt.end();
 }
 
@@ -98,15 +79,7 @@ fn a_woken_token_that_finds_no_room_is_not_lost(rt: HostRuntime) {
     let end = closes(&rt, &mut pool);
     let woken = machines.woken();
     let left = (woken as usize).saturating_add(1);
-    same(&rt, "all are left", &end.left.len(), &left);
-    for slot in 0..left {
-        same(
-            &rt,
-            "each is left once",
-            &times(end.left.as_slice(), token(slot)),
-            &1,
-        );
-    }
-    same(&rt, "all were woken", &woken, &200);
+    are_left(&rt, &end, left);
+    is_number(&rt, "all were woken", woken, 200);
     rt.end();
 }

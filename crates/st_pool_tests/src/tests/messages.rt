@@ -4,18 +4,18 @@ ghost use Rattle.std.specs.Prelude.{◌≤◌};
 use super::counted::token;
 use super::eager::Eager;
 use super::flood::Flood;
-use super::host::{Host, holds, same};
+use super::host::{Host, holds, is_count, is_number, same};
 use super::mail::Mail;
 use super::meeting::Meeting;
 use super::memory::waits_until_woken;
 use super::ring::Ring;
 use super::silent::Silent;
 use super::slow::Slow;
-use super::started::{closes, schedules, started, times};
+use super::started::{closes, closes_again, is_token, schedules, started, times};
 use super::workers::{goes_round, workers};
-use st_pool::{Gate, Hand, Pool, PoolEnd, Runtime, serve_one};
+use st_pool::{Gate, Hand, Pool, PoolEnd, Runtime, Worker, serve_one};
 use std::process::Abort;
-use std::sync::Arc;
+use std::sync::{Arc, Wait};
 use std::thread;
 
 /// So many senders send so many messages each to so many targets, by so many workers, and so many rounds anew. Each message
@@ -54,10 +54,14 @@ fn all_arrive<R: Runtime, G: Gate + Drop + Send + Sync + 'static>(
         mail.begin_anew();
         schedules(rt, &pool, 0, senders);
         pool.drain();
-        same(rt, "all were handled once drained", &mail.handled(), &all);
+        is_number(rt, "all were handled once drained", mail.handled(), all);
     }
-    let end = closes(rt, &mut pool);
-    same(rt, "none came out of turn", &mail.faults(), &0);
+    all_have_arrived(rt, &mail, &closes(rt, &mut pool));
+}
+
+/// Looks that no message came out of turn, and that none is left.
+fn all_have_arrived(rt: &impl Abort, mail: &Mail, end: &PoolEnd<u64>) {
+    is_number(rt, "none came out of turn", mail.faults(), 0);
     holds(rt, "no token is left", end.left.is_empty());
     holds(rt, "no message is carried", end.carried.is_empty());
 }
@@ -156,12 +160,12 @@ fn what_was_woken_is_left_to_the_others(rt: HostRuntime) {
         schedules(&rt, &pool, 0, 1);
         pool.drain();
     }
-    same(&rt, "none waits in vain", &gate.gave_up(), &0);
-    same(
+    is_number(&rt, "none waits in vain", gate.gave_up(), 0);
+    is_number(
         &rt,
         "each made its turns",
-        &closes(&rt, &mut pool).turns,
-        &800,
+        closes(&rt, &mut pool).turns,
+        800,
     );
     rt.end_with_memory();
 }
@@ -176,12 +180,12 @@ fn what_was_woken_is_served_before_more_is(rt: HostRuntime) {
     schedules(&rt, &pool, 0, 1);
     waits_until_woken(&machines, 200);
     let end = closes(&rt, &mut pool);
-    same(&rt, "all are left", &end.left.len(), &201);
-    same(
+    is_count(&rt, "all are left", end.left.len(), 201);
+    is_number(
         &rt,
         "the first had its turn at once",
-        &machines.served_at(),
-        &1,
+        machines.served_at(),
+        1,
     );
     rt.end_with_memory();
 }
@@ -203,11 +207,11 @@ fn goes_to_its_end<R: Runtime>(
         ring.begin_anew(turns);
         schedules(rt, &pool, 0, 1);
         pool.drain();
-        same(rt, "no turn is left once drained", &ring.left(), &0);
+        is_number(rt, "no turn is left once drained", ring.left(), 0);
     }
     let end = closes(rt, &mut pool);
     let all = turns.saturating_mul(u64::from(rounds));
-    same(rt, "so many turns were made", &end.turns, &all);
+    is_number(rt, "so many turns were made", end.turns, all);
     holds(rt, "no token is left", end.left.is_empty());
 }
 
@@ -236,13 +240,18 @@ fn waits_until_carried(mail: &Mail, count: u64) {
 fn are_carried(rt: &Host<impl Abort>, end: &PoolEnd<u64>) {
     for (own, message) in &end.carried {
         same(rt, "with its sender's token", &message.sender, &own.machine);
-        same(
-            rt,
-            "which is not left",
-            &times(end.left.as_slice(), *own),
-            &0,
-        );
+        is_count(rt, "which is not left", times(end.left.as_slice(), *own), 0);
     }
+}
+
+/// Of ten senders with five messages each three are carried: no other message has left, and no other token.
+fn three_are_carried(rt: &Host<impl Abort>, mail: &Mail, end: &PoolEnd<u64>) {
+    is_count(rt, "each worker carries one", end.carried.len(), 3);
+    are_carried(rt, end);
+    is_count(rt, "the other tokens are left", end.left.len(), 7);
+    is_number(rt, "the others wait", mail.waiting(), 47);
+    is_number(rt, "none was delivered", mail.delivered(), 0);
+    is_number(rt, "none came out of turn", mail.faults(), 0);
 }
 
 #[test]
@@ -256,30 +265,35 @@ fn a_close_hands_out_what_is_carried(rt: HostRuntime) {
     waits_until_carried(&mail, 3);
     let end = closes(&rt, &mut pool);
     pool.drain();
-    same(&rt, "each worker carries one", &end.carried.len(), &3);
-    are_carried(&rt, &end);
-    same(&rt, "the other tokens are left", &end.left.len(), &7);
-    same(&rt, "the others wait", &mail.waiting(), &47);
-    same(&rt, "none was delivered", &mail.delivered(), &0);
-    same(&rt, "none came out of turn", &mail.faults(), &0);
-    let again = closes(&rt, &mut pool);
-    holds(&rt, "none is carried twice", again.carried.is_empty());
-    holds(&rt, "none is left twice", again.left.is_empty());
+    three_are_carried(&rt, &mail, &end);
+    closes_again(&rt, &mut pool, end.turns);
     rt.end_with_memory();
+}
+
+/// A pool is closed while a hundred senders send 2,000 messages. No message is lost.
+fn closes_in_the_midst<R: Runtime>(
+    rt: &Host<impl Abort + AllocGlobal>,
+    threads: R,
+    gate: &Arc<Silent>,
+) {
+    let mail = Mail::new(rt.alloc(), 100, 60, 20, 1).expect(rt, "machines");
+    let mut pool = started(rt, threads, 4, &mail, gate);
+    schedules(rt, &pool, 0, 100);
+    let end = closes(rt, &mut pool);
+    are_all_there(rt, &mail, &end, 2_000);
 }
 
 /// Each message is delivered, carried, or waits with its sender.
 fn are_all_there(rt: &Host<impl Abort>, mail: &Mail, end: &PoolEnd<u64>, all: u64) {
-    same(
+    is_number(
         rt,
         "none is lost, and none comes twice",
-        &mail
-            .delivered()
+        mail.delivered()
             .saturating_add(end.carried.len() as u64)
             .saturating_add(mail.waiting()),
-        &all,
+        all,
     );
-    same(rt, "none came out of turn", &mail.faults(), &0);
+    is_number(rt, "none came out of turn", mail.faults(), 0);
     are_carried(rt, end);
 }
 
@@ -289,13 +303,33 @@ fn a_close_in_the_midst_loses_no_message(rt: HostRuntime) {
     let rt = Host::with_memory(rt);
     let gate = Silent::new(rt.alloc()).expect(&rt, "a gate");
     for _ in 0..100 {
-        let mail = Mail::new(rt.alloc(), 100, 60, 20, 1).expect(&rt, "machines");
-        let mut pool = started(&rt, threads, 4, &mail, &gate);
-        schedules(&rt, &pool, 0, 100);
-        let end = closes(&rt, &mut pool);
-        are_all_there(&rt, &mail, &end, 2_000);
+        closes_in_the_midst(&rt, threads, &gate);
     }
     rt.end_with_memory();
+}
+
+/// A worker with a message or a token goes one round.
+fn goes_on(
+    rt: &Host<impl Abort>,
+    wait: &impl Wait,
+    worker: &mut Worker<u64>,
+    mail: &Mail,
+    word: &str,
+) {
+    holds(rt, word, goes_round(rt, wait, worker, mail, &Silent));
+}
+
+/// A worker has the token of the sender, which another one does not get.
+fn keeps_token(rt: &impl Abort, wait: &impl Wait, own: &Worker<u64>, other: &mut Worker<u64>) {
+    is_token(rt, "and has the token", own.hand, Some(token(0)));
+    holds(rt, "which nobody steals", !other.acquire(wait));
+}
+
+/// Looks that a worker carries no message, but what was woken, which leaves its hand.
+fn carries_what_was_woken(rt: &impl Abort, own: &mut Worker<u64>) {
+    holds(rt, "it carries none", own.transit.message.is_none());
+    let woken = own.transit.woken.take();
+    is_token(rt, "but what was woken", woken, Some(token(1)));
 }
 
 #[test]
@@ -308,35 +342,15 @@ fn a_token_stays_with_the_worker_that_carries(rt: HostRuntime) {
     let mut own = all.pop().expect(&rt, "a first worker");
     let put = own.lane.put_local(token(0));
     same(&rt, "it gets a token", &put, &Ok(()));
-    holds(
-        &rt,
-        "its message is refused",
-        goes_round(&rt, &wait, &mut own, &*mail, &Silent),
-    );
+    goes_on(&rt, &wait, &mut own, &mail, "its message is refused");
     holds(&rt, "it carries it", own.transit.message.is_some());
-    same(&rt, "and has the token", &own.hand, &Some(token(0)));
-    holds(&rt, "which nobody steals", !other.acquire(&wait));
-    holds(
-        &rt,
-        "its message is delivered",
-        goes_round(&rt, &wait, &mut own, &*mail, &Silent),
-    );
-    holds(&rt, "it carries none", own.transit.message.is_none());
-    same(
-        &rt,
-        "but what was woken",
-        &own.transit.woken.take(),
-        &Some(token(1)),
-    );
-    same(&rt, "and has the token", &own.hand, &Some(token(0)));
-    holds(&rt, "which nobody steals", !other.acquire(&wait));
-    holds(
-        &rt,
-        "the sender rests",
-        goes_round(&rt, &wait, &mut own, &*mail, &Silent),
-    );
-    same(&rt, "the hand is empty", &own.hand, &None);
-    same(&rt, "one arrived", &mail.delivered(), &1);
+    keeps_token(&rt, &wait, &own, &mut other);
+    goes_on(&rt, &wait, &mut own, &mail, "its message is delivered");
+    carries_what_was_woken(&rt, &mut own);
+    keeps_token(&rt, &wait, &own, &mut other);
+    goes_on(&rt, &wait, &mut own, &mail, "the sender rests");
+    is_token(&rt, "the hand is empty", own.hand, None);
+    is_number(&rt, "one arrived", mail.delivered(), 1);
     rt.end_with_memory();
 }
 
@@ -345,22 +359,22 @@ fn a_message_in_the_hand_is_served_first(rt: HostRuntime) {
     let rt = Host::with_memory(rt);
     let mail = Mail::new(rt.alloc(), 1, 1, 2, 1).expect(&rt, "machines");
     let mut hand = Hand::new();
-    same(
+    is_token(
         &rt,
         "the token comes back with a message",
-        &serve_one(&*mail, token(0), 5, &mut hand),
-        &Some(token(0)),
+        serve_one(&*mail, token(0), 5, &mut hand),
+        Some(token(0)),
     );
-    same(&rt, "one is carried", &mail.carried(), &1);
+    is_number(&rt, "one is carried", mail.carried(), 1);
     hand.woken = None;
-    same(
+    is_token(
         &rt,
         "the token comes back without one",
-        &serve_one(&*mail, token(0), 5, &mut hand),
-        &Some(token(0)),
+        serve_one(&*mail, token(0), 5, &mut hand),
+        Some(token(0)),
     );
-    same(&rt, "it was delivered", &mail.delivered(), &1);
-    same(&rt, "none is carried", &mail.carried(), &0);
-    same(&rt, "one waits", &mail.waiting(), &1);
+    is_number(&rt, "it was delivered", mail.delivered(), 1);
+    is_number(&rt, "none is carried", mail.carried(), 0);
+    is_number(&rt, "one waits", mail.waiting(), 1);
     rt.end_with_memory();
 }

@@ -1,10 +1,48 @@
 //! Pools of threads: each token is served, and what is not served is left.
 use super::counted::{Counted, token};
-use super::host::{Host, holds, same};
+use super::host::{Host, holds, is_count, is_number, same};
 use super::silent::Silent;
-use super::started::{closes, schedules, started, times};
-use st_pool::{PutRefused, Wake};
+use super::started::{are_left, closes, closes_again, schedules, started};
+use st_pool::{Pool, PutRefused, Runtime, Scheduler, Wake};
+use std::process::Abort;
+use std::sync::Wait;
 use std::thread;
+
+/// A thousand tokens come in, half of them by a scheduler, and are served.
+fn serves_a_thousand<R: Runtime>(
+    rt: &Host<impl Abort>,
+    wait: &impl Wait,
+    pool: &Pool<R, u64>,
+    scheduler: &Scheduler,
+) {
+    schedules(rt, pool, 0, 500);
+    for slot in 500..1_000 {
+        let woken = scheduler.wake(wait, token(slot)) == Ok(());
+        holds(rt, "each is woken", woken);
+    }
+    pool.drain();
+}
+
+/// Looks that each of so many machines made ten turns.
+fn made_ten_turns(rt: &impl Abort, machines: &Counted, count: usize) {
+    for slot in 0..count {
+        let turns = machines.turns_of(slot);
+        is_number(rt, "each makes its ten turns", turns, 10);
+    }
+}
+
+/// Closes a pool, whose workers made so many turns and left no token.
+fn has_made<R: Runtime>(rt: &Host<impl Abort>, pool: &mut Pool<R, u64>, turns: u64) {
+    let end = closes(rt, pool);
+    is_number(rt, "the workers made all turns", end.turns, turns);
+    holds(rt, "none is left", end.left.is_empty());
+}
+
+/// Looks that a scheduler wakes none any more.
+fn wakes_none(rt: &impl Abort, wait: &impl Wait, scheduler: &Scheduler, word: &str) {
+    let late = token(3);
+    same(rt, word, &scheduler.wake(wait, late), &Err(late));
+}
 
 #[test]
 fn a_thousand_machines_make_ten_turns_each(rt: HostRuntime) {
@@ -14,33 +52,11 @@ fn a_thousand_machines_make_ten_turns_each(rt: HostRuntime) {
     let gate = Silent::new(rt.alloc()).expect(&rt, "a gate");
     let mut pool = started(&rt, threads, 4, &machines, &gate);
     let scheduler = pool.scheduler().expect(&rt, "a scheduler");
-    schedules(&rt, &pool, 0, 500);
-    for slot in 500..1_000 {
-        holds(
-            &rt,
-            "each is woken",
-            scheduler.wake(&threads, token(slot)) == Ok(()),
-        );
-    }
-    pool.drain();
-    for slot in 0..1_000 {
-        same(
-            &rt,
-            "each makes its ten turns",
-            &machines.turns_of(slot),
-            &10,
-        );
-    }
-    let end = closes(&rt, &mut pool);
-    same(&rt, "the workers made all turns", &end.turns, &10_000);
-    holds(&rt, "none is left", end.left.is_empty());
+    serves_a_thousand(&rt, &threads, &pool, &scheduler);
+    made_ten_turns(&rt, &machines, 1_000);
+    has_made(&rt, &mut pool, 10_000);
+    wakes_none(&rt, &threads, &scheduler, "a closed pool wakes none");
     let late = token(3);
-    same(
-        &rt,
-        "a closed pool wakes none",
-        &scheduler.wake(&threads, late),
-        &Err(late),
-    );
     same(
         &rt,
         "a closed pool schedules none",
@@ -48,13 +64,17 @@ fn a_thousand_machines_make_ten_turns_each(rt: HostRuntime) {
         &Err(PutRefused(late)),
     );
     drop(pool);
-    same(
-        &rt,
-        "a pool that is gone wakes none",
-        &scheduler.wake(&threads, late),
-        &Err(late),
-    );
+    wakes_none(&rt, &threads, &scheduler, "a pool that is gone wakes none");
     rt.end_with_memory();
+}
+
+/// The token of the first machine is scheduled, and makes its one turn.
+fn makes_one_turn<R: Runtime>(rt: &Host<impl Abort>, pool: &Pool<R, u64>, machines: &Counted) {
+    machines.begin_anew();
+    schedules(rt, pool, 0, 1);
+    pool.drain();
+    let turns = machines.turns_of(0);
+    is_number(rt, "a drained token made its turn", turns, 1);
 }
 
 #[test]
@@ -65,21 +85,13 @@ fn tokens_are_scheduled_and_drained_one_by_one(rt: HostRuntime) {
     let gate = Silent::new(rt.alloc()).expect(&rt, "a gate");
     let mut pool = started(&rt, threads, 3, &machines, &gate);
     for _ in 0..10_000 {
-        machines.begin_anew();
-        schedules(&rt, &pool, 0, 1);
-        pool.drain();
-        same(
-            &rt,
-            "a drained token made its turn",
-            &machines.turns_of(0),
-            &1,
-        );
+        makes_one_turn(&rt, &pool, &machines);
     }
-    same(
+    is_number(
         &rt,
         "one turn for each time",
-        &closes(&rt, &mut pool).turns,
-        &10_000,
+        closes(&rt, &mut pool).turns,
+        10_000,
     );
     rt.end_with_memory();
 }
@@ -94,28 +106,26 @@ fn tokens_that_never_rest_are_left_once_each(rt: HostRuntime) {
     schedules(&rt, &pool, 0, 10);
     let end = closes(&rt, &mut pool);
     pool.drain();
-    same(&rt, "ten are left", &end.left.len(), &10);
-    for slot in 0..10 {
-        same(
-            &rt,
-            "each is left once",
-            &times(end.left.as_slice(), token(slot)),
-            &1,
-        );
-    }
-    let again = closes(&rt, &mut pool);
-    same(
-        &rt,
-        "the second close counts the same turns",
-        &again.turns,
-        &end.turns,
-    );
-    holds(
-        &rt,
-        "the second close finds none left",
-        again.left.is_empty(),
-    );
+    are_left(&rt, &end, 10);
+    closes_again(&rt, &mut pool, end.turns);
     rt.end_with_memory();
+}
+
+/// Waits until the machine in a slot has made more turns than so many, or gives up.
+fn waits_for_turns(machines: &Counted, slot: usize, turns: u64) {
+    for _ in 0..10_000_000 {
+        if machines.turns_of(slot) > turns {
+            return;
+        }
+        thread::yield_now();
+    }
+}
+
+/// Looks that each of so many machines made a turn.
+fn made_a_turn(rt: &impl Abort, machines: &Counted, count: usize) {
+    for slot in 0..count {
+        holds(rt, "each hot one is served", machines.turns_of(slot) > 0);
+    }
 }
 
 #[test]
@@ -126,28 +136,17 @@ fn a_cold_token_is_served_beside_more_hot_ones_than_workers(rt: HostRuntime) {
     let gate = Silent::new(rt.alloc()).expect(&rt, "a gate");
     let mut pool = started(&rt, threads, 2, &machines, &gate);
     schedules(&rt, &pool, 0, 6);
-    for _ in 0..10_000_000 {
-        if machines.turns_of(0) > 1_000 && machines.turns_of(1) > 1_000 {
-            break;
-        }
-        thread::yield_now();
-    }
+    waits_for_turns(&machines, 0, 1_000);
+    waits_for_turns(&machines, 1, 1_000);
     schedules(&rt, &pool, 6, 7);
-    for _ in 0..10_000_000 {
-        if machines.turns_of(6) > 0 {
-            break;
-        }
-        thread::yield_now();
-    }
+    waits_for_turns(&machines, 6, 0);
     holds(&rt, "the cold one is served", machines.turns_of(6) > 0);
-    for slot in 0..6 {
-        holds(&rt, "each hot one is served", machines.turns_of(slot) > 0);
-    }
-    same(
+    made_a_turn(&rt, &machines, 6);
+    is_count(
         &rt,
         "all seven are left",
-        &closes(&rt, &mut pool).left.len(),
-        &7,
+        closes(&rt, &mut pool).left.len(),
+        7,
     );
     rt.end_with_memory();
 }
@@ -165,11 +164,6 @@ fn a_pool_that_is_let_go_ends_its_threads(rt: HostRuntime) {
     for _ in 0..1_000 {
         thread::yield_now();
     }
-    same(
-        &rt,
-        "no turn is made any more",
-        &machines.turns_of(0),
-        &turns,
-    );
+    is_number(&rt, "no turn is made any more", machines.turns_of(0), turns);
     rt.end_with_memory();
 }

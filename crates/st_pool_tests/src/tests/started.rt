@@ -2,7 +2,7 @@
 ghost use Rattle.std.specs.Prelude.{◌≤◌};
 
 use super::counted::token;
-use super::host::{Host, got, holds, same};
+use super::host::{Host, got, holds, is_count, is_number, same};
 use st_pool::{Gate, Machines, Pool, PoolEnd, PutRefused, Runtime, Token};
 use std::alloc::Global;
 use std::process::Abort;
@@ -53,6 +53,11 @@ pub fn schedules<R: Runtime>(rt: &Host<impl Abort>, pool: &Pool<R, u64>, first: 
     }
 }
 
+/// Looks that it is this token, or that there is none.
+pub fn is_token(rt: &impl Abort, word: &str, found: Option<Token>, wanted: Option<Token>) {
+    same(rt, word, &found, &wanted);
+}
+
 /// Closes a pool. Where it finds no memory, it is closed again.
 pub fn closes<R: Runtime>(rt: &Host<impl Abort>, pool: &mut Pool<R, u64>) -> PoolEnd<u64> {
     match pool.close() {
@@ -61,6 +66,30 @@ pub fn closes<R: Runtime>(rt: &Host<impl Abort>, pool: &mut Pool<R, u64>) -> Poo
             rt.retry();
             got(rt, "one allocation alone is refused", pool.close())
         }
+    }
+}
+
+/// Closes a pool for the second time: so many turns were made, as at the first, and nothing is left any more.
+pub fn closes_again<R: Runtime>(rt: &Host<impl Abort>, pool: &mut Pool<R, u64>, turns: u64) {
+    let again = closes(rt, pool);
+    is_number(
+        rt,
+        "the second close counts the same turns",
+        again.turns,
+        turns,
+    );
+    let left = again.left.is_empty();
+    holds(rt, "the second close finds none left", left);
+    let carried = again.carried.is_empty();
+    holds(rt, "the second close finds none carried", carried);
+}
+
+/// Looks that the tokens of so many slots are left, each once, and no others.
+pub fn are_left(rt: &impl Abort, end: &PoolEnd<u64>, count: usize) {
+    is_count(rt, "so many are left", end.left.len(), count);
+    for slot in 0..count {
+        let left = times(end.left.as_slice(), token(slot));
+        is_count(rt, "each is left once", left, 1);
     }
 }
 

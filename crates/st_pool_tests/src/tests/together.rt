@@ -3,7 +3,7 @@ ghost use Rattle.std.specs.Prelude.{◌≤◌};
 
 use super::chain::Chain;
 use super::counted::Counted;
-use super::host::{Host, holds, same};
+use super::host::{Host, holds, is_number};
 use super::meeting::Meeting;
 use super::started::{closes, schedules, started};
 use st_pool::Runtime;
@@ -40,17 +40,17 @@ fn chains<R: Runtime>(
 fn two_workers_serve_two_tokens_at_once_and_one_does_not(rt: HostRuntime) {
     let threads = rt;
     let rt = Host::with_memory(rt);
-    same(
+    is_number(
         &rt,
         "two workers serve both at once",
-        &chains(&rt, threads, 2, 2, 1),
-        &0,
+        chains(&rt, threads, 2, 2, 1),
+        0,
     );
-    same(
+    is_number(
         &rt,
         "with one worker one waits in vain",
-        &chains(&rt, threads, 1, 2, 1),
-        &1,
+        chains(&rt, threads, 1, 2, 1),
+        1,
     );
     rt.end_with_memory();
 }
@@ -59,29 +59,29 @@ fn two_workers_serve_two_tokens_at_once_and_one_does_not(rt: HostRuntime) {
 fn as_many_tokens_as_workers_are_served_at_once(rt: HostRuntime) {
     let threads = rt;
     let rt = Host::with_memory(rt);
-    same(
+    is_number(
         &rt,
         "one token of one worker waits for none",
-        &chains(&rt, threads, 1, 1, 1_000),
-        &0,
+        chains(&rt, threads, 1, 1, 1_000),
+        0,
     );
-    same(
+    is_number(
         &rt,
         "two at once, none in vain",
-        &chains(&rt, threads, 2, 2, 1_000),
-        &0,
+        chains(&rt, threads, 2, 2, 1_000),
+        0,
     );
-    same(
+    is_number(
         &rt,
         "four at once, none in vain",
-        &chains(&rt, threads, 4, 4, 500),
-        &0,
+        chains(&rt, threads, 4, 4, 500),
+        0,
     );
-    same(
+    is_number(
         &rt,
         "sixteen at once, none in vain",
-        &chains(&rt, threads, 16, 16, 100),
-        &0,
+        chains(&rt, threads, 16, 16, 100),
+        0,
     );
     rt.end_with_memory();
 }
@@ -109,11 +109,6 @@ fn meetings<R: Runtime>(rt: &Host<impl Abort + AllocGlobal>, threads: R, times: 
 fn workers_share_what_stands_on_one_queue(rt: HostRuntime) {
     let threads = rt;
     let rt = Host::with_memory(rt);
-    same(
-        &rt,
-        "no one waits in vain",
-        &meetings(&rt, threads, 200),
-        &0,
-    );
+    is_number(&rt, "no one waits in vain", meetings(&rt, threads, 200), 0);
     rt.end_with_memory();
 }

@@ -1,8 +1,9 @@
 //! What a worker does, with no thread but the test's own.
 use super::counted::{Counted, token};
-use super::host::{Host, holds, same};
+use super::host::{Host, holds, is_count, is_number, same};
 use super::noted::Noted;
 use super::silent::Silent;
+use super::started::is_token;
 use st_pool::{Gate, Hand, Machines, Worker, serve_one};
 use st_runq::{Inlet, PutRefused, Seats};
 use std::process::Abort;
@@ -38,38 +39,82 @@ pub fn goes_round<M: Machines<Content = u64>, G: Gate>(
     worker.round(wait, machines, gate)
 }
 
+/// A worker of machines that count their turns goes one round, by a gate that does nothing.
+fn serves(
+    rt: &Host<impl Abort>,
+    wait: &impl Wait,
+    worker: &mut Worker<u64>,
+    machines: &Counted,
+) -> bool {
+    goes_round(rt, wait, worker, machines, &Silent)
+}
+
 #[test]
 fn a_token_is_served_by_one_turn(rt: HostRuntime) {
     let rt = Host::with_memory(rt);
     let machines = Counted::new(rt.alloc(), 2, 2).expect(&rt, "machines");
     let own = token(1);
-    same(
+    is_token(
         &rt,
         "it comes back for a turn",
-        &serve_one(&*machines, own, 5, &mut Hand::new()),
-        &Some(own),
+        serve_one(&*machines, own, 5, &mut Hand::new()),
+        Some(own),
     );
-    same(&rt, "one turn is made", &machines.turns_of(1), &1);
-    same(
+    is_number(&rt, "one turn is made", machines.turns_of(1), 1);
+    is_token(
         &rt,
         "it rests after its last turn",
-        &serve_one(&*machines, own, 5, &mut Hand::new()),
-        &None,
+        serve_one(&*machines, own, 5, &mut Hand::new()),
+        None,
     );
-    same(&rt, "a second turn is made", &machines.turns_of(1), &2);
-    same(
-        &rt,
-        "the other machine made none",
-        &machines.turns_of(0),
-        &0,
-    );
-    same(
+    is_number(&rt, "a second turn is made", machines.turns_of(1), 2);
+    is_number(&rt, "the other machine made none", machines.turns_of(0), 0);
+    is_token(
         &rt,
         "no machine, no turn",
-        &serve_one(&*machines, token(2), 5, &mut Hand::new()),
-        &None,
+        serve_one(&*machines, token(2), 5, &mut Hand::new()),
+        None,
     );
     rt.end_with_memory();
+}
+
+/// A worker has no token, robs another one of its token, and serves it.
+fn robs(
+    rt: &Host<impl Abort>,
+    wait: &impl Wait,
+    own: &mut Worker<u64>,
+    other: &mut Worker<u64>,
+    machines: &Counted,
+) {
+    let round = serves(rt, wait, own, machines);
+    holds(rt, "there is no token yet", !round);
+    let put = other.lane.put_local(token(0));
+    same(rt, "the other gets one", &put, &Ok(()));
+    let round = serves(rt, wait, own, machines);
+    holds(rt, "it is robbed and served", round);
+    is_number(rt, "that was one turn", machines.turns_of(0), 1);
+    let left = other.lane.take_local();
+    is_token(rt, "the other has it no more", left, None);
+}
+
+/// The token came back to its robber, which serves it for the last time.
+fn keeps_what_it_robbed(
+    rt: &Host<impl Abort>,
+    wait: &impl Wait,
+    own: &mut Worker<u64>,
+    other: &mut Worker<u64>,
+    machines: &Counted,
+) {
+    holds(rt, "it came back to its robber", own.acquire(wait));
+    is_token(rt, "and is in its hand", own.hand, Some(token(0)));
+    let round = serves(rt, wait, other, machines);
+    holds(rt, "nothing is left for the other", !round);
+    let round = serves(rt, wait, own, machines);
+    holds(rt, "what is in the hand is served", round);
+    is_token(rt, "the hand is empty", own.hand, None);
+    is_number(rt, "that was its last turn", machines.turns_of(0), 2);
+    let round = serves(rt, wait, own, machines);
+    holds(rt, "no token comes back", !round);
 }
 
 #[test]
@@ -80,49 +125,9 @@ fn a_round_serves_a_token_of_another_worker(rt: HostRuntime) {
     let (_inlet, mut all) = workers(&rt, 2);
     let mut other = all.pop().expect(&rt, "a second worker");
     let mut own = all.pop().expect(&rt, "a first worker");
-    same(&rt, "the first has the number 0", &own.number, &0);
-    holds(
-        &rt,
-        "there is no token yet",
-        !goes_round(&rt, &wait, &mut own, &*machines, &Silent),
-    );
-    same(
-        &rt,
-        "the other gets one",
-        &other.lane.put_local(token(0)),
-        &Ok(()),
-    );
-    holds(
-        &rt,
-        "it is robbed and served",
-        goes_round(&rt, &wait, &mut own, &*machines, &Silent),
-    );
-    same(&rt, "that was one turn", &machines.turns_of(0), &1);
-    same(
-        &rt,
-        "the other has it no more",
-        &other.lane.take_local(),
-        &None,
-    );
-    holds(&rt, "it came back to its robber", own.acquire(&wait));
-    same(&rt, "and is in its hand", &own.hand, &Some(token(0)));
-    holds(
-        &rt,
-        "nothing is left for the other",
-        !goes_round(&rt, &wait, &mut other, &*machines, &Silent),
-    );
-    holds(
-        &rt,
-        "what is in the hand is served",
-        goes_round(&rt, &wait, &mut own, &*machines, &Silent),
-    );
-    same(&rt, "the hand is empty", &own.hand, &None);
-    same(&rt, "that was its last turn", &machines.turns_of(0), &2);
-    holds(
-        &rt,
-        "no token comes back",
-        !goes_round(&rt, &wait, &mut own, &*machines, &Silent),
-    );
+    is_count(&rt, "the first has the number 0", own.number, 0);
+    robs(&rt, &wait, &mut own, &mut other, &machines);
+    keeps_what_it_robbed(&rt, &wait, &mut own, &mut other, &machines);
     rt.end_with_memory();
 }
 
@@ -153,11 +158,8 @@ fn makes_rounds(
     count: u64,
 ) {
     for _ in 0..count {
-        holds(
-            rt,
-            "each round serves a token",
-            goes_round(rt, wait, worker, machines, &Silent),
-        );
+        let round = serves(rt, wait, worker, machines);
+        holds(rt, "each round serves a token", round);
     }
 }
 
@@ -181,26 +183,21 @@ fn each_61st_round_asks_the_shared_queue_first(rt: HostRuntime) {
         &Ok(()),
     );
     makes_rounds(&rt, &wait, &mut worker, &machines, 60);
-    same(
-        &rt,
-        "sixty rounds serve its own",
-        &machines.turns_of(0),
-        &60,
-    );
-    same(&rt, "and not the shared one", &machines.turns_of(1), &0);
+    is_number(&rt, "sixty rounds serve its own", machines.turns_of(0), 60);
+    is_number(&rt, "and not the shared one", machines.turns_of(1), 0);
     makes_rounds(&rt, &wait, &mut worker, &machines, 1);
-    same(
+    is_number(
         &rt,
         "the 61st serves the shared one",
-        &machines.turns_of(1),
-        &1,
+        machines.turns_of(1),
+        1,
     );
     makes_rounds(&rt, &wait, &mut worker, &machines, 1);
-    same(
+    is_number(
         &rt,
         "the next serves its own again",
-        &machines.turns_of(0),
-        &61,
+        machines.turns_of(0),
+        61,
     );
     rt.end_with_memory();
 }

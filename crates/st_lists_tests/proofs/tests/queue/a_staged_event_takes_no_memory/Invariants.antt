@@ -1,4 +1,4 @@
 use Rattle.st_lists_tests.proofs.tests.queue.a_staged_event_takes_no_memory.Given as goal
 
-abbrev pub ghosts-staged_events : goal.ghosts-staged_events
-ghosts-staged_events g a = record { name = a.blank.name; parts = a.blank.parts }
+abbrev pub ghosts-answer_all : goal.ghosts-answer_all
+ghosts-answer_all g a = record { name = a.blank.name; parts = a.blank.parts }

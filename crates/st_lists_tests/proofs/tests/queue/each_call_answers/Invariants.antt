@@ -1,4 +1,4 @@
 use Rattle.st_lists_tests.proofs.tests.queue.each_call_answers.Given as goal
 
-abbrev pub ghosts-answers : goal.ghosts-answers
-ghosts-answers g a = record { name = a.blank.name; parts = a.blank.parts }
+abbrev pub ghosts-answer_all : goal.ghosts-answer_all
+ghosts-answer_all g a = record { name = a.blank.name; parts = a.blank.parts }
