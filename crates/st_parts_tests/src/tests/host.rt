@@ -45,7 +45,8 @@ impl<R: AllocGlobal> Host<R> {
 impl<R: Abort> Host<R> {
     /// A call found no memory, and is made again. One allocation alone is refused, so there is one such call.
     pub fn retry(&self) {
-        assert_eq!(self; self.retries.get(), 0);
+        let first = self.retries.get() == 0;
+        holds(self, "one call alone is made again", first);
         self.retries.set(1);
     }
 }
@@ -56,7 +57,8 @@ impl<R: Abort + AllocGlobal + Print> Host<R> {
     pub fn end(&self) -> bool {
         for _ in 0..10_000 {
             if Box::new(self.alloc(), 'x').is_err() {
-                assert_eq!(self; self.retries.get(), 0);
+                let none = self.retries.get() == 0;
+                holds(self, "no call was made again", none);
                 self.end_with_memory();
                 return true;
             }
