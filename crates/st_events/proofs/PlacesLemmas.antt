@@ -1,11 +1,12 @@
 -- Places at which elements come and go.
-use Rattle.std.proofs.Common.{◌≡◌, ℕ, zero, suc, set, ◌<◌, ◌++◌, List, [], ◌∷◌, Option, Some, None, refl, sym, ap, ◌∙◌, map, reverse, take, length, append-nil, arith}
+use Rattle.std.proofs.Common.{◌≡◌, ℕ, zero, suc, true, false, set, get_or, nat_lt, IsTrue, ◌==◌, ◌↔◌, ◌<◌, ◌≤◌, ◌++◌, List, [], ◌∷◌, Option, Some, None, refl, sym, ap, ◌∙◌, map, reverse, take, length, append-nil, arith}
 use Rattle.std.specs.Option.{option_to_list, option_flatten, IsSome, IsNone, IfNone}
 use Rattle.std.specs.List.{refill}
 use Rattle.std.specs.Prelude.{slice_get}
 use Rattle.std.specs.Iterator.{YieldsFirst}
 use Rattle.std.proofs.lemmas.List.{map-append, map-set, take-map, take_all, drop_all, length-map}
 use Rattle.std.proofs.lemmas.List.Elements.{filter_map-append}
+use Rattle.std.proofs.lemmas.Option.{slice_get_past, slice_get-get_or}
 use Rattle.std.proofs.lemmas.Grind.{reverse_onto}
 use Rattle.st_events.specs.Places.{present, IsFull}
 
@@ -71,6 +72,13 @@ no_empty_first : {T : Type 0} (rest : List (Option T)) (xs : List T) → None �
 no_empty_first rest [] same = cc
 no_empty_first rest (x ∷ xs) same = cc
 
+-- there is no element where there is no place, and nowhere else
+pub present-none : {T : Type 0} (places : List (Option T)) → IsFull places → IsTrue (length places == 0) ↔ (present places ≡ [])
+present-none [] full = (λ _. refl, λ _. refl)
+present-none (None ∷ places) full = absurd (no_empty_first places _ full)
+present-none (Some x ∷ places) full =
+    (λ some. let contrary : suc (length places) ≡ 0 = grind (arith, some) in absurd (omega (arith, contrary)), λ none. absurd (omega (arith, ap length none)))
+
 -- the first element is taken out of its place: the other places are full, and hold what is left
 pub full-rest : {T : Type 0} (places rest : List (Option T)) (first : Option T) → IsFull places → places ≡ first ∷ rest → IsFull rest
 full-rest places rest None full same = absurd (no_empty_first rest _ (rw same at full))
@@ -121,3 +129,24 @@ slice_get-map (x ∷ xs) (suc index) = slice_get-map xs index
 
 pub present-get : {T : Type 0} (places : List (Option T)) (index : ℕ) → IsFull places → option_flatten (slice_get places index) ≡ slice_get (present places) index
 present-get places index full = ap (λ t. option_flatten (slice_get t index)) full ∙ slice_get-map (present places) index
+
+-- what a place holds that is there
+pub held-at : {T : Type 0} (places : List (Option T)) (index : ℕ) (place : Option T) → index < length places → place ≡ get_or places index place
+    → place ≡ option_flatten (slice_get places index)
+held-at places index place inside at = ap option_flatten (sym (slice_get-get_or places index place inside ∙ ap Some (sym at)))
+
+pub present-at : {T : Type 0} (places : List (Option T)) (index : ℕ) (place : Option T) → IsFull places → true ≡ nat_lt index (length places)
+    → place ≡ get_or places index place → place ≡ slice_get (present places) index
+present-at places index place full within at =
+    let inside : index < length places = grind (arith, within) in
+    held-at places index place inside at ∙ present-get places index full
+
+-- there is nothing where there are not so many places
+pub held-past : {T : Type 0} (places : List (Option T)) (index : ℕ) → length places ≤ index → None ≡ option_flatten (slice_get places index)
+held-past places index behind = ap option_flatten (sym (slice_get_past places index behind))
+
+pub present-past : {T : Type 0} (places : List (Option T)) (index : ℕ) → IsFull places → false ≡ nat_lt index (length places)
+    → None ≡ slice_get (present places) index
+present-past places index full past =
+    let behind : length places ≤ index = grind (arith, past) in
+    held-past places index behind ∙ present-get places index full

@@ -90,8 +90,8 @@ impl<T> SmallList<T> {
         ensures element { option_copied result ≡ slice_get self.now index }
     {
         match self.elements.as_slice().get(index) {
-            Some(Some(element)) => Some(element),
-            _ => None,
+            Some(place) => place.as_ref(),
+            None => None,
         }
     }
 

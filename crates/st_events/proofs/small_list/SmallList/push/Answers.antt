@@ -1,6 +1,16 @@
-use Rattle.std.proofs.Common.{◌+◌, ◌≤◌, Some, length, refl, ap, arith}
+use Rattle.std.proofs.Common.{◌≡◌, ◌+◌, ◌≤◌, true, Some, length, refl, ap, arith}
+use Rattle.std.specs.Prelude.{Result, Ok, Err, OnOk}
+use Rattle.std.specs.Result.{is_ok}
 use Rattle.st_events.proofs.PlacesLemmas.{present-more, full-more, full-length}
 use Rattle.st_events.proofs.small_list.SmallList.push.Goals as goal
+
+-- what holds where a call succeeds holds, for it succeeded
+where_ok : {T E : Type 0} (r : Result T E) (P : Type 0) → is_ok r ≡ true → OnOk r P → P
+where_ok (Ok x) P ok holds = holds
+where_ok (Err e) P ok holds = cc
+
+pub push_reserved-requires : goal.push_reserved-requires
+push_reserved-requires g c = (omega arith, where_ok c.reserve.result _ c.if-is_err.ensures.negation c.reserve.ensures.ok)
 
 pub invariant_of-self-2 : goal.invariant_of-self-2
 invariant_of-self-2 g c = (

@@ -15,6 +15,12 @@ same_building : {T : Type 0} (old new : List T) (before after : ℕ) → new ≡
     → the_building new after ≡ the_building old before
 same_building old new before after items reserved = rw (items, reserved) refl
 
+-- one of the reserved places is left
+pub push_reserved-requires : goal.push_reserved-requires
+push_reserved-requires g c =
+    let reserved = ap (λ building. building.reserved) c.self.view_is in
+    (omega arith, omega (arith, c.requires, reserved))
+
 pub invariant_of-self : goal.invariant_of-self
 invariant_of-self g c = (
   omega (arith, c.self.invariant.0, c.push_reserved.ensures.capacity),
