@@ -308,7 +308,7 @@ pub in_order_others : (ys : List Key) → InOrder ys → InOrder (other_keys ys)
 in_order_others [] h = tt
 in_order_others (y ∷ ys) h = h.1
 
-pub is_some_within : (xs : List Key) (place : ℕ) → place < length xs → is_some (slice_get xs place) ≡ true
+pub is_some_within : {X : Type 0} (xs : List X) (place : ℕ) → place < length xs → is_some (slice_get xs place) ≡ true
 is_some_within [] place h = absurd (omega (arith, h))
 is_some_within (x ∷ xs) zero h = refl
 is_some_within (x ∷ xs) (suc place) h = is_some_within xs place (omega (arith, h))
@@ -318,7 +318,7 @@ on_some None P e h = cc
 on_some (Some x) P e h = h
 
 -- with one element less there is one less
-pub shorter : (xs : List Key) (place : ℕ) → place < length xs → length (remove xs place) + 1 ≡ length xs
+pub shorter : {X : Type 0} (xs : List X) (place : ℕ) → place < length xs → length (remove xs place) + 1 ≡ length xs
 shorter [] place h = absurd (omega (arith, h))
 shorter (x ∷ xs) zero h = omega arith
 shorter (x ∷ xs) (suc place) h = let rest = shorter xs place (omega (arith, h)) in omega (arith, rest)

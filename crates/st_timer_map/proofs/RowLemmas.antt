@@ -1,5 +1,5 @@
 -- Rows by timer: those without a timer's, and with one more.
-use Rattle.std.proofs.Common.{◌≡◌, ◌<◌, ◌⊎◌, inl, inr, ℕ, suc, ◌+◌, Bool, true, false, not, if◌then◌else◌, List, [], ◌∷◌, ◌++◌, map, length, refl, sym, ap, ◌∙◌, arith}
+use Rattle.std.proofs.Common.{◌≡◌, ◌<◌, ◌≤◌, ◌⊎◌, inl, inr, ℕ, suc, ◌+◌, ◌*◌, Bool, true, false, not, if◌then◌else◌, List, [], ◌∷◌, ◌++◌, map, length, refl, sym, ap, ◌∙◌, arith}
 use Rattle.std.specs.Prelude.{Some, None, is_some}
 use Rattle.st_events.specs.declared.timer.Timer.{Timer}
 use Rattle.st_events.specs.Timers.{same_timer}
@@ -103,6 +103,13 @@ module _ {V : Type 0} where
       → (is_some (value_of timer rows) ≡ true) ⊎ (0 < reserved) → 0 < reserved
   room_left timer rows reserved h (inl k) = let never : false ≡ true = sym h ∙ k in cc
   room_left timer rows reserved h (inr k) = k
+
+  -- a timer that is there, or that is reserved for, leaves room
+  pub fewer_than : (timer : Timer) (rows : List (Timer × V)) (live reserved capacity : ℕ) → (is_some (value_of timer rows) ≡ true) ⊎ (0 < reserved)
+      → live ≡ length rows → 2 * (live + reserved) ≤ capacity → length rows < capacity
+  fewer_than timer [] live reserved capacity (inl there) counted fits = cc
+  fewer_than timer (row ∷ rows) live reserved capacity (inl there) counted fits = omega (arith, counted, fits)
+  fewer_than timer rows live reserved capacity (inr more) counted fits = omega (arith, more, counted, fits)
 
   -- ---- a value is marked
   abbrev pub marked_row : (V → V) → Timer → Timer × V → Timer × V

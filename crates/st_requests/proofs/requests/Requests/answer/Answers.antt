@@ -1,5 +1,5 @@
-use Rattle.std.proofs.Common.{refl, sym, ◌∙◌}
-use Rattle.st_requests.proofs.RequestLemmas.{not_found, found_at, answered_at, answered_nowhere, one_each_answer}
+use Rattle.std.proofs.Common.{refl, sym, ◌∙◌, arith}
+use Rattle.st_requests.proofs.RequestLemmas.{not_found, found_at, place_within, answered_at, answered_nowhere, one_each_answer}
 use Rattle.st_requests.proofs.requests.Requests.answer.Goals as goal
 
 pub returns-in_default-clause-was_open : goal.returns-in_default-clause-was_open
@@ -11,6 +11,12 @@ pub returns-in_default-clause-answered : goal.returns-in_default-clause-answered
 returns-in_default-clause-answered g c =
     let nowhere = rw c.deref.ensures.value at (sym c.place_of.ensures ∙ c.in_default.is) in
     rw (← c.self.view_is) (answered_nowhere c.args.tag c.args.content c.self.inside.requests.items nowhere)
+
+-- the place is there
+pub index_mut-request-requires : goal.index_mut-request-requires
+index_mut-request-requires g c =
+    let at = rw c.deref.ensures.value at (sym c.place_of.ensures ∙ c.in-Some.is) in
+    omega (arith, place_within c.args.tag c.self.inside.requests.items c.in-Some.place at, c.self.inside.requests.ok.0)
 
 pub invariant_of-self : goal.invariant_of-self
 invariant_of-self g c =

@@ -1,6 +1,6 @@
-use Rattle.std.proofs.Common.{◌≡◌, true, false, refl, sym, ◌∙◌}
+use Rattle.std.proofs.Common.{◌≡◌, true, false, refl, sym, ◌∙◌, arith}
 use Rattle.st_requests.specs.Requests.{is_open}
-use Rattle.st_requests.proofs.RequestLemmas.{not_found, found_at, waiting_collected, waiting_stays, collected_nowhere, removed_at, one_each_kept}
+use Rattle.st_requests.proofs.RequestLemmas.{not_found, found_at, place_within, waiting_collected, waiting_stays, collected_nowhere, removed_at, one_each_kept}
 use Rattle.st_requests.proofs.requests.Requests.collect.Goals as goal
 
 pub returns-in_default-clause-collected : goal.returns-in_default-clause-collected
@@ -12,6 +12,17 @@ pub returns-in_default-clause-left : goal.returns-in_default-clause-left
 returns-in_default-clause-left g c =
     let nowhere = rw c.deref.ensures.value at (sym c.place_of.ensures ∙ c.in_default.is) in
     rw (← c.self.view_is) (collected_nowhere c.args.tag c.self.inside.requests.items nowhere)
+
+-- the place is there
+pub index-request-requires : goal.index-request-requires
+index-request-requires g c =
+    let at = rw c.deref.ensures.value at (sym c.place_of.ensures ∙ c.in-Some.is) in
+    omega (arith, place_within c.args.tag c.self.inside.requests.items c.in-Some.place at, c.self.inside.requests.ok.0)
+
+pub remove-requires : goal.remove-requires
+remove-requires g c =
+    let at = rw c.deref.ensures.value at (sym c.place_of.ensures ∙ c.in-Some.is) in
+    omega (arith, place_within c.args.tag c.self.inside.requests.items c.in-Some.place at, c.self.inside.requests.ok.0)
 
 pub returns-then-is_open-clause-collected : goal.returns-then-is_open-clause-collected
 returns-then-is_open-clause-collected g c =
