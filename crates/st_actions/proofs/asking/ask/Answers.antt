@@ -12,3 +12,7 @@ returns-then-note-clause-asked g c =
 -- something was asked of it already, by a later action
 pub returns-else-note-clause-asked : goal.returns-else-note-clause-asked
 returns-else-note-clause-asked g c = rw (not-false _ (sym c.note.ensures.was_new ∙ c.if-note.false)) refl
+
+-- the layout is a hypothesis, and so is the room
+pub push-requires : goal.push-requires
+push-requires g c = (c.requires.settings_fit, c.requires.reserved)

@@ -8,6 +8,31 @@ use Rattle.st_actions.specs.Joined.{as_actions}
 use Rattle.st_actions.proofs.PlanLemmas.{one_fewer, taken_before, one_before, asked_before, enter_planned_whole}
 use Rattle.st_actions.proofs.enter_planning.plan_enter.Goals as goal
 
+-- the layout of each list is a hypothesis
+pub len-count-requires : goal.len-count-requires
+len-count-requires g c = c.requires.actions_fit
+
+pub with_reserved-requires : goal.with_reserved-requires
+with_reserved-requires g c = c.requires.replies_fit
+
+pub with_reserved-requires-2 : goal.with_reserved-requires-2
+with_reserved-requires-2 g c = c.requires.settings_fit
+
+pub pop-requires : goal.pop-requires
+pop-requires g c = c.requires.actions_fit
+
+pub in_order-replies-requires : goal.in_order-replies-requires
+in_order-replies-requires g c = (c.requires.replies_fit, c.requires.replies_fit)
+
+pub new-inserts-requires : goal.new-inserts-requires
+new-inserts-requires g c = c.requires.inserts_fit
+
+pub in_order-settings-requires : goal.in_order-settings-requires
+in_order-settings-requires g c = (c.requires.settings_fit, c.requires.settings_fit)
+
+pub new-sends-requires : goal.new-sends-requires
+new-sends-requires g c = c.requires.sends_fit
+
 -- nothing was taken
 pub loop-action-init : goal.loop-action-init
 loop-action-init g c =

@@ -4,6 +4,22 @@ use Rattle.st_actions.proofs.PlanLemmas.{joined_whole, joined_is}
 use Rattle.st_actions.proofs.JoinLemmas.{reserved_behind, both_moved, no_more_remain, remaining_moved}
 use Rattle.st_actions.proofs.joining.join.Goals as goal
 
+-- the lists are the caller's, and so is their layout
+pub reserved_for-requires : goal.reserved_for-requires
+reserved_for-requires g c = (c.requires.replies_fit, c.requires.replies_fit)
+
+pub reserved_for-requires-2 : goal.reserved_for-requires-2
+reserved_for-requires-2 g c = (c.requires.inserts_fit, c.requires.inserts_fit)
+
+pub reserved_for-requires-3 : goal.reserved_for-requires-3
+reserved_for-requires-3 g c = (c.requires.settings_fit, c.requires.settings_fit)
+
+pub reserved_for-requires-4 : goal.reserved_for-requires-4
+reserved_for-requires-4 g c = (c.requires.sends_fit, c.requires.sends_fit)
+
+pub timers_of-requires : goal.timers_of-requires
+timers_of-requires g c = c.requires.settings_fit
+
 pub move_all-requires : goal.move_all-requires
 move_all-requires g c = (c.requires.replies_fit, omega (arith, ap (λ b. b.reserved) c.in-Ok.ensures.reserved))
 
@@ -38,6 +54,18 @@ move_all-requires-7 g c =
     let reserved = reserved_behind _ _ _ _ _ c.in-Ok-reserved_for-3.ensures.reserved (omega arith) c.move_all-6.ensures.moved in
     (c.requires.sends_fit, omega (arith, reserved))
 
+pub finish-replies-requires : goal.finish-replies-requires
+finish-replies-requires g c = (c.requires.replies_fit, c.requires.replies_fit)
+
+pub finish-inserts-requires : goal.finish-inserts-requires
+finish-inserts-requires g c = (c.requires.inserts_fit, c.requires.inserts_fit)
+
+pub finish-settings-requires : goal.finish-settings-requires
+finish-settings-requires g c = (c.requires.settings_fit, c.requires.settings_fit)
+
+pub finish-sends-requires : goal.finish-sends-requires
+finish-sends-requires g c = (c.requires.sends_fit, c.requires.sends_fit)
+
 pub returns-clause-joined : goal.returns-clause-joined
 returns-clause-joined g c =
     let moved = remaining_moved _ _ _ _ c.args.second.requests (λ setting. ap not (c.in-Ok-timers_of.ensures.noted setting.timer)) c.move_remaining.ensures.moved in
@@ -51,3 +79,20 @@ returns-clause-joined g c =
 pub returns-clause-plan_of_both : goal.returns-clause-plan_of_both
 returns-clause-plan_of_both g c actions enter first second =
     joined_is c.args.first c.args.second _ actions enter (returns-clause-joined g c) first second
+
+-- short lists want no memory
+pub returns-in_default-clause-inline : goal.returns-in_default-clause-inline
+returns-in_default-clause-inline g c = λ short. c.in_default.ensures.inline short.0
+
+pub returns-in_default-reserved_for-clause-inline : goal.returns-in_default-reserved_for-clause-inline
+returns-in_default-reserved_for-clause-inline g c = λ short. c.in_default-reserved_for.ensures.inline short.1
+
+pub returns-in_default-reserved_for-2-clause-inline : goal.returns-in_default-reserved_for-2-clause-inline
+returns-in_default-reserved_for-2-clause-inline g c = λ short. c.in_default-reserved_for-2.ensures.inline short.2
+
+pub returns-in_default-reserved_for-3-clause-inline : goal.returns-in_default-reserved_for-3-clause-inline
+returns-in_default-reserved_for-3-clause-inline g c = λ short. c.in_default-reserved_for-3.ensures.inline short.3
+
+pub returns-in_default-timers_of-clause-inline : goal.returns-in_default-timers_of-clause-inline
+returns-in_default-timers_of-clause-inline g c =
+    λ short. c.in_default-timers_of.ensures.inline (omega (arith, short.2))

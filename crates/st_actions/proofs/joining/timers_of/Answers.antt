@@ -3,6 +3,7 @@ use Rattle.std.proofs.lemmas.List.{take_all}
 use Rattle.st_actions.specs.Joined.{is_set_by}
 use Rattle.st_actions.specs.Noted.{is_noted, room}
 use Rattle.st_actions.proofs.JoinLemmas.{one_more_noted, is_there}
+use Rattle.st_actions.proofs.Given.{given}
 use Rattle.st_actions.proofs.joining.timers_of.Goals as goal
 use Rattle.st_actions.proofs.joining.timers_of.Goals.{in-Some, in_default}
 
@@ -23,3 +24,7 @@ pub returns-clause-noted : goal.returns-clause-noted
 returns-clause-noted g c timer =
     c.loop-index.invariant.noted timer
     ∙ ap (is_set_by timer) (take_all c.loop-index.index c.args.settings.now (omega (arith, c.loop-index-test.false, c.len-count.ensures.length)))
+
+-- the list is the caller's, and so is its layout
+pub get-requires : goal.get-requires
+get-requires g c = search given

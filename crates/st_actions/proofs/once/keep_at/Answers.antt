@@ -4,6 +4,7 @@ use Rattle.std.proofs.lemmas.Bool.{not-true, not-false}
 use Rattle.st_actions.specs.Noted.{is_noted}
 use Rattle.st_actions.specs.Once.{overrides}
 use Rattle.st_actions.proofs.KeptLemmas.{overrides_is, sets_is}
+use Rattle.st_actions.proofs.Given.{given}
 use Rattle.st_actions.proofs.once.keep_at.Goals as goal
 
 -- the timer was noted
@@ -33,3 +34,10 @@ returns-else-not-note-clause-noted g c = λ other.
     let there = slice_get c.args.actions.now c.args.index in
     c.note.ensures.noted other
     ∙ ap (λ b. b || is_noted other c.args.noted.now) (sym (sets_is there c.in-Some.timer other (sym c.timer_at.ensures ∙ c.in-Some.is)))
+
+-- the list is the caller's, and so is its layout
+pub timer_at-requires : goal.timer_at-requires
+timer_at-requires g c = search given
+
+pub replace-overridden-requires : goal.replace-overridden-requires
+replace-overridden-requires g c = search given

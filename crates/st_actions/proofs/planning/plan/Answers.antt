@@ -6,6 +6,37 @@ use Rattle.st_actions.specs.Plan.{replies_of, postpone_of, inserts_of, settings_
 use Rattle.st_actions.proofs.PlanLemmas.{one_fewer, taken_before, one_before, first_decides, asked_before, planned_whole}
 use Rattle.st_actions.proofs.planning.plan.Goals as goal
 
+-- the layout of each list is a hypothesis
+pub len-count-requires : goal.len-count-requires
+len-count-requires g c = c.requires.actions_fit
+
+pub with_reserved-requires : goal.with_reserved-requires
+with_reserved-requires g c = c.requires.replies_fit
+
+pub with_reserved-requires-2 : goal.with_reserved-requires-2
+with_reserved-requires-2 g c = c.requires.inserts_fit
+
+pub with_reserved-requires-3 : goal.with_reserved-requires-3
+with_reserved-requires-3 g c = c.requires.settings_fit
+
+pub with_reserved-requires-4 : goal.with_reserved-requires-4
+with_reserved-requires-4 g c = c.requires.sends_fit
+
+pub pop-requires : goal.pop-requires
+pop-requires g c = c.requires.actions_fit
+
+pub in_order-replies-requires : goal.in_order-replies-requires
+in_order-replies-requires g c = (c.requires.replies_fit, c.requires.replies_fit)
+
+pub in_order-inserts-requires : goal.in_order-inserts-requires
+in_order-inserts-requires g c = (c.requires.inserts_fit, c.requires.inserts_fit)
+
+pub in_order-settings-requires : goal.in_order-settings-requires
+in_order-settings-requires g c = (c.requires.settings_fit, c.requires.settings_fit)
+
+pub in_order-sends-requires : goal.in_order-sends-requires
+in_order-sends-requires g c = (c.requires.sends_fit, c.requires.sends_fit)
+
 -- nothing was taken
 pub loop-action-init : goal.loop-action-init
 loop-action-init g c =

@@ -3,6 +3,7 @@ use Rattle.st_events.specs.declared.action.Action.TheVariants.{Hibernate}
 use Rattle.st_actions.specs.Plan.{replies_of, inserts_of, sends_of}
 use Rattle.st_actions.specs.Taking.{all_settings_of, as_reply, as_insert, as_setting, as_send}
 use Rattle.st_actions.proofs.TakingLemmas.{none_at, some_at, other_out, last_taken, none_behind, none_behind_out, replies_are, inserts_are, settings_are, sends_are, insert_is_no_reply, insert_is_no_setting, insert_is_no_send}
+use Rattle.st_actions.proofs.Given.{given}
 use Rattle.st_actions.proofs.taking.take_insert.Goals as goal
 
 pub unreachable-unreachable : goal.unreachable-unreachable
@@ -44,3 +45,10 @@ returns-clause-same_sends g c =
     rw c.replace.ensures.put_in
     (other_out as_send Hibernate refl sends_of sends_are c.args.actions.now c.args.index c.in-Some.action (sym c.in-Some.ensures.replaced)
     (insert_is_no_send c.in-Some.action it))
+
+-- the list is the caller's, and so is its layout
+pub is_insert_at-requires : goal.is_insert_at-requires
+is_insert_at-requires g c = search given
+
+pub replace-requires : goal.replace-requires
+replace-requires g c = search given

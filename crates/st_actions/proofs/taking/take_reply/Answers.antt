@@ -3,6 +3,7 @@ use Rattle.st_events.specs.declared.action.Action.TheVariants.{Hibernate}
 use Rattle.st_actions.specs.Plan.{replies_of, inserts_of, sends_of}
 use Rattle.st_actions.specs.Taking.{all_settings_of, as_reply, as_insert, as_setting, as_send}
 use Rattle.st_actions.proofs.TakingLemmas.{none_at, some_at, other_out, first_taken, none_in_front, none_in_front_out, replies_are, inserts_are, settings_are, sends_are, reply_is_no_insert, reply_is_no_setting, reply_is_no_send}
+use Rattle.st_actions.proofs.Given.{given}
 use Rattle.st_actions.proofs.taking.take_reply.Goals as goal
 
 pub unreachable-unreachable : goal.unreachable-unreachable
@@ -44,3 +45,10 @@ returns-clause-same_sends g c =
     rw c.replace.ensures.put_in
     (other_out as_send Hibernate refl sends_of sends_are c.args.actions.now c.args.index c.in-Some.action (sym c.in-Some.ensures.replaced)
     (reply_is_no_send c.in-Some.action it))
+
+-- the list is the caller's, and so is its layout
+pub is_reply_at-requires : goal.is_reply_at-requires
+is_reply_at-requires g c = search given
+
+pub replace-requires : goal.replace-requires
+replace-requires g c = search given

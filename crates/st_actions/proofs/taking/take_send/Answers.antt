@@ -3,6 +3,7 @@ use Rattle.st_events.specs.declared.action.Action.TheVariants.{Hibernate}
 use Rattle.st_actions.specs.Plan.{sends_of}
 use Rattle.st_actions.specs.Taking.{as_send}
 use Rattle.st_actions.proofs.TakingLemmas.{none_at, first_taken, none_in_front, none_in_front_out, sends_are}
+use Rattle.st_actions.proofs.Given.{given}
 use Rattle.st_actions.proofs.taking.take_send.Goals as goal
 
 pub unreachable-unreachable : goal.unreachable-unreachable
@@ -23,3 +24,10 @@ pub returns-clause-none_before : goal.returns-clause-none_before
 returns-clause-none_before g c =
     rw c.replace.ensures.put_in
     (none_in_front_out as_send Hibernate refl sends_of sends_are c.args.actions.now c.args.index c.requires.first)
+
+-- the list is the caller's, and so is its layout
+pub is_send_at-requires : goal.is_send_at-requires
+is_send_at-requires g c = search given
+
+pub replace-requires : goal.replace-requires
+replace-requires g c = search given

@@ -3,6 +3,7 @@ use Rattle.st_events.specs.declared.action.Action.TheVariants.{Hibernate}
 use Rattle.st_actions.specs.Plan.{sends_of}
 use Rattle.st_actions.specs.Taking.{all_settings_of, as_setting, as_send}
 use Rattle.st_actions.proofs.TakingLemmas.{none_at, some_at, first_taken, other_out, none_in_front, none_in_front_out, settings_are, sends_are, setting_is_no_send}
+use Rattle.st_actions.proofs.Given.{given}
 use Rattle.st_actions.proofs.taking.take_setting.Goals as goal
 
 pub unreachable-unreachable : goal.unreachable-unreachable
@@ -30,3 +31,10 @@ returns-clause-same_sends g c =
     rw c.replace.ensures.put_in
     (other_out as_send Hibernate refl sends_of sends_are c.args.actions.now c.args.index c.in-Some.action (sym c.in-Some.ensures.replaced)
     (setting_is_no_send c.in-Some.action setting))
+
+-- the list is the caller's, and so is its layout
+pub is_setting_at-requires : goal.is_setting_at-requires
+is_setting_at-requires g c = search given
+
+pub replace-requires : goal.replace-requires
+replace-requires g c = search given
