@@ -1,5 +1,5 @@
 //! Each accepted event waits or was finished once.
-use super::host::{Host, holds, same};
+use super::host::{Host, holds, is_count, same};
 use super::machine::Machine;
 use super::reserved::with_reserved;
 use super::shown::Shown::{Posted, Reported};
@@ -97,12 +97,12 @@ fn all_count<T: Machine>(rt: &Host<impl Abort>, alloc: Global, told: &[Told], ac
     for one in told {
         account.follow(rt, &mut machine, *one);
     }
-    same(rt, "nothing waits in the end", &machine.see().waiting, &0);
-    same(
+    is_count(rt, "nothing waits in the end", machine.see().waiting, 0);
+    is_count(
         rt,
         "so many were accepted",
-        &account.accepted.len(),
-        &accepted,
+        account.accepted.len(),
+        accepted,
     );
 }
 

@@ -28,6 +28,18 @@ pub struct Begin<M> {
     pub sent: &'static [u64],
 }
 
+/// Makes the call of a start whose first event has this number.
+fn call_start_from<M: Module<Arg = u32> + Copy>(
+    rt: &Host<impl Abort>,
+    alloc: Global,
+    begin: &Begin<M>,
+    first: u64,
+) -> Result<Start<M>, Refused<M>> {
+    holds(rt, "the first number is 1 or more", first >= 1);
+    holds(rt, "the first number can be given", first < 1 << 63);
+    Core::start_from(alloc, begin.module, ID, &begin.arg, begin.now, first)
+}
+
 /// Makes the call of a start.
 fn call_start<M: Module<Arg = u32> + Copy>(
     rt: &Host<impl Abort>,
@@ -36,11 +48,7 @@ fn call_start<M: Module<Arg = u32> + Copy>(
 ) -> Result<Start<M>, Refused<M>> {
     match begin.first {
         None => Core::start(alloc, begin.module, ID, &begin.arg, begin.now),
-        Some(first) => {
-            holds(rt, "the first number is 1 or more", first >= 1);
-            holds(rt, "the first number can be given", first < 1 << 63);
-            Core::start_from(alloc, begin.module, ID, &begin.arg, begin.now, first)
-        }
+        Some(first) => call_start_from(rt, alloc, begin, first),
     }
 }
 
@@ -154,6 +162,18 @@ fn is_lawful<M: Module>(core: &Core<M>, module: &M) {
     a_machine_is_lawful(core);
 }
 
+/// Looks at a machine that has started, and that its report says what it did.
+fn is_begun<M: Module<State = u32, Data = u32, Content = u32>>(
+    rt: &Host<impl Abort>,
+    core: &Core<M>,
+    report: &Report<u32>,
+    begin: &Begin<M>,
+) {
+    reports(rt, report, &wanted_of(begin, core.state()));
+    is_lawful(core, &begin.module);
+    has_begun(rt, core, begin);
+}
+
 /// A machine that has started, whose report says what it did, and that is looked at.
 pub fn begun<M: Module<State = u32, Data = u32, Content = u32, Arg = u32> + Copy + Eq + Debug>(
     rt: &Host<impl Abort>,
@@ -161,8 +181,6 @@ pub fn begun<M: Module<State = u32, Data = u32, Content = u32, Arg = u32> + Copy
     begin: &Begin<M>,
 ) -> Core<M> {
     let (core, report) = running(rt, alloc, begin);
-    reports(rt, &report, &wanted_of(begin, core.state()));
-    is_lawful(&core, &begin.module);
-    has_begun(rt, &core, begin);
+    is_begun(rt, &core, &report, begin);
     core
 }

@@ -1,12 +1,12 @@
 //! Lists of the calls that a turn made.
-use super::host::{Host, got, holds, same};
+use super::host::{Host, got, holds, is_count};
 use st_core::{Call, Calls, OneInline};
 use std::alloc::Global;
 use std::process::Abort;
 
 /// Looks that these calls are listed, in this order, and no others.
 fn are_calls(rt: &impl Abort, calls: &Calls<u32>, wanted: &[Call<u32>]) {
-    same(rt, "how many calls", &calls.len(), &wanted.len());
+    is_count(rt, "how many calls", calls.len(), wanted.len());
     for place in 0..wanted.len() {
         let stands = calls.get(place) == wanted.get(place);
         holds(rt, "each call in its place", stands);

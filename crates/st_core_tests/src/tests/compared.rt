@@ -1,6 +1,6 @@
 //! The same commands by single calls, and by one run.
 use super::begin::Begin;
-use super::host::{Host, holds, same};
+use super::host::{Host, holds, is_count};
 use super::machine::{Machine, read_all};
 use super::row::Row;
 use super::seen::{Running, Seen, Whole, ends, is_all};
@@ -54,12 +54,7 @@ fn by_one_run<T: Machine>(
 ) -> bool {
     let mut at_once = T::begun(rt, alloc, begin);
     let answers = run(rt, alloc, &mut at_once, rows);
-    same(
-        rt,
-        "each command has its answer",
-        &answers.len(),
-        &rows.len(),
-    );
+    is_count(rt, "each command has its answer", answers.len(), rows.len());
     let left = read_all(rt, &at_once);
     let found = all_found_memory(answers.as_slice());
     if found {

@@ -1,9 +1,9 @@
 //! Runs that are put together from steps, from calls and from other runs.
-use super::host::{Host, got, holds, same};
+use super::host::{Host, got, holds, is_count, is_number};
 use super::machine::Machine;
 use super::reserved::with_reserved;
 use super::shown::Shown::{Gone, Idle, Stopped, Ticked};
-use super::shown::agree;
+use super::shown::{Shown, agree};
 use super::table::Table;
 use super::table_machine::PLAIN;
 use super::told::FIRST;
@@ -101,31 +101,49 @@ fn run_twice<T: Joined>(
     }
 }
 
+/// Looks that two answers are those that are wanted.
+fn both_agree(
+    rt: &Host<impl Abort>,
+    answers: &(AnswerOf<Table>, AnswerOf<Table>),
+    first: &Shown,
+    second: &Shown,
+) {
+    agree(rt, &answers.0, first);
+    agree(rt, &answers.1, second);
+}
+
 /// Looks at the answers of two steps.
 fn steps_answer<T: Joined>(rt: &Host<impl Abort>, machine: &mut T) {
-    let (first, second) = machine.two_steps(Command::Tick(3), Command::Tick(4));
-    agree(rt, &first, &Ticked(0));
-    agree(rt, &second, &Ticked(0));
+    let answers = machine.two_steps(Command::Tick(3), Command::Tick(4));
+    both_agree(rt, &answers, &Ticked(0), &Ticked(0));
 }
 
 /// Looks at the answers of a turn and a collect.
 fn calls_answer<T: Joined>(rt: &Host<impl Abort>, machine: &mut T) {
-    let (turned, collected) = machine.turn_and_collect(5, FIRST);
-    agree(rt, &turned, &Idle);
-    agree(rt, &collected, &Gone);
+    let answers = machine.turn_and_collect(5, FIRST);
+    both_agree(rt, &answers, &Idle, &Gone);
+}
+
+/// Looks how many answers two runs have.
+fn are_counted(rt: &Host<impl Abort>, answers: &(AnswersOf<Table>, AnswersOf<Table>)) {
+    is_count(rt, "the first run has one answer", answers.0.len(), 1);
+    is_count(rt, "the second run has two answers", answers.1.len(), 2);
 }
 
 /// Looks at the answers of two runs.
 fn runs_answer<T: Joined>(rt: &Host<impl Abort>, alloc: Global, machine: &mut T) {
-    let (one, other) = run_twice(rt, alloc, machine);
-    same(rt, "the first run has one answer", &one.len(), &1);
-    same(rt, "the second run has two answers", &other.len(), &2);
-    same(
+    are_counted(rt, &run_twice(rt, alloc, machine));
+    is_number(
         rt,
         "the latest moment is the last tick's",
-        &machine.see().latest,
-        &8,
+        machine.see().latest,
+        8,
     );
+}
+
+/// Looks at the answer of a machine to a stop.
+fn stop_answers<T: Joined>(rt: &Host<impl Abort>, machine: &mut T) {
+    agree(rt, &machine.step_alone(Command::Stop(9)), &Stopped(7));
 }
 
 /// Looks at the answers of a machine to steps, calls and runs that are put together.
@@ -134,7 +152,7 @@ fn all_answer<T: Joined>(rt: &Host<impl Abort>, alloc: Global) {
     steps_answer(rt, &mut machine);
     calls_answer(rt, &mut machine);
     runs_answer(rt, alloc, &mut machine);
-    agree(rt, &machine.step_alone(Command::Stop(9)), &Stopped(7));
+    stop_answers(rt, &mut machine);
 }
 
 /// The steps take no memory, so that none is refused.

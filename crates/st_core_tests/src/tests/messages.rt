@@ -380,15 +380,20 @@ fn messages_follow(rt: &Host<impl Abort>, whole: &Snapshot<Table>, later: &Snaps
 }
 
 /// Looks at a snapshot of a machine that has sent two messages, and at another one after the first was taken out.
+fn snapshots_follow<T: Machine>(rt: &Host<impl Abort>, machine: &mut T, whole: &Snapshot<Table>) {
+    static ROWS: [Row; 1] = [Takes(1, OTHER, 5)];
+    play(rt, machine, &ROWS);
+    let later = snapped(rt, machine);
+    messages_follow(rt, whole, &later);
+}
+
+/// Has a machine send two messages, and looks at its snapshots.
 fn messages_are_snapped<T: Machine>(rt: &Host<impl Abort>, alloc: Global) {
-    static FIRST_ROWS: [Row; 2] = [Tells(Cast(52), Posted(1)), SENDS_TWO];
-    static LATER_ROWS: [Row; 1] = [Takes(1, OTHER, 5)];
+    static ROWS: [Row; 2] = [Tells(Cast(52), Posted(1)), SENDS_TWO];
     let mut machine = T::begun(rt, alloc, &PLAIN);
-    play(rt, &mut machine, &FIRST_ROWS);
+    play(rt, &mut machine, &ROWS);
     let whole = snapped(rt, &mut machine);
-    play(rt, &mut machine, &LATER_ROWS);
-    let later = snapped(rt, &mut machine);
-    messages_follow(rt, &whole, &later);
+    snapshots_follow(rt, &mut machine, &whole);
 }
 
 #[test]

@@ -1,5 +1,5 @@
 //! Snapshots.
-use super::host::{Host, got, holds, same};
+use super::host::{Host, got, holds, is_number, same};
 use super::machine::{Machine, read_all};
 use super::row::More::{Inserts, PutsOff, Replies, Sets};
 use super::row::Row;
@@ -104,7 +104,7 @@ fn schedule_is_whole(rt: &Host<impl Abort>, whole: &Snapshot<Table>) {
     holds(rt, "what is postponed", is_postponed);
     let runs = schedule.running.as_slice() == RUNNING.as_slice();
     holds(rt, "what runs", runs);
-    same(rt, "the next number", &schedule.next_number, &9);
+    is_number(rt, "the next number", schedule.next_number, 9);
 }
 
 /// Looks at the requests of its snapshot.
@@ -122,16 +122,17 @@ pub fn sent_is_whole(
 ) {
     let are_same = outbox.messages.as_slice() == messages;
     holds(rt, "the messages", are_same);
-    same(
+    is_number(
         rt,
         "the next message's number",
-        &outbox.next_number,
-        &next_number,
+        outbox.next_number,
+        next_number,
     );
 }
 
-/// Looks at the snapshot that follows a stop.
-fn is_closed(rt: &Host<impl Abort>, end: &Snapshot<Table>) {
+/// Looks at the snapshot that follows a stop, where this is one before it.
+fn is_closed(rt: &Host<impl Abort>, whole: &Snapshot<Table>, end: &Snapshot<Table>) {
+    holds(rt, "the end is another", *whole != *end);
     holds(
         rt,
         "nothing waits",
@@ -153,14 +154,24 @@ fn is_whole(rt: &Host<impl Abort>, whole: &Snapshot<Table>) {
     holds(rt, "it runs", whole.ended == None);
 }
 
-/// Looks at another snapshot of a machine, and at one after it is stopped.
-fn snapshots_follow<T: Machine>(rt: &Host<impl Abort>, machine: &mut T, whole: &Snapshot<Table>) {
+/// Looks at another snapshot of a machine.
+fn another_is_equal<T: Machine>(rt: &Host<impl Abort>, machine: &mut T, whole: &Snapshot<Table>) {
     let again = snapped(rt, machine);
     holds(rt, "another snapshot is equal", *whole == again);
+}
+
+/// Stops a machine, and looks at its snapshot then.
+fn end_is_another<T: Machine>(rt: &Host<impl Abort>, machine: &mut T, whole: &Snapshot<Table>) {
     does(rt, machine, Stop(9), &Stopped(7));
     let end = snapped(rt, machine);
-    holds(rt, "the end is another", *whole != end);
-    is_closed(rt, &end);
+    is_closed(rt, whole, &end);
+}
+
+/// Looks at a machine's snapshot, at another one, and at one after it is stopped.
+fn snapshots_follow<T: Machine>(rt: &Host<impl Abort>, machine: &mut T, whole: &Snapshot<Table>) {
+    is_whole(rt, whole);
+    another_is_equal(rt, machine, whole);
+    end_is_another(rt, machine, whole);
 }
 
 /// Looks at the snapshots of a machine that has done the commands of rows.
@@ -168,7 +179,6 @@ fn is_snapped<T: Machine>(rt: &Host<impl Abort>, alloc: Global, rows: &[Row]) {
     let mut machine = T::begun(rt, alloc, &PLAIN);
     play(rt, &mut machine, rows);
     let whole = snapped(rt, &mut machine);
-    is_whole(rt, &whole);
     snapshots_follow(rt, &mut machine, &whole);
 }
 

@@ -178,13 +178,31 @@ fn two<T: Drop>(alloc: Global, first: T, second: T) -> Result<SmallList<T>, Allo
     with(one(alloc, first)?, second)
 }
 
+/// A list of four elements.
+fn four<T: Drop>(
+    alloc: Global,
+    first: T,
+    second: T,
+    third: T,
+    fourth: T,
+) -> Result<SmallList<T>, AllocError>
+    ensures { IfOk result (λ list. list ≡ first ∷ second ∷ third ∷ fourth ∷ []) }
+{
+    let list = with(two(alloc, first, second)?, third)?;
+    with(list, fourth)
+}
+
 /// Five hibernations, one action more than a list holds without memory.
 fn five(alloc: Global) -> Result<Actions<u32>, AllocError>
     ensures { IfOk result (λ actions. actions ≡ five_actions) }
 {
-    let actions = two(alloc, Action::Hibernate, Action::Hibernate)?;
-    let actions = with(actions, Action::Hibernate)?;
-    let actions = with(actions, Action::Hibernate)?;
+    let actions = four(
+        alloc,
+        Action::Hibernate,
+        Action::Hibernate,
+        Action::Hibernate,
+        Action::Hibernate,
+    )?;
     with(actions, Action::Hibernate)
 }
 
@@ -192,9 +210,13 @@ fn five(alloc: Global) -> Result<Actions<u32>, AllocError>
 fn of_each_kind(alloc: Global) -> Result<Actions<u32>, AllocError>
     ensures { IfOk result (λ actions. actions ≡ actions_of_each_kind) }
 {
-    let actions = two(alloc, set(Timer::Named(1), 5), Action::Reply(SECOND, 54))?;
-    let actions = with(actions, Action::NextEvent(Kind::Internal, 20))?;
-    let actions = with(actions, Action::Postpone(true))?;
+    let actions = four(
+        alloc,
+        set(Timer::Named(1), 5),
+        Action::Reply(SECOND, 54),
+        Action::NextEvent(Kind::Internal, 20),
+        Action::Postpone(true),
+    )?;
     let actions = with(actions, Action::Hibernate)?;
     let actions = with(actions, set(Timer::State, 10))?;
     let actions = with(actions, Action::NextEvent(Kind::Cast, 21))?;
@@ -206,9 +228,7 @@ fn of_each_kind(alloc: Global) -> Result<Actions<u32>, AllocError>
 fn replies(alloc: Global) -> Result<Replies<u32>, AllocError>
     ensures { IfOk result (λ replies. replies ≡ five_replies) }
 {
-    let replies = two(alloc, (THIRD, 57), (TAG, 40))?;
-    let replies = with(replies, (FOREIGN, 58))?;
-    let replies = with(replies, (SECOND, 51))?;
+    let replies = four(alloc, (THIRD, 57), (TAG, 40), (FOREIGN, 58), (SECOND, 51))?;
     with(replies, (THIRD, 59))
 }
 
@@ -242,9 +262,13 @@ fn set(timer: Timer, milliseconds: u32) -> Action<u32>
 fn postpone_and_settings(alloc: Global) -> Result<Actions<u32>, AllocError>
     ensures { IfOk result (λ actions. actions ≡ action.Postpone true ∷ action.Set (timer.Named 1) (time.After 5) 0 ∷ action.Set timer.State (time.After 10) 0 ∷ action.Set (timer.Named 2) (time.After 5) 0 ∷ []) }
 {
-    let actions = two(alloc, Action::Postpone(true), set(Timer::Named(1), 5))?;
-    let actions = with(actions, set(Timer::State, 10))?;
-    with(actions, set(Timer::Named(2), 5))
+    four(
+        alloc,
+        Action::Postpone(true),
+        set(Timer::Named(1), 5),
+        set(Timer::State, 10),
+        set(Timer::Named(2), 5),
+    )
 }
 
 /// What `handle` answers to the contents that ask for more than a list holds without memory.
@@ -266,13 +290,13 @@ fn handle_at_length(
 fn requests(alloc: Global) -> Result<Actions<u32>, AllocError>
     ensures { IfOk result (λ actions. actions ≡ six_requests) }
 {
-    let actions = two(
+    let actions = four(
         alloc,
         Action::Update(Timer::Named(1), 4),
         set(Timer::Named(5), 20),
+        Action::Cancel(Timer::Named(1)),
+        Action::Send(FOREIGN.machine, 0),
     )?;
-    let actions = with(actions, Action::Cancel(Timer::Named(1)))?;
-    let actions = with(actions, Action::Send(FOREIGN.machine, 0))?;
     let actions = with(actions, Action::Update(Timer::Named(5), 3))?;
     with(actions, Action::Update(Timer::State, 4))
 }
@@ -305,13 +329,13 @@ fn message_and_others(alloc: Global) -> Result<Actions<u32>, AllocError>
 fn five_messages(alloc: Global) -> Result<Actions<u32>, AllocError>
     ensures { IfOk result (λ actions. actions ≡ five_sends) }
 {
-    let actions = two(
+    let actions = four(
         alloc,
         Action::Send(OTHER_MACHINE, 1),
         Action::Send(THIRD_MACHINE, 2),
+        Action::Send(OTHER_MACHINE, 3),
+        Action::Send(TAG.machine, 4),
     )?;
-    let actions = with(actions, Action::Send(OTHER_MACHINE, 3))?;
-    let actions = with(actions, Action::Send(TAG.machine, 4))?;
     with(actions, Action::Send(FOREIGN.machine, 5))
 }
 
@@ -323,13 +347,14 @@ fn handle_sending(
 ) -> Result<Outcome<u32, u32, u32>, AllocError>
     ensures { IfOk result (λ outcome. outcome ≡ handled_by_sending content held) }
 {
-    match content {
-        52 => Ok(Outcome::KeepStateAndData(two_messages(alloc)?)),
-        53 => Ok(Outcome::NextState(1, held, message_and_others(alloc)?)),
-        54 => Ok(Outcome::KeepStateAndData(five_messages(alloc)?)),
-        55 => Ok(Outcome::KeepStateAndData(one(alloc, Action::Send(OTHER_MACHINE, 8))?)),
-        _ => Ok(Outcome::KeepStateAndData(Actions::new(alloc))),
-    }
+    let actions = match content {
+        52 => two_messages(alloc),
+        53 => return Ok(Outcome::NextState(1, held, message_and_others(alloc)?)),
+        54 => five_messages(alloc),
+        55 => one(alloc, Action::Send(OTHER_MACHINE, 8)),
+        _ => Ok(Actions::new(alloc)),
+    };
+    Ok(Outcome::KeepStateAndData(actions?))
 }
 
 /// What `handle` answers to the contents that update and cancel.
@@ -342,21 +367,21 @@ fn handle_updating(
 {
     let update = Action::Update(Timer::Named(5), 4);
     let actions = match content {
-        43 => one(alloc, update)?,
-        44 => two(alloc, set(Timer::Named(5), 20), update)?,
-        45 => two(alloc, update, set(Timer::Named(5), 20))?,
-        46 => one(alloc, Action::Cancel(Timer::Named(5)))?,
-        47 => one(alloc, set(Timer::Named(5), 10))?,
-        48 => one(alloc, Action::Update(Timer::Event, 4))?,
-        49 => one(alloc, Action::Update(Timer::State, 4))?,
+        43 => one(alloc, update),
+        44 => two(alloc, set(Timer::Named(5), 20), update),
+        45 => two(alloc, update, set(Timer::Named(5), 20)),
+        46 => one(alloc, Action::Cancel(Timer::Named(5))),
+        47 => one(alloc, set(Timer::Named(5), 10)),
+        48 => one(alloc, Action::Update(Timer::Event, 4)),
+        49 => one(alloc, Action::Update(Timer::State, 4)),
         50 => {
             let actions = one(alloc, Action::Update(Timer::State, 4))?;
             return Ok(Outcome::NextState(1, held, actions));
         }
-        51 => requests(alloc)?,
+        51 => requests(alloc),
         _ => return handle_sending(alloc, content, held),
     };
-    Ok(Outcome::KeepStateAndData(actions))
+    Ok(Outcome::KeepStateAndData(actions?))
 }
 
 /// What `handle` answers to the contents that reply.
@@ -407,26 +432,26 @@ fn handle_setting(
     ensures { IfOk result (λ outcome. outcome ≡ handled_by_setting content held) }
 {
     let actions = match content {
-        22 => two(alloc, set(Timer::State, 0), set(Timer::Event, 0))?,
-        23 => two(alloc, set(Timer::Event, 0), set(Timer::State, 0))?,
-        24 => one(alloc, Action::Set(Timer::Named(5), Time::Infinity, 0))?,
+        22 => two(alloc, set(Timer::State, 0), set(Timer::Event, 0)),
+        23 => two(alloc, set(Timer::Event, 0), set(Timer::State, 0)),
+        24 => one(alloc, Action::Set(Timer::Named(5), Time::Infinity, 0)),
         25 => two(
             alloc,
             set(Timer::Named(1), 0),
             Action::NextEvent(Kind::Internal, 26),
-        )?,
-        26 => one(alloc, set(Timer::Named(1), 5))?,
+        ),
+        26 => one(alloc, set(Timer::Named(1), 5)),
         27 => {
             let actions = one(alloc, set(Timer::State, 10))?;
             return Ok(Outcome::NextState(1, held, actions));
         }
-        28 => one(alloc, set(Timer::State, 5))?,
-        29 => one(alloc, set(Timer::Event, 5))?,
-        30 => one(alloc, Action::Set(Timer::Named(2), Time::After(0), 10))?,
-        31 => two(alloc, set(Timer::Named(1), 5), set(Timer::Named(1), 7))?,
+        28 => one(alloc, set(Timer::State, 5)),
+        29 => one(alloc, set(Timer::Event, 5)),
+        30 => one(alloc, Action::Set(Timer::Named(2), Time::After(0), 10)),
+        31 => two(alloc, set(Timer::Named(1), 5), set(Timer::Named(1), 7)),
         _ => return handle_entering(alloc, content, held),
     };
-    Ok(Outcome::KeepStateAndData(actions))
+    Ok(Outcome::KeepStateAndData(actions?))
 }
 
 /// Three timers are set, two of them for the same time.
@@ -445,23 +470,24 @@ fn handle_anywhere(
 ) -> Result<Outcome<u32, u32, u32>, AllocError>
     ensures { IfOk result (λ outcome. outcome ≡ handled_anywhere content held) }
 {
-    match content {
-        3 => Ok(Outcome::NextState(1, held, Actions::new(alloc))),
-        4 => Ok(Outcome::KeepState(9, Actions::new(alloc))),
-        5 => Ok(Outcome::KeepStateAndData(two(alloc, Action::Reply(TAG, 50), Action::Hibernate)?)),
-        6 => Ok(Outcome::KeepStateAndData(five(alloc)?)),
-        7 => Ok(Outcome::KeepStateAndData(inserts(alloc)?)),
-        8 => Ok(Outcome::KeepStateAndData(two(
+    let actions = match content {
+        3 => return Ok(Outcome::NextState(1, held, Actions::new(alloc))),
+        4 => return Ok(Outcome::KeepState(9, Actions::new(alloc))),
+        5 => two(alloc, Action::Reply(TAG, 50), Action::Hibernate),
+        6 => five(alloc),
+        7 => inserts(alloc),
+        8 => two(
             alloc,
             Action::NextEvent(Kind::Internal, 7),
             Action::NextEvent(Kind::Cast, 21),
-        )?)),
-        9 => Ok(Outcome::NextState(0, held, Actions::new(alloc))),
-        15 => Ok(Outcome::Stop(9, None)),
-        16 => Ok(Outcome::Stop(9, Some(8))),
-        17 => Ok(Outcome::StopAndReply(9, one(alloc, (TAG, 40))?, Some(8))),
-        _ => handle_setting(alloc, content, held),
-    }
+        ),
+        9 => return Ok(Outcome::NextState(0, held, Actions::new(alloc))),
+        15 => return Ok(Outcome::Stop(9, None)),
+        16 => return Ok(Outcome::Stop(9, Some(8))),
+        17 => return Ok(Outcome::StopAndReply(9, one(alloc, (TAG, 40))?, Some(8))),
+        _ => return handle_setting(alloc, content, held),
+    };
+    Ok(Outcome::KeepStateAndData(actions?))
 }
 
 /// What `handle` answers in the first state.
@@ -472,22 +498,18 @@ fn handle_at_first(
 ) -> Result<Outcome<u32, u32, u32>, AllocError>
     ensures { IfOk result (λ outcome. outcome ≡ handled_at_first content held) }
 {
-    match content {
-        10 => Ok(Outcome::KeepStateAndData(one(alloc, Action::Postpone(true))?)),
-        11 => Ok(Outcome::NextState(1, held, with_inserts(alloc, Action::Postpone(true))?)),
-        12 => Ok(Outcome::KeepStateAndData(with_inserts(alloc, Action::Postpone(true))?)),
-        13 => Ok(Outcome::KeepStateAndData(two(
-            alloc,
-            Action::Postpone(false),
-            Action::Postpone(true),
-        )?)),
-        14 => Ok(Outcome::KeepStateAndData(two(
-            alloc,
-            Action::Postpone(true),
-            Action::Postpone(false),
-        )?)),
-        _ => handle_anywhere(alloc, content, held),
-    }
+    let actions = match content {
+        10 => one(alloc, Action::Postpone(true)),
+        11 => {
+            let actions = with_inserts(alloc, Action::Postpone(true))?;
+            return Ok(Outcome::NextState(1, held, actions));
+        }
+        12 => with_inserts(alloc, Action::Postpone(true)),
+        13 => two(alloc, Action::Postpone(false), Action::Postpone(true)),
+        14 => two(alloc, Action::Postpone(true), Action::Postpone(false)),
+        _ => return handle_anywhere(alloc, content, held),
+    };
+    Ok(Outcome::KeepStateAndData(actions?))
 }
 
 /// The actions of the module 62's enter call.
@@ -509,9 +531,13 @@ fn entering(alloc: Global) -> Result<EnterActions<u32>, AllocError>
 fn five_entering(alloc: Global) -> Result<EnterActions<u32>, AllocError>
     ensures { IfOk result (λ actions. actions ≡ five_enter_actions) }
 {
-    let actions = two(alloc, EnterAction::Hibernate, EnterAction::Hibernate)?;
-    let actions = with(actions, EnterAction::Hibernate)?;
-    let actions = with(actions, EnterAction::Hibernate)?;
+    let actions = four(
+        alloc,
+        EnterAction::Hibernate,
+        EnterAction::Hibernate,
+        EnterAction::Hibernate,
+        EnterAction::Hibernate,
+    )?;
     with(actions, EnterAction::Hibernate)
 }
 
@@ -519,13 +545,13 @@ fn five_entering(alloc: Global) -> Result<EnterActions<u32>, AllocError>
 fn entering_of_each_kind(alloc: Global) -> Result<EnterActions<u32>, AllocError>
     ensures { IfOk result (λ actions. actions ≡ enter_actions_of_each_kind) }
 {
-    let actions = two(
+    let actions = four(
         alloc,
         EnterAction::Set(Timer::Named(2), Time::After(3), 0),
         EnterAction::Reply(THIRD, 63),
+        EnterAction::Hibernate,
+        EnterAction::Set(Timer::State, Time::After(20), 0),
     )?;
-    let actions = with(actions, EnterAction::Hibernate)?;
-    let actions = with(actions, EnterAction::Set(Timer::State, Time::After(20), 0))?;
     let actions = with(
         actions,
         EnterAction::Set(Timer::Named(2), Time::After(9), 0),
@@ -542,29 +568,21 @@ fn enter_changed(
 ) -> Result<EnterOutcome<u32, u32>, AllocError>
     ensures { IfOk result (λ outcome. outcome ≡ changed_by_table number old held) }
 {
-    match number {
+    let actions = match number {
         61 => {
             let data = if old == 0 { 31 } else { 32 };
-            Ok(EnterOutcome::KeepState(data, EnterActions::new(alloc)))
+            return Ok(EnterOutcome::KeepState(data, EnterActions::new(alloc)));
         }
-        71 => Ok(EnterOutcome::StopAndReply(4, one(alloc, (TAG, 61))?, Some(8))),
-        72 => Ok(EnterOutcome::Stop(4, None)),
-        73 => Ok(EnterOutcome::StopAndReply(4, replies(alloc)?, Some(8))),
-        66 => Ok(EnterOutcome::KeepStateAndData(entering_of_each_kind(alloc)?)),
-        67 => {
-            let actions = one(alloc, EnterAction::Update(Timer::Named(5), 4))?;
-            Ok(EnterOutcome::KeepStateAndData(actions))
-        }
-        68 => {
-            let actions = one(alloc, EnterAction::Cancel(Timer::Named(5)))?;
-            Ok(EnterOutcome::KeepStateAndData(actions))
-        }
-        65 => {
-            let actions = one(alloc, EnterAction::Reply(TAG, 62))?;
-            Ok(EnterOutcome::KeepStateAndData(actions))
-        }
-        _ => Ok(EnterOutcome::KeepStateAndData(EnterActions::new(alloc))),
-    }
+        71 => return Ok(EnterOutcome::StopAndReply(4, one(alloc, (TAG, 61))?, Some(8))),
+        72 => return Ok(EnterOutcome::Stop(4, None)),
+        73 => return Ok(EnterOutcome::StopAndReply(4, replies(alloc)?, Some(8))),
+        66 => entering_of_each_kind(alloc),
+        67 => one(alloc, EnterAction::Update(Timer::Named(5), 4)),
+        68 => one(alloc, EnterAction::Cancel(Timer::Named(5))),
+        65 => one(alloc, EnterAction::Reply(TAG, 62)),
+        _ => Ok(EnterActions::new(alloc)),
+    };
+    Ok(EnterOutcome::KeepStateAndData(actions?))
 }
 
 impl Module for Table {
@@ -587,33 +605,22 @@ impl Module for Table {
     ghost terminate_is = { λ table reason state held. held };
 
     fn init(&self, alloc: Global, arg: &u32) -> Result<Init<u32, u32, u32>, AllocError> {
-        match *arg {
-            0 => Ok(Init::Ok(0, 7, Actions::new(alloc))),
-            1 => Ok(Init::Ignore),
-            2 => Ok(Init::Ok(0, 7, five(alloc)?)),
-            3 => Ok(Init::Ok(0, 7, with_inserts(alloc, Action::Postpone(true))?)),
-            5 => Ok(Init::Ok(0, 7, one(alloc, set(Timer::Named(5), 5))?)),
-            6 => {
-                let latest = one(alloc, set(Timer::Named(1), 4_294_967_295))?;
-                Ok(Init::Ok(0, 7, latest))
-            }
-            7 => Ok(Init::Ok(0, 7, three(alloc)?)),
-            8 => {
-                let first = set(Timer::Named(1), 0);
-                Ok(Init::Ok(0, 7, with_inserts(alloc, first)?))
-            },
-            9 => Ok(Init::Ok(0, 7, of_each_kind(alloc)?)),
-            10 => {
-                let update = Action::Update(Timer::Named(5), 4);
-                Ok(Init::Ok(0, 7, one(alloc, update)?))
-            }
-            11 => {
-                let own = Action::Set(Timer::Named(5), Time::After(5), 43);
-                Ok(Init::Ok(0, 7, one(alloc, own)?))
-            }
-            12 => Ok(Init::Ok(0, 7, one(alloc, Action::Send(OTHER_MACHINE, 5))?)),
-            reason => Ok(Init::Stop(reason)),
-        }
+        let actions = match *arg {
+            0 => Ok(Actions::new(alloc)),
+            1 => return Ok(Init::Ignore),
+            2 => five(alloc),
+            3 => with_inserts(alloc, Action::Postpone(true)),
+            5 => one(alloc, set(Timer::Named(5), 5)),
+            6 => one(alloc, set(Timer::Named(1), 4_294_967_295)),
+            7 => three(alloc),
+            8 => with_inserts(alloc, set(Timer::Named(1), 0)),
+            9 => of_each_kind(alloc),
+            10 => one(alloc, Action::Update(Timer::Named(5), 4)),
+            11 => one(alloc, Action::Set(Timer::Named(5), Time::After(5), 43)),
+            12 => one(alloc, Action::Send(OTHER_MACHINE, 5)),
+            reason => return Ok(Init::Stop(reason)),
+        };
+        Ok(Init::Ok(0, 7, actions?))
     }
 
     fn handle(

@@ -1,5 +1,5 @@
 //! Turns one after another, until there is nothing to handle.
-use super::host::{Host, holds, same};
+use super::host::{Host, holds, is_count, same};
 use super::machine::{Machine, read_all};
 use super::row::Row;
 use super::row::Row::Tells;
@@ -77,7 +77,7 @@ type Turned = (u64, u64, u64, TurnsEnd, usize);
 fn both_turn<T: Machine>(rt: &Host<impl Abort>, machine: &mut T, other: &mut T, row: &Turned) {
     let (now, at_most, reported, end, waiting) = *row;
     made(rt, turned(rt, machine, other, now, at_most), reported, end);
-    same(rt, "so many wait", &machine.see().waiting, &waiting);
+    is_count(rt, "so many wait", machine.see().waiting, waiting);
 }
 
 /// Looks at a machine that has only begun, where no turn is made of it.
