@@ -1,10 +1,11 @@
 //! Tests of st_actions: what lists ask for, with memory and while an allocation is refused.
 mod counted;
 
-use super::host::{Host, got, holds, same};
+use super::host::{Host, got, holds, is_count, same};
 use st_actions::{Planned, join, plan, plan_enter};
 use st_events::{
-    Action, Actions, Asked, Decision, EnterAction, EnterActions, Kind, MachineId, Tag, Time, Timer,
+    Action, Actions, Asked, Decision, EnterAction, EnterActions, Insert, Kind, MachineId, Tag,
+    Time, Timer,
 };
 use std::alloc::Global;
 use std::process::Abort;
@@ -118,7 +119,7 @@ fn list(rt: &Host<impl Abort>, alloc: Global, letters: &[char]) -> Actions<u64> 
 
 /// Looks that a list has the actions that letters name, and no others.
 fn has(rt: &impl Abort, actions: &Actions<u64>, letters: &[char]) {
-    same(rt, "how many there are", &actions.len(), &letters.len());
+    is_count(rt, "how many there are", actions.len(), letters.len());
     for (index, letter) in letters.iter().enumerate() {
         let found = actions.get(index).expect(rt, "there are so many");
         holds(rt, "the action", is_action(found, index, *letter));
@@ -184,7 +185,7 @@ fn enter_list(rt: &Host<impl Abort>, alloc: Global, letters: &[char]) -> EnterAc
 
 /// Looks that a list has the enter call's actions that letters name, and no others.
 fn enter_has(rt: &impl Abort, actions: &EnterActions<u64>, letters: &[char]) {
-    same(rt, "how many there are", &actions.len(), &letters.len());
+    is_count(rt, "how many there are", actions.len(), letters.len());
     for (index, letter) in letters.iter().enumerate() {
         let found = actions.get(index).expect(rt, "there are so many");
         holds(rt, "the action", is_enter_action(found, index, *letter));
@@ -206,27 +207,51 @@ fn entered(rt: &Host<impl Abort>, alloc: Global, letters: &[char]) -> Planned<u6
     }
 }
 
+/// Looks that this reply is asked for.
+fn is_reply(rt: &impl Abort, found: &(Tag, u64), wanted: &(Tag, u64)) {
+    holds(rt, "the request", found.0 == wanted.0);
+    holds(rt, "its reply", found.1 == wanted.1);
+}
+
+/// Looks that this insert is asked for.
+fn is_insert(rt: &impl Abort, found: &Insert<u64>, wanted: &(Kind, u64)) {
+    holds(rt, "the kind", found.kind == wanted.0);
+    holds(rt, "its content", found.content == wanted.1);
+}
+
+/// Looks that this is asked of this timer.
+fn is_setting(rt: &impl Abort, found: &st_events::Setting<u64>, wanted: &(Timer, Decision, u64)) {
+    let (decision, content) = decided(&found.asked);
+    holds(rt, "the timer", found.timer == wanted.0);
+    holds(rt, "what is asked of it", decision == wanted.1);
+    holds(rt, "the content", content == wanted.2);
+}
+
+/// Looks that this is to be sent to this machine.
+fn is_send(rt: &impl Abort, found: &(MachineId, u64), wanted: &(MachineId, u64)) {
+    holds(rt, "the machine", found.0 == wanted.0);
+    holds(rt, "what is sent to it", found.1 == wanted.1);
+}
+
 /// Looks that two plans reply the same.
 fn reply_the_same(rt: &impl Abort, found: &Planned<u64>, wanted: &Planned<u64>) {
     let count = found.replies.len();
-    same(rt, "how many replies", &count, &wanted.replies.len());
+    is_count(rt, "how many replies", count, wanted.replies.len());
     for index in 0..count {
         let one = found.replies.get(index).expect(rt, "there are so many");
         let other = wanted.replies.get(index).expect(rt, "there are as many");
-        holds(rt, "the request", one.0 == other.0);
-        holds(rt, "its reply", one.1 == other.1);
+        is_reply(rt, one, other);
     }
 }
 
 /// Looks that two plans insert the same.
 fn insert_the_same(rt: &impl Abort, found: &Planned<u64>, wanted: &Planned<u64>) {
     let count = found.inserts.len();
-    same(rt, "how many inserts", &count, &wanted.inserts.len());
+    is_count(rt, "how many inserts", count, wanted.inserts.len());
     for index in 0..count {
         let one = found.inserts.get(index).expect(rt, "there are so many");
         let other = wanted.inserts.get(index).expect(rt, "there are as many");
-        holds(rt, "the kind", one.kind == other.kind);
-        holds(rt, "its content", one.content == other.content);
+        is_insert(rt, one, &(other.kind, other.content));
     }
 }
 
@@ -242,27 +267,23 @@ fn decided(asked: &Asked<u64>) -> (Decision, u64) {
 /// Looks that two plans ask the same of timers.
 fn set_the_same(rt: &impl Abort, found: &Planned<u64>, wanted: &Planned<u64>) {
     let count = found.requests.len();
-    same(rt, "how many settings", &count, &wanted.requests.len());
+    is_count(rt, "how many settings", count, wanted.requests.len());
     for index in 0..count {
         let one = found.requests.get(index).expect(rt, "there are so many");
         let other = wanted.requests.get(index).expect(rt, "there are as many");
-        let (decision, content) = decided(&one.asked);
-        let (wanted, held) = decided(&other.asked);
-        holds(rt, "the timer", one.timer == other.timer);
-        holds(rt, "what is asked of it", decision == wanted);
-        holds(rt, "the content", content == held);
+        let (decision, content) = decided(&other.asked);
+        is_setting(rt, one, &(other.timer, decision, content));
     }
 }
 
 /// Looks that two plans send the same.
 fn send_the_same(rt: &impl Abort, found: &Planned<u64>, wanted: &Planned<u64>) {
     let count = found.sends.len();
-    same(rt, "how much is sent", &count, &wanted.sends.len());
+    is_count(rt, "how much is sent", count, wanted.sends.len());
     for index in 0..count {
         let one = found.sends.get(index).expect(rt, "there is so much");
         let other = wanted.sends.get(index).expect(rt, "there is as much");
-        holds(rt, "the machine", one.0 == other.0);
-        holds(rt, "what is sent to it", one.1 == other.1);
+        is_send(rt, one, other);
     }
 }
 
@@ -342,58 +363,42 @@ const NOTHING: Wanted<'static> = Wanted {
 
 /// Looks that these replies are asked for, and no others.
 fn replies(rt: &impl Abort, planned: &Planned<u64>, wanted: &[(Tag, u64)]) {
-    same(
-        rt,
-        "how many replies",
-        &planned.replies.len(),
-        &wanted.len(),
-    );
-    for (index, (tag, content)) in wanted.iter().enumerate() {
+    is_count(rt, "how many replies", planned.replies.len(), wanted.len());
+    for (index, other) in wanted.iter().enumerate() {
         let reply = planned.replies.get(index).expect(rt, "there are so many");
-        holds(rt, "the request", reply.0 == *tag);
-        holds(rt, "its reply", reply.1 == *content);
+        is_reply(rt, reply, other);
     }
 }
 
 /// Looks that these inserts are asked for, and no others.
 fn inserts(rt: &impl Abort, planned: &Planned<u64>, wanted: &[(Kind, u64)]) {
-    same(
-        rt,
-        "how many inserts",
-        &planned.inserts.len(),
-        &wanted.len(),
-    );
-    for (index, (kind, content)) in wanted.iter().enumerate() {
+    is_count(rt, "how many inserts", planned.inserts.len(), wanted.len());
+    for (index, other) in wanted.iter().enumerate() {
         let insert = planned.inserts.get(index).expect(rt, "there are so many");
-        holds(rt, "the kind", insert.kind == *kind);
-        holds(rt, "its content", insert.content == *content);
+        is_insert(rt, insert, other);
     }
 }
 
 /// Looks that this is asked of these timers, and no more.
 fn settings(rt: &impl Abort, planned: &Planned<u64>, wanted: &[(Timer, Decision, u64)]) {
-    same(
+    is_count(
         rt,
         "how many settings",
-        &planned.requests.len(),
-        &wanted.len(),
+        planned.requests.len(),
+        wanted.len(),
     );
-    for (index, (timer, decision, content)) in wanted.iter().enumerate() {
+    for (index, other) in wanted.iter().enumerate() {
         let setting = planned.requests.get(index).expect(rt, "there are so many");
-        let (found, held) = decided(&setting.asked);
-        holds(rt, "the timer", setting.timer == *timer);
-        holds(rt, "what is asked of it", found == *decision);
-        holds(rt, "the content", held == *content);
+        is_setting(rt, setting, other);
     }
 }
 
 /// Looks that this is to be sent, and no more.
 fn sends(rt: &impl Abort, planned: &Planned<u64>, wanted: &[(MachineId, u64)]) {
-    same(rt, "how much is sent", &planned.sends.len(), &wanted.len());
-    for (index, (target, content)) in wanted.iter().enumerate() {
+    is_count(rt, "how much is sent", planned.sends.len(), wanted.len());
+    for (index, other) in wanted.iter().enumerate() {
         let send = planned.sends.get(index).expect(rt, "there is so much");
-        holds(rt, "the machine", send.0 == *target);
-        holds(rt, "what is sent to it", send.1 == *content);
+        is_send(rt, send, other);
     }
 }
 
@@ -412,11 +417,11 @@ fn asks(rt: &impl Abort, planned: &Planned<u64>, wanted: &Wanted) {
 
 /// Looks that the settings of these capital letters at these places are asked for, and no others.
 fn places(rt: &impl Abort, planned: &Planned<u64>, wanted: &[(char, u64)]) {
-    same(
+    is_count(
         rt,
         "how many settings",
-        &planned.requests.len(),
-        &wanted.len(),
+        planned.requests.len(),
+        wanted.len(),
     );
     for (index, (letter, place)) in wanted.iter().enumerate() {
         let setting = planned.requests.get(index).expect(rt, "there are so many");

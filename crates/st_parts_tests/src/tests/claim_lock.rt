@@ -3,7 +3,7 @@
 ghost use Rattle.std.specs.Prelude.{◌≡◌, ◌≤◌};
 ghost use Rattle.st_claim_lock.specs.Holders.{lock_id, lock_of, claim_of, Claims, HasNothingOut};
 
-use super::host::{Host, got, holds, same};
+use super::host::{Host, got, holds, is_number};
 use st_claim_lock::{ClaimLock, Claimed, Holder, Tie};
 use std::marker::Brand;
 use std::process::Abort;
@@ -109,11 +109,11 @@ fn two_threads_count_and_each_claims_what_it_reached(rt: HostRuntime) {
     let (mut first, reached) = one;
     holds(&rt, "it reached what it counted", reached >= 100);
     let count = count_now(&threads, &lock, &mut first, reached);
-    same(&rt, "what both counted", &count, &200);
+    is_number(&rt, "what both counted", count, 200);
     let (mut second, reached) = other;
     holds(&rt, "it reached what it counted", reached >= 100);
     let count = count_now(&threads, &lock, &mut second, reached);
-    same(&rt, "what both counted", &count, &200);
+    is_number(&rt, "what both counted", count, 200);
     rt.end();
 }
 
@@ -159,6 +159,6 @@ fn one_thread_waits_for_what_another_counts(rt: HostRuntime) {
         || wait_for(&threads, &lock, &counted, 3),
         || count_and_tell(&threads, &lock, &counted, holder, 3),
     );
-    same(&rt, "what was waited for", &count, &3);
+    is_number(&rt, "what was waited for", count, 3);
     rt.end();
 }

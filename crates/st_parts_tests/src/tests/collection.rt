@@ -3,7 +3,7 @@
 
 mod asked;
 
-use super::host::{Host, got, holds, same};
+use super::host::{Host, got, holds, is_count, same};
 use asked::{Asked, tag};
 use st_collection::{Collection, Refusal, Request, Tag};
 use std::process::Abort;
@@ -25,8 +25,8 @@ fn list(rt: &Host<impl Abort>, collection: &Letters) -> Vec<(Tag, char)> {
 /// The collection has the requests of these numbers, with these labels, in this order.
 fn shows(rt: &Host<impl Abort>, collection: &Letters, wanted: &[(u64, char)]) {
     let list = list(rt, collection);
-    same(rt, "how many are listed", &list.len(), &wanted.len());
-    same(rt, "how many there are", &collection.size(), &wanted.len());
+    is_count(rt, "how many are listed", list.len(), wanted.len());
+    is_count(rt, "how many there are", collection.size(), wanted.len());
     let is_empty = collection.is_empty() == wanted.is_empty();
     holds(rt, "none only of none", is_empty);
     for (shown, (number, label)) in list.iter().zip(wanted) {

@@ -4,7 +4,7 @@ mod crowd;
 mod rows;
 mod told;
 
-use super::host::{Host, holds, same};
+use super::host::{Host, holds, is_count};
 use crowd::{names_of_one_hash, names_of_one_kind};
 use rows::{
     A_FULL_DIRECTORY, A_MIDDLE_NAME_GOES, AN_ID_IS_GIVEN_ONCE, BY_SLOT, FRONT_IS_LAST,
@@ -22,7 +22,7 @@ fn an_id_is_given_once(rt: HostRuntime) {
     let mut directory = Directory::new(rt.alloc());
     holds(&rt, "none at first", directory.is_empty());
     tell_all(&rt, &mut directory, AN_ID_IS_GIVEN_ONCE.as_slice());
-    same(&rt, "how many there are", &directory.len(), &2);
+    is_count(&rt, "how many there are", directory.len(), 2);
     a_directory_is_in_order(&directory);
     a_gone_id_stays_gone(&directory);
     crosses_threads(&directory);
@@ -56,7 +56,7 @@ fn a_full_directory_takes_no_more(rt: HostRuntime) {
     let mut directory = Directory::new(rt.alloc());
     fill(&rt, &mut directory, MOST);
     tell_all(&rt, &mut directory, A_FULL_DIRECTORY.as_slice());
-    same(&rt, "how many there are", &directory.len(), &MOST);
+    is_count(&rt, "how many there are", directory.len(), MOST);
     rt.end();
 }
 
@@ -66,7 +66,7 @@ fn names_of_one_hash_are_found(rt: HostRuntime) {
     let rt = Host::with_memory(rt);
     let mut directory = Directory::new(rt.alloc());
     names_of_one_hash(&rt, &mut directory, MOST);
-    same(&rt, "how many there are", &directory.len(), &MOST);
+    is_count(&rt, "how many there are", directory.len(), MOST);
     rt.end_with_memory();
 }
 
@@ -76,7 +76,7 @@ fn a_crowd_of_names_stays_in_order(rt: HostRuntime) {
     let mut directory = Directory::new(rt.alloc());
     let found = names_of_one_kind(&rt, &mut directory);
     holds(&rt, "they are a crowd", found > 300);
-    same(&rt, "how many there are", &directory.len(), &found);
+    is_count(&rt, "how many there are", directory.len(), found);
     names_rise(&rt, &directory);
     rt.end();
 }

@@ -1,7 +1,7 @@
 //! Tests of st_events: each call once with memory, and lists while an allocation is refused.
 ghost use Rattle.std.specs.Prelude.{◌≡◌, [], max};
 
-use super::host::{Host, got, holds, same};
+use super::host::{Host, got, holds, is_count, is_number, same};
 use st_events::{
     Action, Actions, MachineId, PlainList, PlainText, Refusal, Refused, SmallList,
     SmallListBuilder, Tag,
@@ -12,6 +12,26 @@ use std::process::Abort;
 
 const MACHINE: MachineId = MachineId { slot: 2, serial: 5 };
 
+/// The same for texts.
+fn is_text(rt: &impl Abort, word: &str, found: &str, wanted: &str) {
+    same(rt, word, &found, &wanted);
+}
+
+/// The same for numbers in a row.
+fn are(rt: &impl Abort, word: &str, found: &[u64], wanted: &[u64]) {
+    same(rt, word, &found, &wanted);
+}
+
+/// The same for a number that has to be there.
+fn is_there(rt: &impl Abort, word: &str, found: Option<u64>, wanted: u64) {
+    same(rt, word, &found, &Some(wanted));
+}
+
+/// The same for refusals.
+fn is_refusal(rt: &impl Abort, word: &str, found: Refusal, wanted: Refusal) {
+    same(rt, word, &found, &wanted);
+}
+
 /// A vector of two numbers. Where memory was refused, it is made again.
 fn pair(rt: &Host<impl Abort>, alloc: Global) -> Vec<u64> {
     if let Ok(numbers) = [8, 9].to_vec(alloc) {
@@ -21,15 +41,19 @@ fn pair(rt: &Host<impl Abort>, alloc: Global) -> Vec<u64> {
     got(rt, "one allocation alone is refused", [8, 9].to_vec(alloc))
 }
 
-/// Looks at a text that is written. Where memory was refused, it is written again.
-fn is_written(rt: &Host<impl Abort>, alloc: Global, value: &impl Display, wanted: &str) {
-    let mut text = format!(in alloc; "{value}");
-    if text.is_err() {
-        rt.retry();
-        text = format!(in alloc; "{value}");
+/// A value that is written. Where memory was refused, it is written again.
+fn written(rt: &Host<impl Abort>, alloc: Global, value: &impl Display) -> String {
+    if let Ok(text) = format!(in alloc; "{value}") {
+        return text;
     }
-    let text = got(rt, "one allocation alone is refused", text);
-    same(rt, "the text", &text.as_str(), &wanted);
+    rt.retry();
+    let again = format!(in alloc; "{value}");
+    got(rt, "one allocation alone is refused", again)
+}
+
+/// Looks at a text that is written.
+fn is_written(rt: &Host<impl Abort>, alloc: Global, value: &impl Display, wanted: &str) {
+    is_text(rt, "the text", written(rt, alloc, value).as_str(), wanted);
 }
 
 /// Looks at what a list is shown as. Where memory was refused, it is written again.
@@ -40,7 +64,7 @@ fn is_shown(rt: &Host<impl Abort>, alloc: Global, list: &impl Debug, wanted: &st
         text = format!(in alloc; "{list:?}");
     }
     let text = got(rt, "one allocation alone is refused", text);
-    same(rt, "what is shown", &text.as_str(), &wanted);
+    is_text(rt, "what is shown", text.as_str(), wanted);
 }
 
 /// A list in the making, reserved for so many numbers. Where memory was refused, it is asked for again.
@@ -78,7 +102,7 @@ fn push_inline(rt: &impl Abort, list: &mut SmallList<u64>, number: u64) {
 
 /// Looks that a list has these elements, and no others.
 fn has(rt: &impl Abort, list: &SmallList<u64>, elements: &[u64]) {
-    same(rt, "how many there are", &list.len(), &elements.len());
+    is_count(rt, "how many there are", list.len(), elements.len());
     let is_empty = list.is_empty() == elements.is_empty();
     holds(rt, "none only of none", is_empty);
     for (index, element) in elements.iter().enumerate() {
@@ -93,14 +117,14 @@ fn gives(rt: &impl Abort, list: SmallList<u64>, elements: &[u64]) {
     let mut places = list.into_places();
     let mut left = places.take_each();
     for element in elements {
-        same(rt, "what is taken", &left.next(), &Some(*element));
+        is_there(rt, "what is taken", left.next(), *element);
     }
     holds(rt, "none is left", left.next() == None);
 }
 
 /// Looks that a list has the replies to the requests 0, 1, .., and no others.
 fn has_replies(rt: &impl Abort, actions: &Actions<u64>, count: usize) {
-    same(rt, "how many there are", &actions.len(), &count);
+    is_count(rt, "how many there are", actions.len(), count);
     for (index, request) in (0..count).zip(0..6) {
         let action = actions.get(index).expect(rt, "there are so many");
         holds(rt, "the reply to its request", is_reply(action, request));
@@ -118,11 +142,11 @@ fn a_list_answers(rt: &Host<impl Abort>, alloc: Global) {
     has(rt, &short, &[6, 4, 2]);
     short.reverse();
     has(rt, &short, &[2, 4, 6]);
-    same(rt, "the last", &short.pop(), &Some(6));
+    is_there(rt, "the last", short.pop(), 6);
     has(rt, &short, &[2, 4]);
     is_shown(rt, alloc, &short, "[2, 4]");
     push_inline(rt, &mut short, 8);
-    same(rt, "the second", &short.replace(1, 5), &Some(4));
+    is_there(rt, "the second", short.replace(1, 5), 4);
     holds(rt, "none behind the last", short.replace(3, 7) == None);
     gives(rt, short, &[2, 5, 8]);
 }
@@ -136,28 +160,28 @@ fn a_builder_answers(rt: &Host<impl Abort>, alloc: Global) {
     has(rt, &pair_of_numbers, &[3, 1]);
     // The second is let go with its place.
     let first = pair_of_numbers.into_places().take_each().next();
-    same(rt, "the first", &first, &Some(3));
+    is_there(rt, "the first", first, 3);
 }
 
 /// A vector becomes a plain list, and is it again.
 fn a_plain_list_answers(rt: &Host<impl Abort>, alloc: Global) {
     let none: PlainList<u64> = PlainList::new(alloc);
-    same(rt, "none", &none.as_slice(), &[].as_slice());
+    are(rt, "none", none.as_slice(), [].as_slice());
     let two = PlainList::from(pair(rt, alloc));
-    same(rt, "two", &two.as_slice(), &[8, 9].as_slice());
+    are(rt, "two", two.as_slice(), [8, 9].as_slice());
     let other = PlainList::from(pair(rt, alloc));
     holds(rt, "lists of the same are equal", two == other);
     holds(rt, "others are not", two != none);
     is_shown(rt, alloc, &two, "[8, 9]");
-    same(rt, "two", &two.into_vec().as_slice(), &[8, 9].as_slice());
+    are(rt, "two", two.into_vec().as_slice(), [8, 9].as_slice());
 }
 
 /// Adds a number. A push that finds no memory leaves the list, and is made again.
 fn push_plain(rt: &Host<impl Abort>, list: &mut PlainList<u64>, number: u64) {
     let count = list.len();
     if let Err(failed) = list.push(number) {
-        same(rt, "it comes back", &failed.value, &number);
-        same(rt, "how many there are", &list.len(), &count);
+        is_number(rt, "it comes back", failed.value, number);
+        is_count(rt, "how many there are", list.len(), count);
         rt.retry();
         let again = list.push(failed.value);
         got(rt, "one allocation alone is refused", again);
@@ -179,8 +203,8 @@ fn copied(rt: &Host<impl Abort>, alloc: Global) -> PlainList<u64> {
 fn a_plain_list_grows(rt: &Host<impl Abort>, alloc: Global) {
     let mut list = copied(rt, alloc);
     push_plain(rt, &mut list, 7);
-    same(rt, "three", &list.as_slice(), &[8, 9, 7].as_slice());
-    same(rt, "how many", &list.len(), &3);
+    are(rt, "three", list.as_slice(), [8, 9, 7].as_slice());
+    is_count(rt, "how many", list.len(), 3);
     same(rt, "the last", &list.get(2), &Some(&7));
     holds(rt, "none behind the last", list.get(3) == None);
 }
@@ -198,9 +222,9 @@ fn copied_text(rt: &Host<impl Abort>, alloc: Global) -> PlainText {
 /// A text is copied, becomes a string, and is a text again.
 fn a_plain_text_answers(rt: &Host<impl Abort>, alloc: Global) {
     let text = copied_text(rt, alloc);
-    same(rt, "the text", &text.as_str(), &"door");
+    is_text(rt, "the text", text.as_str(), "door");
     let again = PlainText::from(text.into_string());
-    same(rt, "the text again", &again.as_str(), &"door");
+    is_text(rt, "the text again", again.as_str(), "door");
 }
 
 #[test]
@@ -217,19 +241,18 @@ fn each_call_answers(rt: HostRuntime) {
 /// Refusals come of a want of memory, and of a refused call.
 fn refusals_come_of_others(rt: &impl Abort) {
     let of_memory = Refusal::from(AllocError);
-    same(rt, "no memory", &of_memory, &Refusal::NoMemory);
+    is_refusal(rt, "no memory", of_memory, Refusal::NoMemory);
     let of_a_push = Refusal::from(AllocFailed { value: 7 });
-    same(rt, "no memory for it", &of_a_push, &Refusal::NoMemory);
+    is_refusal(rt, "no memory for it", of_a_push, Refusal::NoMemory);
     let refused = Refused::new(Refusal::Moment, 7);
-    same(rt, "why", &refused.refusal, &Refusal::Moment);
+    is_refusal(rt, "why", refused.refusal, Refusal::Moment);
     same(rt, "what comes back", &refused.value, &7);
-    same(rt, "why alone", &Refusal::from(refused), &Refusal::Moment);
+    is_refusal(rt, "why alone", Refusal::from(refused), Refusal::Moment);
 }
 
 #[test]
 fn refusals_have_numbers_and_texts(rt: HostRuntime) {
-    let rt = Host::new(rt);
-    for (refusal, number, text) in [
+    static ROWS: [(Refusal, u8, &str); 12] = [
         (Refusal::NoMemory, 1, "no memory"),
         (Refusal::Stopped(9), 2, "stopped"),
         (Refusal::Exhausted, 3, "too few numbers left"),
@@ -242,9 +265,11 @@ fn refusals_have_numbers_and_texts(rt: HostRuntime) {
         (Refusal::NotStopped, 10, "not stopped"),
         (Refusal::Full, 11, "table full"),
         (Refusal::BadName, 12, "bad name"),
-    ] {
-        same(&rt, "its number", &refusal.number(), &number);
-        is_written(&rt, rt.alloc(), &refusal, text);
+    ];
+    let rt = Host::new(rt);
+    for (refusal, number, text) in &ROWS {
+        same(&rt, "its number", &refusal.number(), number);
+        is_written(&rt, rt.alloc(), refusal, text);
     }
     refusals_come_of_others(&rt);
     let tag = Tag::new(MACHINE, 4);

@@ -101,6 +101,16 @@ pub fn same<T: PartialEq + Debug>(rt: &impl Abort, word: &str, found: &T, wanted
     assert!(rt; found == wanted, "{word}: {found:?} in place of {wanted:?}");
 }
 
+/// The same for numbers.
+pub fn is_number(rt: &impl Abort, word: &str, found: u64, wanted: u64) {
+    same(rt, word, &found, &wanted);
+}
+
+/// The same for how many there are.
+pub fn is_count(rt: &impl Abort, word: &str, found: usize, wanted: usize) {
+    same(rt, word, &found, &wanted);
+}
+
 /// What a call gave. Ends the test with this word where it was refused.
 pub fn got<T: Drop, E: Drop>(rt: &impl Abort, word: &str, outcome: Result<T, E>) -> T
     ensures { outcome ≡ Ok result }

@@ -5,7 +5,7 @@ ghost use Rattle.std.specs.Prelude.{codes, if◌then◌else◌};
 pub mod rows;
 
 use super::host::{Host, got, same};
-use rows::{Row, Turn, journal};
+use rows::{DoorEntry, Row, Turn, journal};
 use st_cell::Entry;
 use st_core::Done;
 use st_events::{Kind, MachineId, Tag, Timer};
@@ -67,18 +67,27 @@ fn text_of(rt: &Host<impl Abort>, alloc: Global, journal: &Journal<bool, char>) 
     got(rt, "one allocation alone is refused", again)
 }
 
-/// The lines of a journal's trace, made one by one and put together.
-fn joined(alloc: Global, journal: &Journal<bool, char>) -> Result<Vec<u8>, AllocError> {
-    let entries = journal.entries.as_slice();
-    let mut text = machine_line(alloc, journal.id, journal.label.as_str())?;
-    let mut latest = journal.from;
+/// Puts the line of each entry behind a text, and behind them the line of what they come to.
+fn push_lines(
+    alloc: Global,
+    text: &mut String,
+    from: u64,
+    entries: &[DoorEntry],
+) -> Result<(), AllocError> {
+    let mut latest = from;
     for entry in entries {
         latest = latest_after(latest, &entry.command);
         let line = entry_line(alloc, &Names, latest, entry)?;
         text.push_str(line.as_str())?;
     }
     let line = summary_line(alloc, totals_in(entries))?;
-    text.push_str(line.as_str())?;
+    text.push_str(line.as_str())
+}
+
+/// The lines of a journal's trace, made one by one and put together.
+fn joined(alloc: Global, journal: &Journal<bool, char>) -> Result<Vec<u8>, AllocError> {
+    let mut text = machine_line(alloc, journal.id, journal.label.as_str())?;
+    push_lines(alloc, &mut text, journal.from, journal.entries.as_slice())?;
     Ok(text.into_bytes())
 }
 
@@ -253,17 +262,18 @@ summary posts 1 turns 1 finished 1 put_off 0
 
 #[test]
 fn a_delivered_message_says_from_whom_it_comes(rt: HostRuntime) {
+    static ROWS: [(u64, Row); 4] = [
+        (1, Row::Delivers(NEAR, 1, 1)),
+        (2, Row::Delivers(FAR, 18_446_744_073_709_551_615, 2)),
+        (3, Row::Takes(1)),
+        (4, Row::Posts(1, Entry::Info, 4)),
+    ];
     let rt = Host::new(rt);
     prints(
         &rt,
         rt.alloc(),
         0,
-        &[
-            (1, Row::Delivers(NEAR, 1, 1)),
-            (2, Row::Delivers(FAR, 18_446_744_073_709_551_615, 2)),
-            (3, Row::Takes(1)),
-            (4, Row::Posts(1, Entry::Info, 4)),
-        ],
+        &ROWS,
         Totals {
             posts: 3,
             turns: 0,

@@ -1,6 +1,6 @@
 //! How much a list asks for, and each kind of action taken out of it.
-use super::super::host::{Host, got, holds, same};
-use super::{FAR, FIRST, NEAR, SECOND, decided, has, list};
+use super::super::host::{Host, got, holds, is_count, is_number, same};
+use super::{FAR, FIRST, NEAR, SECOND, has, is_insert, is_reply, is_send, is_setting, list};
 use st_actions::{Counts, count, count_last, take_insert, take_reply, take_send, take_setting};
 use st_events::{Actions, Decision, Kind, MachineId, Tag, Time, Timer};
 use std::alloc::Global;
@@ -27,12 +27,12 @@ fn counted(
 
 /// Looks that so much was counted.
 fn counts_are(rt: &impl Abort, counts: Counts, wanted: Counts) {
-    same(rt, "how many replies", &counts.replies, &wanted.replies);
-    same(rt, "how many inserts", &counts.inserts, &wanted.inserts);
-    same(rt, "how many settings", &counts.settings, &wanted.settings);
-    same(rt, "how many updates", &counts.updates, &wanted.updates);
-    same(rt, "how much is sent", &counts.sends, &wanted.sends);
-    same(rt, "how many numbers", &counts.numbers, &wanted.numbers);
+    is_count(rt, "how many replies", counts.replies, wanted.replies);
+    is_count(rt, "how many inserts", counts.inserts, wanted.inserts);
+    is_count(rt, "how many settings", counts.settings, wanted.settings);
+    is_count(rt, "how many updates", counts.updates, wanted.updates);
+    is_count(rt, "how much is sent", counts.sends, wanted.sends);
+    is_number(rt, "how many numbers", counts.numbers, wanted.numbers);
     same(rt, "the last postpone", &counts.postpone, &wanted.postpone);
 }
 
@@ -166,14 +166,13 @@ fn cancels_updates_and_sends_are_counted(rt: HostRuntime) {
 fn replies_leave(rt: &impl Abort, actions: &mut Actions<u64>, wanted: &[(Tag, u64)]) {
     let mut count = 0usize;
     for index in 0..actions.len() {
-        if let Some((tag, content)) = take_reply(actions, index) {
-            let (other, reply) = wanted.get(count).expect(rt, "no others are taken");
-            holds(rt, "the request", tag == *other);
-            holds(rt, "its reply", content == *reply);
+        if let Some(reply) = take_reply(actions, index) {
+            let other = wanted.get(count).expect(rt, "no others are taken");
+            is_reply(rt, &reply, other);
             count = count.saturating_add(1);
         }
     }
-    same(rt, "how many replies", &count, &wanted.len());
+    is_count(rt, "how many replies", count, wanted.len());
 }
 
 /// Looks that these events to be inserted are taken out of a list, the last one first, and no others.
@@ -183,13 +182,12 @@ fn inserts_leave(rt: &impl Abort, actions: &mut Actions<u64>, wanted: &[(Kind, u
     while index > 0 {
         index -= 1;
         if let Some(insert) = take_insert(actions, index) {
-            let (kind, content) = wanted.get(count).expect(rt, "no others are taken");
-            holds(rt, "the kind", insert.kind == *kind);
-            holds(rt, "its content", insert.content == *content);
+            let other = wanted.get(count).expect(rt, "no others are taken");
+            is_insert(rt, &insert, other);
             count = count.saturating_add(1);
         }
     }
-    same(rt, "how many inserts", &count, &wanted.len());
+    is_count(rt, "how many inserts", count, wanted.len());
 }
 
 /// Looks that these settings are taken out of a list, in their order, and no others.
@@ -197,29 +195,25 @@ fn settings_leave(rt: &impl Abort, actions: &mut Actions<u64>, wanted: &[(Timer,
     let mut count = 0usize;
     for index in 0..actions.len() {
         if let Some(setting) = take_setting(actions, index) {
-            let (timer, decision, content) = wanted.get(count).expect(rt, "no others are taken");
-            let (found, held) = decided(&setting.asked);
-            holds(rt, "the timer", setting.timer == *timer);
-            holds(rt, "what is asked of it", found == *decision);
-            holds(rt, "the content", held == *content);
+            let other = wanted.get(count).expect(rt, "no others are taken");
+            is_setting(rt, &setting, other);
             count = count.saturating_add(1);
         }
     }
-    same(rt, "how many settings", &count, &wanted.len());
+    is_count(rt, "how many settings", count, wanted.len());
 }
 
 /// Looks that this is taken out of a list, to be sent in its order, and no more.
 fn sends_leave(rt: &impl Abort, actions: &mut Actions<u64>, wanted: &[(MachineId, u64)]) {
     let mut count = 0usize;
     for index in 0..actions.len() {
-        if let Some((target, content)) = take_send(actions, index) {
-            let (other, sent) = wanted.get(count).expect(rt, "no more is taken");
-            holds(rt, "the machine", target == *other);
-            holds(rt, "what is sent to it", content == *sent);
+        if let Some(send) = take_send(actions, index) {
+            let other = wanted.get(count).expect(rt, "no more is taken");
+            is_send(rt, &send, other);
             count = count.saturating_add(1);
         }
     }
-    same(rt, "how much is sent", &count, &wanted.len());
+    is_count(rt, "how much is sent", count, wanted.len());
 }
 
 #[test]

@@ -42,7 +42,7 @@ const LONGEST: &str = "0123456789abcdef0123456789abcdef0123456789abcdef012345678
 const TOO_LONG: &str = "0123456789abcdef0123456789abcdef0123456789abcdef0123456789abcdef0";
 
 /// A name goes with its value, and its id names nothing for good.
-pub const AN_ID_IS_GIVEN_ONCE: [Row; 16] = [
+pub static AN_ID_IS_GIVEN_ONCE: [Row; 16] = [
     (Call::Put(Some("front"), 7), Answer::Id(FIRST)),
     (
         Call::Put(Some("front"), 8),
@@ -68,7 +68,7 @@ pub const AN_ID_IS_GIVEN_ONCE: [Row; 16] = [
 ];
 
 /// A name has 1 to 64 bytes.
-pub const NAMES_HAVE_1_TO_64_BYTES: [Row; 6] = [
+pub static NAMES_HAVE_1_TO_64_BYTES: [Row; 6] = [
     (Call::Put(Some(""), 7), Answer::Refused(Refusal::BadName)),
     (Call::Put(Some("b"), 8), Answer::Id(FIRST)),
     (Call::Put(Some(LONGEST), 9), Answer::Id(SECOND)),
@@ -84,7 +84,7 @@ pub const NAMES_HAVE_1_TO_64_BYTES: [Row; 6] = [
 ];
 
 /// Three names are registered, the middle one goes, and another comes in.
-pub const A_MIDDLE_NAME_GOES: [Row; 5] = [
+pub static A_MIDDLE_NAME_GOES: [Row; 5] = [
     (Call::Put(Some("front"), 7), Answer::Id(FIRST)),
     (Call::Put(Some("side"), 8), Answer::Id(SECOND)),
     (Call::Put(Some("back"), 9), Answer::Id(THIRD)),
@@ -93,30 +93,30 @@ pub const A_MIDDLE_NAME_GOES: [Row; 5] = [
 ];
 
 /// The names then, in order of registration.
-pub const OTHERS_IN_ORDER: [(&str, MachineId); 3] = [
+pub static OTHERS_IN_ORDER: [(&str, MachineId); 3] = [
     ("front", FIRST),
     ("back", THIRD),
     ("cellar", SECOND_AGAIN),
 ];
 
 /// The ids then, by rising slot.
-pub const BY_SLOT: [MachineId; 3] = [FIRST, SECOND_AGAIN, THIRD];
+pub static BY_SLOT: [MachineId; 3] = [FIRST, SECOND_AGAIN, THIRD];
 
 /// The first name goes, and is registered again for another value.
-pub const THE_FIRST_NAME_GOES: [Row; 2] = [
+pub static THE_FIRST_NAME_GOES: [Row; 2] = [
     (Call::Unregister("front"), Answer::Id(FIRST)),
     (Call::Put(Some("front"), 11), Answer::Id(FOURTH)),
 ];
 
 /// The names then, in order of registration.
-pub const FRONT_IS_LAST: [(&str, MachineId); 3] = [
+pub static FRONT_IS_LAST: [(&str, MachineId); 3] = [
     ("back", THIRD),
     ("cellar", SECOND_AGAIN),
     ("front", FOURTH),
 ];
 
 /// What a full directory answers, and that there is a place again once a value goes.
-pub const A_FULL_DIRECTORY: [Row; 5] = [
+pub static A_FULL_DIRECTORY: [Row; 5] = [
     (Call::Put(None, 8), Answer::Refused(Refusal::Full)),
     (Call::Put(Some("front"), 8), Answer::Refused(Refusal::Full)),
     (Call::Put(Some(""), 8), Answer::Refused(Refusal::BadName)),

@@ -1,6 +1,6 @@
 //! Calls of a directory: where one finds no memory, the directory is looked at, and the call is made again.
 use super::rows::{Answer, Call, Row};
-use crate::tests::host::{Host, holds, same};
+use crate::tests::host::{Host, holds, is_count, same};
 use st_directory::{
     Directory, MachineId, Refusal, a_new_id_was_no_id_before, an_inserted_value_is_found,
 };
@@ -133,12 +133,7 @@ pub fn fill(rt: &Host<impl Abort>, directory: &mut Directory<u32>, count: usize)
 
 /// Looks at the names, in order of registration.
 pub fn names_are(rt: &Host<impl Abort>, directory: &Directory<u32>, wanted: &[(&str, MachineId)]) {
-    same(
-        rt,
-        "how many names",
-        &directory.names().len(),
-        &wanted.len(),
-    );
+    is_count(rt, "how many names", directory.names().len(), wanted.len());
     for ((name, id), (wanted_name, wanted_id)) in directory.names().zip(wanted) {
         same(rt, "the name", &name.as_str(), wanted_name);
         same(rt, "its id", id, wanted_id);

@@ -72,8 +72,8 @@ fn posted(
     }
 }
 
-/// What the turn did that opened the door.
-fn opened(alloc: Global) -> Result<Report<bool>, AllocError> {
+/// The calls of the turn that opened the door.
+fn opened_calls(alloc: Global) -> Result<OneInline<Call<bool>>, AllocError> {
     let mut calls = OneInline::of(
         alloc,
         Call::Handle {
@@ -86,25 +86,40 @@ fn opened(alloc: Global) -> Result<Report<bool>, AllocError> {
         old: false,
         state: true,
     })?;
+    Ok(calls)
+}
+
+/// The requests that it answered, and the events that it inserted.
+fn opened_events(alloc: Global) -> Result<(PlainList<Tag>, PlainList<u64>), AllocError> {
+    let replied = PlainList::copied(alloc, &[tag(3)])?;
+    let inserted = PlainList::copied(alloc, &[4, 5])?;
+    Ok((replied, inserted))
+}
+
+/// What the turn did that opened the door.
+fn opened(alloc: Global) -> Result<Report<bool>, AllocError> {
     let set = [
         (Timer::State, Decision::Set(Time::After(10_000))),
         (Timer::Named(7), Decision::Cancel),
     ];
+    let set = PlainList::copied(alloc, &set)?;
+    let (replied, inserted) = opened_events(alloc)?;
+    let calls = opened_calls(alloc)?;
     Ok(Report {
         event: Some(3),
         done: Done::Finished,
         calls,
         before: false,
         after: true,
-        replied: PlainList::copied(alloc, &[tag(3)])?,
-        inserted: PlainList::copied(alloc, &[4, 5])?,
-        set: PlainList::copied(alloc, &set)?,
+        replied,
+        inserted,
+        set,
         sent: PlainList::new(alloc),
     })
 }
 
-/// What the turn did that ended the machine.
-fn ended(alloc: Global) -> Result<Report<bool>, AllocError> {
+/// The calls of the turn that ended the machine.
+fn ended_calls(alloc: Global) -> Result<OneInline<Call<bool>>, AllocError> {
     let mut calls = OneInline::of(
         alloc,
         Call::Handle {
@@ -118,6 +133,13 @@ fn ended(alloc: Global) -> Result<Report<bool>, AllocError> {
         state: true,
         word: 4,
     })?;
+    Ok(calls)
+}
+
+/// What the turn did that ended the machine.
+fn ended(alloc: Global) -> Result<Report<bool>, AllocError> {
+    let sent = PlainList::copied(alloc, &[2])?;
+    let calls = ended_calls(alloc)?;
     Ok(Report {
         event: Some(5),
         done: Done::Ended(9, 4),
@@ -127,7 +149,7 @@ fn ended(alloc: Global) -> Result<Report<bool>, AllocError> {
         replied: PlainList::new(alloc),
         inserted: PlainList::new(alloc),
         set: PlainList::new(alloc),
-        sent: PlainList::copied(alloc, &[2])?,
+        sent,
     })
 }
 

@@ -15,7 +15,7 @@ const MACHINE: MachineId = MachineId { slot: 0, serial: 1 };
 pub type DoorEntry = JournalEntry<bool, char>;
 
 /// What a turn did.
-#[derive(Clone, Copy, Debug)]
+#[derive(Clone, Copy)]
 pub struct Turn {
     pub now: u64,
     pub event: u64,
@@ -30,7 +30,7 @@ pub struct Turn {
 }
 
 /// What an entry tells.
-#[derive(Clone, Copy, Debug)]
+#[derive(Clone, Copy)]
 pub enum Row {
     /// A port posts an event, which gets a number.
     Posts(u64, Entry, u64),
@@ -77,6 +77,20 @@ fn posted(number: u64, source: Source, how: Entry, event: u64) -> DoorEntry {
     }
 }
 
+/// What a turn replied to and sent.
+fn outward(alloc: Global, turn: Turn) -> Result<(Vec<Tag>, Vec<u64>), AllocError> {
+    let replied = vec![in alloc; tag(0); turn.replied]?;
+    let sent = vec![in alloc; 0; turn.sent]?;
+    Ok((replied, sent))
+}
+
+/// What a turn inserted, and what it asked of timers.
+fn inward(alloc: Global, turn: Turn) -> Result<(Vec<u64>, Vec<(Timer, Decision)>), AllocError> {
+    let inserted = vec![in alloc; 0; turn.inserted]?;
+    let set = vec![in alloc; (Timer::State, Decision::Set(Time::Infinity)); turn.set]?;
+    Ok((inserted, set))
+}
+
 /// The report of a turn.
 fn report(alloc: Global, turn: Turn) -> Result<Report<bool>, AllocError> {
     let call = Call::Handle {
@@ -84,10 +98,8 @@ fn report(alloc: Global, turn: Turn) -> Result<Report<bool>, AllocError> {
         kind: turn.kind,
         state: turn.before,
     };
-    let replied = vec![in alloc; tag(0); turn.replied]?;
-    let inserted = vec![in alloc; 0; turn.inserted]?;
-    let set = vec![in alloc; (Timer::State, Decision::Set(Time::Infinity)); turn.set]?;
-    let sent = vec![in alloc; 0; turn.sent]?;
+    let (replied, sent) = outward(alloc, turn)?;
+    let (inserted, set) = inward(alloc, turn)?;
     Ok(Report {
         event: Some(turn.event),
         done: turn.done,
@@ -160,6 +172,15 @@ fn entry(alloc: Global, number: u64, row: Row) -> Result<DoorEntry, AllocError> 
     }
 }
 
+/// The entries of the rows.
+fn entries(alloc: Global, rows: &[(u64, Row)]) -> Result<Vec<DoorEntry>, AllocError> {
+    let mut entries = Vec::new(alloc);
+    for (number, row) in rows {
+        entries.push(entry(alloc, *number, *row)?)?;
+    }
+    Ok(entries)
+}
+
 /// The journal of the rows, each with its entry's number, by the latest moment before them.
 pub fn journal(
     alloc: Global,
@@ -167,10 +188,7 @@ pub fn journal(
     rows: &[(u64, Row)],
 ) -> Result<Journal<bool, char>, AllocError> {
     let label = String::from_str(alloc, "front")?;
-    let mut entries = Vec::new(alloc);
-    for (number, row) in rows {
-        entries.push(entry(alloc, *number, *row)?)?;
-    }
+    let entries = entries(alloc, rows)?;
     Ok(Journal {
         id: MACHINE,
         label,
