@@ -1,4 +1,4 @@
-use Rattle.std.proofs.Common.{arith, ap}
+use Rattle.std.proofs.Common.{arith, ap, refl}
 use Rattle.std.specs.Prelude.{not}
 use Rattle.st_actions.proofs.PlanLemmas.{joined_whole, joined_is}
 use Rattle.st_actions.proofs.JoinLemmas.{reserved_behind, both_moved, no_more_remain, remaining_moved}
@@ -96,3 +96,55 @@ returns-in_default-reserved_for-3-clause-inline g c = λ short. c.in_default-res
 pub returns-in_default-timers_of-clause-inline : goal.returns-in_default-timers_of-clause-inline
 returns-in_default-timers_of-clause-inline g c =
     λ short. c.in_default-timers_of.ensures.inline (omega (arith, short.2))
+
+-- without memory both come back
+pub returns-in_default-clause-joined : goal.returns-in_default-clause-joined
+returns-in_default-clause-joined g c = tt
+
+pub returns-in_default-clause-plan_of_both : goal.returns-in_default-clause-plan_of_both
+returns-in_default-clause-plan_of_both g c = λ actions enter first second. tt
+
+pub returns-in_default-clause-value_returned : goal.returns-in_default-clause-value_returned
+returns-in_default-clause-value_returned g c = refl
+
+pub returns-in_default-reserved_for-clause-joined : goal.returns-in_default-reserved_for-clause-joined
+returns-in_default-reserved_for-clause-joined g c = tt
+
+pub returns-in_default-reserved_for-clause-plan_of_both : goal.returns-in_default-reserved_for-clause-plan_of_both
+returns-in_default-reserved_for-clause-plan_of_both g c = λ actions enter first second. tt
+
+pub returns-in_default-reserved_for-clause-value_returned : goal.returns-in_default-reserved_for-clause-value_returned
+returns-in_default-reserved_for-clause-value_returned g c = refl
+
+pub returns-in_default-reserved_for-2-clause-joined : goal.returns-in_default-reserved_for-2-clause-joined
+returns-in_default-reserved_for-2-clause-joined g c = tt
+
+pub returns-in_default-reserved_for-2-clause-plan_of_both : goal.returns-in_default-reserved_for-2-clause-plan_of_both
+returns-in_default-reserved_for-2-clause-plan_of_both g c = λ actions enter first second. tt
+
+pub returns-in_default-reserved_for-2-clause-value_returned : goal.returns-in_default-reserved_for-2-clause-value_returned
+returns-in_default-reserved_for-2-clause-value_returned g c = refl
+
+pub returns-in_default-reserved_for-3-clause-joined : goal.returns-in_default-reserved_for-3-clause-joined
+returns-in_default-reserved_for-3-clause-joined g c = tt
+
+pub returns-in_default-reserved_for-3-clause-plan_of_both : goal.returns-in_default-reserved_for-3-clause-plan_of_both
+returns-in_default-reserved_for-3-clause-plan_of_both g c = λ actions enter first second. tt
+
+pub returns-in_default-reserved_for-3-clause-value_returned : goal.returns-in_default-reserved_for-3-clause-value_returned
+returns-in_default-reserved_for-3-clause-value_returned g c = refl
+
+pub returns-in_default-timers_of-clause-joined : goal.returns-in_default-timers_of-clause-joined
+returns-in_default-timers_of-clause-joined g c = tt
+
+pub returns-in_default-timers_of-clause-plan_of_both : goal.returns-in_default-timers_of-clause-plan_of_both
+returns-in_default-timers_of-clause-plan_of_both g c = λ actions enter first second. tt
+
+pub returns-in_default-timers_of-clause-value_returned : goal.returns-in_default-timers_of-clause-value_returned
+returns-in_default-timers_of-clause-value_returned g c = refl
+
+pub returns-clause-inline : goal.returns-clause-inline
+returns-clause-inline g c = λ short. refl
+
+pub returns-clause-value_returned : goal.returns-clause-value_returned
+returns-clause-value_returned g c = tt

@@ -10,3 +10,18 @@ take_each-setting-items-requires g c = (c.requires.settings_fit, c.into_places-l
 
 pub push-requires : goal.push-requires
 push-requires g c = (c.requires.settings_fit, omega (arith, c.loop-setting.invariant.reserved, ap length c.in-Some.ensures.steps))
+
+pub next-requires : goal.next-requires
+next-requires g c = tt
+
+pub has-requires : goal.has-requires
+has-requires g c = tt
+
+pub loop-setting-smaller-then-not-has : goal.loop-setting-smaller-then-not-has
+loop-setting-smaller-then-not-has g c = omega (arith, ap length c.in-Some.ensures.steps)
+
+pub loop-setting-smaller-else-not-has : goal.loop-setting-smaller-else-not-has
+loop-setting-smaller-else-not-has g c = omega (arith, ap length c.in-Some.ensures.steps)
+
+pub loop-setting-smaller : goal.loop-setting-smaller
+loop-setting-smaller g c = omega (arith, ap length c.in-Some.ensures.steps)

@@ -7,7 +7,7 @@ use Rattle.st_actions.proofs.joining.move_remaining.Given as goal
 -- what was moved, with what remains of the rest, is what remains of all
 abbrev pub invariant-loop-setting : goal.invariant-loop-setting
 invariant-loop-setting g l =
-    let stays = λ (setting : Setting g.row.C.Denot). not (is_noted setting.timer l.later) in
+    let stays = λ (setting : Setting g.row.C.Denot). not (is_noted setting.timer l.fn.later) in
     record {
       settings : l.onto.items ++ filter stays l.setting-iterator ≡ l.fn.onto.items ++ filter stays l.fn.settings;
       places : length l.onto.items + l.onto.reserved ≡ length l.fn.onto.items + l.fn.onto.reserved;

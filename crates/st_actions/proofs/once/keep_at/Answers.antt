@@ -1,4 +1,4 @@
-use Rattle.std.proofs.Common.{◌≡◌, ◌||◌, true, false, refl, sym, ap, ◌∙◌}
+use Rattle.std.proofs.Common.{◌≡◌, ◌||◌, true, false, refl, sym, ap, ◌∙◌, arith}
 use Rattle.std.specs.Prelude.{slice_get}
 use Rattle.std.proofs.lemmas.Bool.{not-true, not-false}
 use Rattle.st_actions.specs.Noted.{is_noted}
@@ -41,3 +41,15 @@ timer_at-requires g c = search given
 
 pub replace-overridden-requires : goal.replace-overridden-requires
 replace-overridden-requires g c = search given
+
+pub note-requires : goal.note-requires
+note-requires g c = c.requires.room
+
+pub returns-then-not-note-clause-room : goal.returns-then-not-note-clause-room
+returns-then-not-note-clause-room g c = c.note.ensures.room
+
+pub returns-else-not-note-clause-room : goal.returns-else-not-note-clause-room
+returns-else-not-note-clause-room g c = c.note.ensures.room
+
+pub returns-in_default-clause-room : goal.returns-in_default-clause-room
+returns-in_default-clause-room g c = omega arith

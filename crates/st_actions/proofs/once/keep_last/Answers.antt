@@ -4,6 +4,8 @@ use Rattle.st_actions.specs.Plan.{replies_of, inserts_of, sends_of, postpone_or,
 use Rattle.st_actions.specs.Taking.{all_settings_of, as_reply, as_insert, as_send}
 use Rattle.st_actions.proofs.TakingLemmas.{replies_are, inserts_are, sends_are, setting_is_no_reply, setting_is_no_insert, setting_is_no_send}
 use Rattle.st_actions.proofs.KeptLemmas.{front_kept, settings_kept_at, noted_at, others_kept, postpone_kept, length_kept}
+use Rattle.st_actions.proofs.Given.{given}
+use Rattle.std.proofs.lemmas.Result.{err_from_is_err_and}
 use Rattle.st_actions.proofs.once.keep_last.Goals as goal
 
 -- at the end nothing is looked at yet
@@ -50,3 +52,63 @@ pub returns-clause-last : goal.returns-clause-last
 returns-clause-last g c =
     let all : c.loop-index.index ≡ 0 = omega (arith, c.loop-index-test.false) in
     sym (ap (λ n. all_settings_of (drop n c.loop-index.actions)) all) ∙ (c.loop-index.invariant.settings ∙ ap (λ n. settings_of (drop n c.args.actions.now)) all)
+
+pub len-requires : goal.len-requires
+len-requires g c = search given
+
+pub len-index-requires : goal.len-index-requires
+len-index-requires g c = search given
+
+pub keep_at-requires : goal.keep_at-requires
+keep_at-requires g c = (search given, omega (arith, c.loop-index.invariant.room, c.loop-index-test.true))
+
+pub overflow_sub-index : goal.overflow_sub-index
+overflow_sub-index g c = omega (arith, c.loop-index-test.true)
+
+pub loop-index-smaller : goal.loop-index-smaller
+loop-index-smaller g c = omega (arith, c.loop-index-test.true)
+
+pub returns-clause-same_replies : goal.returns-clause-same_replies
+returns-clause-same_replies g c = c.loop-index.invariant.replies
+
+pub returns-clause-same_inserts : goal.returns-clause-same_inserts
+returns-clause-same_inserts g c = c.loop-index.invariant.inserts
+
+pub returns-clause-same_sends : goal.returns-clause-same_sends
+returns-clause-same_sends g c = c.loop-index.invariant.sends
+
+pub returns-clause-same_postpone : goal.returns-clause-same_postpone
+returns-clause-same_postpone g c = c.loop-index.invariant.postpone
+
+pub returns-clause-as_many : goal.returns-clause-as_many
+returns-clause-as_many g c = c.loop-index.invariant.as_many
+
+pub returns-clause-inline : goal.returns-clause-inline
+returns-clause-inline g c = λ few. refl
+
+pub returns-clause-unchanged : goal.returns-clause-unchanged
+returns-clause-unchanged g c = tt
+
+pub returns-in_err-noted-clause-last : goal.returns-in_err-noted-clause-last
+returns-in_err-noted-clause-last g c = rw (err_from_is_err_and c.from_residual.result c.from_residual.ensures.1).1 tt
+
+pub returns-in_err-noted-clause-same_replies : goal.returns-in_err-noted-clause-same_replies
+returns-in_err-noted-clause-same_replies g c = refl
+
+pub returns-in_err-noted-clause-same_inserts : goal.returns-in_err-noted-clause-same_inserts
+returns-in_err-noted-clause-same_inserts g c = refl
+
+pub returns-in_err-noted-clause-same_sends : goal.returns-in_err-noted-clause-same_sends
+returns-in_err-noted-clause-same_sends g c = refl
+
+pub returns-in_err-noted-clause-as_many : goal.returns-in_err-noted-clause-as_many
+returns-in_err-noted-clause-as_many g c = refl
+
+pub returns-in_err-noted-clause-unchanged : goal.returns-in_err-noted-clause-unchanged
+returns-in_err-noted-clause-unchanged g c = rw (err_from_is_err_and c.from_residual.result c.from_residual.ensures.1).1 refl
+
+pub returns-in_err-noted-clause-same_postpone : goal.returns-in_err-noted-clause-same_postpone
+returns-in_err-noted-clause-same_postpone g c = λ given. refl
+
+pub returns-in_err-noted-clause-inline : goal.returns-in_err-noted-clause-inline
+returns-in_err-noted-clause-inline g c = λ few. let no = c.in_err-noted.ensures.inline (omega (arith, few, c.len.ensures.length)) in cc

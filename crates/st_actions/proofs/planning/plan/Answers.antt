@@ -333,3 +333,40 @@ returns-in_default-with_reserved-3-clause-inline g c = λ few. c.in_default-with
 
 pub returns-in_default-with_reserved-4-clause-inline : goal.returns-in_default-with_reserved-4-clause-inline
 returns-in_default-with_reserved-4-clause-inline g c = λ few. c.in_default-with_reserved-4.ensures.inline (omega (arith, few, c.len-count.ensures.length))
+
+-- without memory the list comes back
+pub returns-in_default-clause-planned : goal.returns-in_default-clause-planned
+returns-in_default-clause-planned g c = tt
+
+pub returns-in_default-clause-value_returned : goal.returns-in_default-clause-value_returned
+returns-in_default-clause-value_returned g c = refl
+
+pub returns-in_default-with_reserved-clause-planned : goal.returns-in_default-with_reserved-clause-planned
+returns-in_default-with_reserved-clause-planned g c = tt
+
+pub returns-in_default-with_reserved-clause-value_returned : goal.returns-in_default-with_reserved-clause-value_returned
+returns-in_default-with_reserved-clause-value_returned g c = refl
+
+pub returns-in_default-with_reserved-2-clause-planned : goal.returns-in_default-with_reserved-2-clause-planned
+returns-in_default-with_reserved-2-clause-planned g c = tt
+
+pub returns-in_default-with_reserved-2-clause-value_returned : goal.returns-in_default-with_reserved-2-clause-value_returned
+returns-in_default-with_reserved-2-clause-value_returned g c = refl
+
+pub returns-in_default-with_reserved-3-clause-planned : goal.returns-in_default-with_reserved-3-clause-planned
+returns-in_default-with_reserved-3-clause-planned g c = tt
+
+pub returns-in_default-with_reserved-3-clause-value_returned : goal.returns-in_default-with_reserved-3-clause-value_returned
+returns-in_default-with_reserved-3-clause-value_returned g c = refl
+
+pub returns-in_default-with_reserved-4-clause-planned : goal.returns-in_default-with_reserved-4-clause-planned
+returns-in_default-with_reserved-4-clause-planned g c = tt
+
+pub returns-in_default-with_reserved-4-clause-value_returned : goal.returns-in_default-with_reserved-4-clause-value_returned
+returns-in_default-with_reserved-4-clause-value_returned g c = refl
+
+pub returns-clause-inline : goal.returns-clause-inline
+returns-clause-inline g c = λ few. refl
+
+pub returns-clause-value_returned : goal.returns-clause-value_returned
+returns-clause-value_returned g c = tt

@@ -4,6 +4,7 @@ use Rattle.st_actions.specs.Plan.{replies_of, inserts_of, sends_of}
 use Rattle.st_actions.specs.Taking.{all_settings_of, as_reply, as_insert, as_setting, as_send}
 use Rattle.st_actions.proofs.TakingLemmas.{none_at, some_at, other_out, first_taken, none_in_front, none_in_front_out, replies_are, inserts_are, settings_are, sends_are, reply_is_no_insert, reply_is_no_setting, reply_is_no_send}
 use Rattle.st_actions.proofs.Given.{given}
+use Rattle.std.proofs.lemmas.List.{length-set}
 use Rattle.st_actions.proofs.taking.take_reply.Goals as goal
 
 pub unreachable-unreachable : goal.unreachable-unreachable
@@ -52,3 +53,30 @@ is_reply_at-requires g c = search given
 
 pub replace-requires : goal.replace-requires
 replace-requires g c = search given
+
+-- where there is none, all stays
+pub returns-then-not-is_reply_at-clause-taken : goal.returns-then-not-is_reply_at-clause-taken
+returns-then-not-is_reply_at-clause-taken g c = refl
+
+pub returns-then-not-is_reply_at-clause-same_inserts : goal.returns-then-not-is_reply_at-clause-same_inserts
+returns-then-not-is_reply_at-clause-same_inserts g c = refl
+
+pub returns-then-not-is_reply_at-clause-same_settings : goal.returns-then-not-is_reply_at-clause-same_settings
+returns-then-not-is_reply_at-clause-same_settings g c = refl
+
+pub returns-then-not-is_reply_at-clause-same_sends : goal.returns-then-not-is_reply_at-clause-same_sends
+returns-then-not-is_reply_at-clause-same_sends g c = refl
+
+pub returns-then-not-is_reply_at-clause-as_many : goal.returns-then-not-is_reply_at-clause-as_many
+returns-then-not-is_reply_at-clause-as_many g c = refl
+
+pub reply_of-requires : goal.reply_of-requires
+reply_of-requires g c κs = λ within. within
+
+pub unreachable-requires : goal.unreachable-requires
+unreachable-requires g c =
+    let there = rw (← c.in-None.ensures.replaced) at (sym c.is_reply_at.ensures ∙ c.if-not-is_reply_at.false) in
+    cc
+
+pub returns-clause-as_many : goal.returns-clause-as_many
+returns-clause-as_many g c = rw c.replace.ensures.put_in (length-set c.args.actions.now c.args.index Hibernate)

@@ -4,6 +4,7 @@ use Rattle.st_actions.specs.Plan.{sends_of}
 use Rattle.st_actions.specs.Taking.{as_send}
 use Rattle.st_actions.proofs.TakingLemmas.{none_at, first_taken, none_in_front, none_in_front_out, sends_are}
 use Rattle.st_actions.proofs.Given.{given}
+use Rattle.std.proofs.lemmas.List.{length-set}
 use Rattle.st_actions.proofs.taking.take_send.Goals as goal
 
 pub unreachable-unreachable : goal.unreachable-unreachable
@@ -31,3 +32,21 @@ is_send_at-requires g c = search given
 
 pub replace-requires : goal.replace-requires
 replace-requires g c = search given
+
+-- where there is none, all stays
+pub returns-then-not-is_send_at-clause-taken : goal.returns-then-not-is_send_at-clause-taken
+returns-then-not-is_send_at-clause-taken g c = refl
+
+pub returns-then-not-is_send_at-clause-as_many : goal.returns-then-not-is_send_at-clause-as_many
+returns-then-not-is_send_at-clause-as_many g c = refl
+
+pub send_of-requires : goal.send_of-requires
+send_of-requires g c κs = λ within. within
+
+pub unreachable-requires : goal.unreachable-requires
+unreachable-requires g c =
+    let there = rw (← c.in-None.ensures.replaced) at (sym c.is_send_at.ensures ∙ c.if-not-is_send_at.false) in
+    cc
+
+pub returns-clause-as_many : goal.returns-clause-as_many
+returns-clause-as_many g c = rw c.replace.ensures.put_in (length-set c.args.actions.now c.args.index Hibernate)

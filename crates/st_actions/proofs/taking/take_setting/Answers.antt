@@ -4,6 +4,7 @@ use Rattle.st_actions.specs.Plan.{sends_of}
 use Rattle.st_actions.specs.Taking.{all_settings_of, as_setting, as_send}
 use Rattle.st_actions.proofs.TakingLemmas.{none_at, some_at, first_taken, other_out, none_in_front, none_in_front_out, settings_are, sends_are, setting_is_no_send}
 use Rattle.st_actions.proofs.Given.{given}
+use Rattle.std.proofs.lemmas.List.{length-set}
 use Rattle.st_actions.proofs.taking.take_setting.Goals as goal
 
 pub unreachable-unreachable : goal.unreachable-unreachable
@@ -38,3 +39,24 @@ is_setting_at-requires g c = search given
 
 pub replace-requires : goal.replace-requires
 replace-requires g c = search given
+
+-- where there is none, all stays
+pub returns-then-not-is_setting_at-clause-taken : goal.returns-then-not-is_setting_at-clause-taken
+returns-then-not-is_setting_at-clause-taken g c = refl
+
+pub returns-then-not-is_setting_at-clause-same_sends : goal.returns-then-not-is_setting_at-clause-same_sends
+returns-then-not-is_setting_at-clause-same_sends g c = refl
+
+pub returns-then-not-is_setting_at-clause-as_many : goal.returns-then-not-is_setting_at-clause-as_many
+returns-then-not-is_setting_at-clause-as_many g c = refl
+
+pub setting_of-requires : goal.setting_of-requires
+setting_of-requires g c κs = λ within. within
+
+pub unreachable-requires : goal.unreachable-requires
+unreachable-requires g c =
+    let there = rw (← c.in-None.ensures.replaced) at (sym c.is_setting_at.ensures ∙ c.if-not-is_setting_at.false) in
+    cc
+
+pub returns-clause-as_many : goal.returns-clause-as_many
+returns-clause-as_many g c = rw c.replace.ensures.put_in (length-set c.args.actions.now c.args.index Hibernate)

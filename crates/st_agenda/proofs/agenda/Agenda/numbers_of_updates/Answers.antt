@@ -35,3 +35,12 @@ begins_anew-requires g c = (search given, c.taken_up-taken.ensures)
 -- all are
 pub returns : goal.returns
 returns g c = let first : c.loop-index.index ≡ 0 = omega (arith, c.loop-index-test.false) in rw first at c.loop-index.invariant.counted
+
+pub len-index-requires : goal.len-index-requires
+len-index-requires g c = search given
+
+pub overflow_sub-index : goal.overflow_sub-index
+overflow_sub-index g c = omega (arith, c.loop-index-test.true)
+
+pub loop-index-smaller : goal.loop-index-smaller
+loop-index-smaller g c = omega (arith, c.loop-index-test.true)

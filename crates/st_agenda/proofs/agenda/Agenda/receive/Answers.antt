@@ -1,5 +1,7 @@
-use Rattle.std.proofs.Common.{sym, ap, ◌∙◌, Some}
+use Rattle.std.proofs.Common.{refl, sym, ap, ◌∙◌, Some, arith}
+use Rattle.std.specs.Option.{option_map}
 use Rattle.st_timeouts.specs.Timeouts.{Timeouts}
+use Rattle.st_agenda.specs.Slots.{number_of}
 use Rattle.st_agenda.proofs.AgendaLemmas.{unseen_expiry}
 use Rattle.st_agenda.proofs.ChoiceLemmas.{no_name}
 use Rattle.st_agenda.proofs.ReceiveLemmas.{not_some, handed, taken_is, event_is, unseen_event, unseen_nothing, resumed_is, resumed_first, lapsed_running, lapsed_live, lapsed_free, lapsed_below, lapsed_kept, lapsed_is, lapsed_first, arrived_kept, arrived_is, arrived_first, nothing_is, nothing_first, expired_running, expired_counted, expired_below, expired_gone, expired_kept, expired_is, expired_first}
@@ -176,3 +178,68 @@ returns-in-Some-take-2-clause-first g c =
     let event = event_is c.timeout_event-in-Some-Expiry.result c.in-Some-Expiry.timer c.in-Some-Expiry.number c.in-Some-take-2.content inside.timeouts.listed runs.0 runs.1 c.in-Some-take-2.ensures.content c.timeout_event-in-Some-Expiry.ensures in
     let left = ap (λ (t : Timeouts _). t.listed) taken in
     rw (← c.self.view_is, left) (expired_first inside.pending inside.timeouts.listed inside.expiries c.self.invariant unseen no_zero c.in-Some-Expiry.timer c.in-Some-Expiry.number front.1 c.finish.new.self c.put_in-in-Some-Expiry.new.self c.timeout_event-in-Some-Expiry.result c.in_order-in-Some-Expiry.ensures c.in_order-in-Some-Expiry-2.ensures event c.finish.ensures c.put_in-in-Some-Expiry.ensures)
+
+pub returns-then-was_received-clause-staged : goal.returns-then-was_received-clause-staged
+returns-then-was_received-clause-staged g c = omega arith
+
+pub returns-then-was_received-clause-reserved : goal.returns-then-was_received-clause-reserved
+returns-then-was_received-clause-reserved g c = refl
+
+pub put_in-requires-clause-reserved : goal.put_in-requires-clause-reserved
+put_in-requires-clause-reserved g c = rw (← c.self.view_is) at c.requires
+
+pub returns-in-Some-clause-staged : goal.returns-in-Some-clause-staged
+returns-in-Some-clause-staged g c = rw (← c.self.view_is, c.put_in.ensures) (omega arith)
+
+pub put_in-requires-in-Some-Expiry-clause-reserved : goal.put_in-requires-in-Some-Expiry-clause-reserved
+put_in-requires-in-Some-Expiry-clause-reserved g c = rw c.finish.ensures (rw (← c.self.view_is) at c.requires)
+
+pub returns-in-None-clause-staged : goal.returns-in-None-clause-staged
+returns-in-None-clause-staged g c = omega arith
+
+pub returns-in-None-clause-reserved : goal.returns-in-None-clause-reserved
+returns-in-None-clause-reserved g c = refl
+
+pub returns-in-Some-Event-clause-staged : goal.returns-in-Some-Event-clause-staged
+returns-in-Some-Event-clause-staged g c = rw (← c.self.view_is, c.receive.ensures) (omega arith)
+
+pub returns-in-Some-Event-clause-reserved : goal.returns-in-Some-Event-clause-reserved
+returns-in-Some-Event-clause-reserved g c = rw (← c.self.view_is) refl
+
+pub returns-in-Some-take-2-clause-staged : goal.returns-in-Some-take-2-clause-staged
+returns-in-Some-take-2-clause-staged g c = rw (← c.self.view_is, c.put_in-in-Some-Expiry.ensures, c.finish.ensures) (omega arith)
+
+pub unreachable-requires-in_default-take-2 : goal.unreachable-requires-in_default-take-2
+unreachable-requires-in_default-take-2 g c =
+    let inside = c.self.inside in
+    let unseen = not_some _ (sym c.was_received.ensures ∙ c.if-was_received.false) in
+    let no_zero = no_name _ (sym c.in_default.ensures) in
+    let front = unseen_expiry inside.pending.postponed inside.pending.items c.in-Some-Expiry.timer c.in-Some-Expiry.number c.self.invariant.agrees.events (sym c.in-Some-Expiry.ensures ∙ ap Some c.in-Some-Expiry.field-0-is) in
+    let runs = expired_running inside.pending inside.timeouts.listed inside.expiries c.self.invariant unseen no_zero c.in-Some-Expiry.timer c.in-Some-Expiry.number front.1 in
+    handed c.in-Some-Expiry.timer c.in-Some-Expiry.number inside.timeouts.listed _ runs.1 c.in_default-take-2.is c.take-in-Some-Expiry.ensures.content
+
+pub finish-requires : goal.finish-requires
+finish-requires g c = ap (λ next. option_map number_of next) (sym c.in-Some-Expiry.ensures ∙ ap Some c.in-Some-Expiry.field-0-is)
+
+pub receive-requires : goal.receive-requires
+receive-requires g c = ap (λ next. option_map number_of next) (sym c.in-Some-Event.ensures ∙ ap Some c.in-Some-Event.field-0-is)
+
+pub returns-in-Some-take-2-clause-reserved : goal.returns-in-Some-take-2-clause-reserved
+returns-in-Some-take-2-clause-reserved g c =
+    let inside = c.self.inside in
+    let unseen = not_some _ (sym c.was_received.ensures ∙ c.if-was_received.false) in
+    let no_zero = no_name _ (sym c.in_default.ensures) in
+    let front = unseen_expiry inside.pending.postponed inside.pending.items c.in-Some-Expiry.timer c.in-Some-Expiry.number c.self.invariant.agrees.events (sym c.in-Some-Expiry.ensures ∙ ap Some c.in-Some-Expiry.field-0-is) in
+    let runs = expired_running inside.pending inside.timeouts.listed inside.expiries c.self.invariant unseen no_zero c.in-Some-Expiry.timer c.in-Some-Expiry.number front.1 in
+    let taken = taken_is inside.timeouts c.take-in-Some-Expiry.new.self c.in-Some-Expiry.timer c.in-Some-Expiry.number runs.0 runs.1 c.take-in-Some-Expiry.ensures.taken in
+    rw (← c.self.view_is) (ap (λ (t : Timeouts _). t.reserved) taken)
+
+pub returns-in-Some-clause-reserved : goal.returns-in-Some-clause-reserved
+returns-in-Some-clause-reserved g c =
+    let inside = c.self.inside in
+    let unseen = not_some _ (sym c.was_received.ensures ∙ c.if-was_received.false) in
+    let zero = c.in-Some.ensures in
+    let runs = lapsed_running inside.pending inside.timeouts.listed inside.expiries c.self.invariant unseen c.in-Some.timer c.in-Some.number zero in
+    let alive = lapsed_live inside.pending inside.timeouts.listed inside.expiries c.self.invariant unseen c.in-Some.timer c.in-Some.number zero in
+    let taken = taken_is inside.timeouts c.take.new.self c.in-Some.timer c.in-Some.number runs.0 alive c.take.ensures.taken in
+    rw (← c.self.view_is) (ap (λ (t : Timeouts _). t.reserved) taken)

@@ -53,3 +53,9 @@ returns-clause-set g c =
     let whole = take_all c.loop-index.index c.loop-index.actions (omega (arith, kept.as_many, c.len-index-end.ensures.length, c.loop-index-test.false)) in
     let none = rw whole at kept.none_before in
     rw none at kept.set.all
+
+pub returns-clause-same_sends : goal.returns-clause-same_sends
+returns-clause-same_sends g c = c.loop-index.invariant.sends
+
+pub len-index-end-requires : goal.len-index-end-requires
+len-index-end-requires g c = search given
