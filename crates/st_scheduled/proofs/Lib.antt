@@ -2,6 +2,7 @@
 pub mod TokensCompared
 pub mod LeftStates
 pub mod ServingLemmas
+pub mod ToldByCalls
 pub mod ToldLemmas
 pub mod ServedMachines
 pub mod CountLemmas

@@ -1,22 +1,54 @@
-use Rattle.std.proofs.Common.{◌≡◌, ◌+◌, ◌^◌, ◌<◌, false, refl, sym, ◌∙◌, arith}
-use Rattle.std.specs.Prelude.{◌&&◌, Ok}
+use Rattle.std.proofs.Common.{◌+◌, ◌^◌, ◌<◌, refl, sym, ap, ◌∙◌, arith}
+use Rattle.std.specs.Prelude.{Ok, Err}
 use Rattle.st_answers.specs.declared.answer.Answer.TheVariants as answer
 use Rattle.st_answers.specs.declared.command.Command.TheVariants as command
 use Rattle.st_core.specs.Callbacks.{callbacks_of}
-use Rattle.st_core.specs.Run.{step_on}
-use Rattle.st_scheduled.specs.Serving.{is_full, needs_count}
-use Rattle.st_scheduled.proofs.ServingLemmas.{not_both, room}
+use Rattle.st_core.specs.Run.{is_refusal}
+use Rattle.st_core.specs.MachineState.{Machine}
+use Rattle.st_scheduled.specs.ScheduledMachine.{ScheduledMachine}
+use Rattle.st_scheduled.proofs.ServingLemmas.{room as room_left}
+use Rattle.st_scheduled.proofs.ToldByCalls.{HasRoom, unless_needed, unless_full, full_tells, tells_at, stop_tells}
 use Rattle.st_scheduled.proofs.scheduled_machine.ScheduledMachine.stop.Goals as goal
 use Rattle.st_scheduled.proofs.scheduled_machine.ScheduledMachine.stop.Goals.{else-is_full-via-then-is_full+else-stop_needs_count, else-is_full-via-else-is_full}
+
+-- no number of the count is left
+pub returns-then-stop_needs_count : goal.returns-then-stop_needs_count
+returns-then-stop_needs_count g c =
+    let callbacks = callbacks_of g.M.Module g.M.State.PartialEq.eq in
+    record { told = full_tells callbacks c.args.self.now (command.Stop c.args.reason) (sym c.is_full.ensures ∙ c.if-is_full.true) (sym (c.stop_needs_count.ensures c.args.reason) ∙ c.if-stop_needs_count.true) }
 
 -- a number of the count is left
 pub overflow_add-self : goal.overflow_add-self
 overflow_add-self g c =
     let callbacks = callbacks_of g.M.Module g.M.State.PartialEq.eq in
-    let full : is_full c.args.self.now && needs_count (step_on callbacks c.args.self.now.core (command.Stop c.args.reason)).0 ≡ false =
+    let room : HasRoom callbacks c.args.self.now (command.Stop c.args.reason) =
     elim c.else-is_full.branch [
-      | else-is_full-via-then-is_full+else-stop_needs_count w ↦ not_both _ _ (sym (w.stop_needs_count.ensures c.args.reason) ∙ w.if-stop_needs_count.false)
-      | else-is_full-via-else-is_full w ↦ rw (sym c.is_full.ensures ∙ w.if-is_full.false) refl
+      | else-is_full-via-then-is_full+else-stop_needs_count w ↦ unless_needed callbacks c.args.self.now (command.Stop c.args.reason) (sym (w.stop_needs_count.ensures c.args.reason) ∙ w.if-stop_needs_count.false)
+      | else-is_full-via-else-is_full w ↦ unless_full callbacks c.args.self.now (command.Stop c.args.reason) (sym c.is_full.ensures ∙ w.if-is_full.false)
     ] in
-    let below : c.self.inside.count + 1 < 2 ^ 63 = room callbacks (record { core = c.self.inside.core; count = c.self.inside.count; token = c.self.inside.token }) (command.Stop c.args.reason) (answer.Stop (Ok c.in-Ok.word)) c.stop.new.self c.in-Ok.ensures.does refl refl (λ same. cc) (rw (← c.self.view_is) at full) in
-    omega (arith, below)
+    let left : c.self.inside.count + 1 < 2 ^ 63 = room_left callbacks (record { core = c.self.inside.core; count = c.self.inside.count; token = c.self.inside.token }) (command.Stop c.args.reason) (answer.Stop (Ok c.in-Ok.word)) c.stop.new.self c.in-Ok.ensures.does refl refl (λ same. sym (ap is_refusal same)) (rw (← c.self.view_is) at room) in
+    omega (arith, left)
+
+-- it was stopped
+pub returns-in-Ok : goal.returns-in-Ok
+returns-in-Ok g c =
+    let callbacks = callbacks_of g.M.Module g.M.State.PartialEq.eq in
+    let old : ScheduledMachine _ _ _ _ = record { core = c.self.inside.core; count = c.self.inside.count; token = c.self.inside.token } in
+    let room : HasRoom callbacks c.args.self.now (command.Stop c.args.reason) =
+    elim c.else-is_full.branch [
+      | else-is_full-via-then-is_full+else-stop_needs_count w ↦ unless_needed callbacks c.args.self.now (command.Stop c.args.reason) (sym (w.stop_needs_count.ensures c.args.reason) ∙ w.if-stop_needs_count.false)
+      | else-is_full-via-else-is_full w ↦ unless_full callbacks c.args.self.now (command.Stop c.args.reason) (sym c.is_full.ensures ∙ w.if-is_full.false)
+    ] in
+    record { told = tells_at callbacks c.args.self.now old (command.Stop c.args.reason) _ _ (record { core = c.stop.new.self; count = c.self.inside.count + 1; token = c.self.inside.token }) _ c.self.view_is refl refl (stop_tells callbacks old c.stop.new.self c.args.reason (Ok c.in-Ok.word) c.in-Ok.ensures.does (rw (← c.self.view_is) at room)) }
+
+-- it was refused
+pub returns-in-Err : goal.returns-in-Err
+returns-in-Err g c =
+    let callbacks = callbacks_of g.M.Module g.M.State.PartialEq.eq in
+    let old : ScheduledMachine _ _ _ _ = record { core = c.self.inside.core; count = c.self.inside.count; token = c.self.inside.token } in
+    let room : HasRoom callbacks c.args.self.now (command.Stop c.args.reason) =
+    elim c.else-is_full.branch [
+      | else-is_full-via-then-is_full+else-stop_needs_count w ↦ unless_needed callbacks c.args.self.now (command.Stop c.args.reason) (sym (w.stop_needs_count.ensures c.args.reason) ∙ w.if-stop_needs_count.false)
+      | else-is_full-via-else-is_full w ↦ unless_full callbacks c.args.self.now (command.Stop c.args.reason) (sym c.is_full.ensures ∙ w.if-is_full.false)
+    ] in
+    record { told = tells_at callbacks c.args.self.now old (command.Stop c.args.reason) _ _ (record { core = c.stop.new.self; count = c.self.inside.count; token = c.self.inside.token }) _ c.self.view_is refl (ap (λ (core : Machine _ _ _ _). record { core = core; count = old.count; token = old.token }) c.in-Err.ensures.unchanged) (stop_tells callbacks old c.stop.new.self c.args.reason (Err c.in-Err.refusal) c.in-Err.ensures.does (rw (← c.self.view_is) at room)) }
