@@ -1,5 +1,5 @@
 -- What a call that is no turn answers and leaves, by what the machine was told and by the entry that was written.
-use Rattle.std.proofs.Common.{◌≡◌, ℕ, ◌+◌, ◌≤◌, ◌<◌, inl, inr, Bool, ◌&&◌, true, false, if◌then◌else◌, Option, Some, None, List, [], ◌∷◌, ◌++◌, refl, sym, ap, subst, ◌∙◌, length, arith, append-nil}
+use Rattle.std.proofs.Common.{◌≡◌, ℕ, ◌+◌, ◌-◌, ◌^◌, ◌≤◌, ◌<◌, inl, inr, Bool, ◌&&◌, true, false, if◌then◌else◌, Option, Some, None, List, [], ◌∷◌, ◌++◌, refl, sym, ap, subst, ◌∙◌, length, arith, append-nil}
 use Rattle.std.specs.Prelude.{Result, Ok, Err, OnOk}
 use Rattle.std.proofs.lemmas.List.{length-append}
 use Rattle.st_events.specs.declared.refusal.Refusal.TheVariants.{NoMemory, NotQueued, Exhausted}
@@ -228,6 +228,14 @@ module _ {M S D C : Type 0} (callbacks : M → Callbacks S D C) where
   takes_out_own old new token result own told = subst (λ (own : Bool). TakesOutBy callbacks own old token result new) (sym own) told
 
 module _ {M S D C : Type 0} where
+  -- what was written after the machine was told, where all but the machine is known to be as it was
+  pub written_after : (between told after : CellState M S D C) (source : Source) (command : Command C) (said : Answer S C) → told ≡ record between { scheduled = told.scheduled }
+      → after ≡ record told { journal = told.journal ++ record { number = told.scheduled.count; source = source; command = command; answer = said } ∷ [] }
+      → after ≡ record between { scheduled = told.scheduled; journal = between.journal ++ record { number = told.scheduled.count; source = source; command = command; answer = said } ∷ [] }
+  written_after between told after source command said rest written =
+      let entry : JournalEntry S C = record { number = told.scheduled.count; source = source; command = command; answer = said } in
+      written ∙ ap (λ (cell : CellState M S D C). record cell { journal = cell.journal ++ entry ∷ [] }) rest
+
   -- ---- places
   -- there is room still in what is as it was but has more places
   pub room_more : (old new : JournaledState M S D C) → new.cell ≡ old.cell → old.places ≤ new.places → HasRoom old → HasRoom new
@@ -286,6 +294,17 @@ module _ {M S D C : Type 0} where
   -- likewise, whatever the ports are
   pub room_ports : (old held : JournaledState M S D C) (ports : List ℕ) → held ≡ old → HasRoom old → HasRoom (record held { cell = record held.cell { ports = ports } })
   room_ports old held ports same room = subst (λ (one : JournaledState M S D C). HasRoom one) (sym same) room
+
+-- a port that is open has a place
+pub place_of : (port : ℕ) (ports now : List ℕ) → length ports ≡ length now → (0 < port) × (port ≤ length now) → port - 1 < length ports
+place_of port ports now same within =
+    let first = within.0 in
+    let last = within.1 in
+    omega (arith, same, first, last)
+
+-- and its count is far from the largest number
+pub count_within : (count now : ℕ) → count ≡ now → now < 2 ^ 63 → count + 1 < 2 ^ 64
+count_within count now same bounded = omega (arith, same, bounded)
 
 -- how many ports there are after one was opened
 pub one_port_more : (ports before now : List ℕ) → ports ≡ before ++ 0 ∷ [] → before ≡ now → length ports ≡ length now + 1

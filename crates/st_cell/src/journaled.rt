@@ -61,12 +61,12 @@ impl<M: Module> Journaled<M> {
     {
         a_machine_is_lawful(&core);
         let mut core = core;
+        let Ok(journal) = Vec::with_capacity(alloc, 1) else {
+            return Err(Refused::new(Refusal::NoMemory, core));
+        };
         let base = match core.snapshot() {
             Ok(base) => base,
             Err(refusal) => return Err(Refused::new(refusal, core)),
-        };
-        let Ok(journal) = Vec::with_capacity(alloc, 1) else {
-            return Err(Refused::new(Refusal::NoMemory, core));
         };
         Ok(Journaled {
             alloc,

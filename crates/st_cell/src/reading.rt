@@ -1,5 +1,5 @@
 //! What is read of a machine with its journal, and how its journal is cut.
-ghost use Rattle.std.specs.Prelude.{◌≡◌, ◌++◌, length, IfOk, IfErr, OnOk, OnErr, string_bytes};
+ghost use Rattle.std.specs.Prelude.{◌≡◌, ◌≤◌, [], ◌++◌, length, vec_capacity, IfOk, IfErr, OnOk, OnErr, string_bytes};
 ghost use Rattle.st_events.specs.declared.refusal.Refusal.TheVariants.{NoMemory, Exhausted};
 ghost use Rattle.st_cell.specs.Calls.{opened, look_of, cut, IsJournalOf};
 ghost use Rattle.st_cell.specs.Cell.{IsOpen, count_for, HasRoom};
@@ -8,7 +8,7 @@ ghost use Rattle.st_cell.specs.Journal.{numbers_of, posts_of};
 use crate::copying::copied_entries;
 use crate::journaled::{EntryOf, Journaled};
 use crate::{Journal, JournalEntry, Look};
-use st_core::{Answer, Command, Module, PlainList, Refusal};
+use st_core::{Answer, Command, Module, PlainList, Refusal, Snapshot};
 use std::alloc::{AllocError, Global};
 use std::mem;
 
@@ -91,6 +91,29 @@ impl<M: Module> Journaled<M> {
         })
     }
 
+    /// What the machine as it is begins a journal with: its base, and no entry yet.
+    fn fresh(&mut self) -> Result<(Snapshot<M>, Vec<EntryOf<M>>), Refusal>
+        ensures base { IfOk result (λ fresh. fresh.0 ≡ self.old.cell.scheduled.core.machine) }
+        ensures journal { IfOk result (λ fresh. (fresh.1.items ≡ []) × (1 ≤ vec_capacity fresh.1)) }
+        ensures same { self.new ≡ self.old }
+
+        ensures refusals { IfErr result (λ refusal. refusal ≡ NoMemory) }
+    {
+        let journal = Vec::with_capacity(self.alloc, 1)?;
+        let base = self.scheduled.snapshot()?;
+        Ok((base, journal))
+    }
+
+    /// The journal begins anew from a base, and what it was is handed out.
+    fn begin(&mut self, base: Snapshot<M>, journal: Vec<EntryOf<M>>) -> Vec<EntryOf<M>>
+        ensures cell { self.new.cell ≡ record self.old.cell { base = base; journal = journal.items } }
+        ensures places { self.new.places ≡ vec_capacity journal }
+        ensures entries { result.items ≡ self.old.cell.journal }
+    {
+        self.base = base;
+        mem::replace(&mut self.journal, journal)
+    }
+
     /// The machine as it is becomes the base, and the journal is empty.
     pub(crate) fn cut(&mut self) -> Result<(), Refusal>
         ensures cut { OnOk result (self.new.cell ≡ cut self.old.cell) }
@@ -99,10 +122,8 @@ impl<M: Module> Journaled<M> {
         ensures refusals { IfErr result (λ refusal. refusal ≡ NoMemory) }
         ensures unchanged { OnErr result (self.new.cell ≡ self.old.cell) }
     {
-        let base = self.scheduled.snapshot()?;
-        let journal = Vec::with_capacity(self.alloc, 1)?;
-        self.base = base;
-        self.journal = journal;
+        let (base, journal) = self.fresh()?;
+        self.begin(base, journal);
         Ok(())
     }
 
@@ -120,10 +141,8 @@ impl<M: Module> Journaled<M> {
     {
         let (id, from) = (self.scheduled.core().id(), self.base.latest);
         let label = String::from_str(self.alloc, label)?;
-        let snapshot = self.scheduled.snapshot()?;
-        let journal = Vec::with_capacity(self.alloc, 1)?;
-        let entries = mem::replace(&mut self.journal, journal);
-        self.base = snapshot;
+        let (snapshot, journal) = self.fresh()?;
+        let entries = self.begin(snapshot, journal);
         Ok(Journal {
             id,
             label,

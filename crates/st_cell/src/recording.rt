@@ -5,7 +5,7 @@ ghost use Rattle.st_core.specs.Callbacks.{callbacks_of};
 ghost use Rattle.st_scheduled.specs.declared.step_answer.StepAnswer.{StepAnswer};
 ghost use Rattle.st_scheduled.specs.Answered.{posted_as, ticked_as, served_as, replied_as, collected_as, stopped_as, is_counted, wants_numbers};
 ghost use Rattle.st_scheduled.specs.ScheduledMachine.{is_token_of};
-ghost use Rattle.st_scheduled.specs.Serving.{served_on, Serves};
+ghost use Rattle.st_scheduled.specs.Serving.{served_on, Serves, Tells};
 ghost use Rattle.st_cell.specs.declared.next.Next.TheVariants as next;
 ghost use Rattle.st_cell.specs.Calls.{Posts, IsToldBy, IsTold, IsServed, Turns, done_as, counted_at};
 ghost use Rattle.st_cell.specs.Cell.{IsOpen, count_for, HasRoom};
@@ -92,7 +92,7 @@ impl<M: Module> Journaled<M> {
         if self.make_room().is_err() {
             return Err(Refusal::NoMemory);
         }
-        match self.scheduled.tick(now) {
+        match self.tick_scheduled(now) {
             Ok(ticked) => {
                 let answer = Answer::Tick(Ok(ticked.expired));
                 self.write(Source::Caller, Command::Tick(now), answer);
@@ -100,6 +100,15 @@ impl<M: Module> Journaled<M> {
             }
             Err(refusal) => Err(refusal),
         }
+    }
+
+    /// The machine itself is told the moment, in milliseconds, and nothing is written.
+    fn tick_scheduled(&mut self, now: u64) -> Result<Ticked, Refusal>
+        ensures told { Tells (callbacks_of M.Module M.State.eq) self.old.cell.scheduled (command.Tick now) (ticked_as result) self.new.cell.scheduled }
+        ensures rest { self.new.cell ≡ record self.old.cell { scheduled = self.new.cell.scheduled } }
+        ensures places { self.new.places ≡ self.old.places }
+    {
+        self.scheduled.tick(now)
     }
 
     /// A request is answered.

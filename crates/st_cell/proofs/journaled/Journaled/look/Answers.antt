@@ -1,4 +1,5 @@
 use Rattle.std.proofs.Common.{refl}
+use Rattle.std.proofs.lemmas.Result.{err_from_is_err_and}
 use Rattle.st_cell.proofs.journaled.Journaled.look.Goals as goal
 
 -- each field is read off the cell
@@ -17,3 +18,18 @@ returns-clause-look g c =
       c.core-core.ensures,
       ← c.self.view_is,
     ) refl
+
+-- the port is open
+pub count_for-requires : goal.count_for-requires
+count_for-requires g c = c.requires
+
+pub returns-clause-refusals : goal.returns-clause-refusals
+returns-clause-refusals g c = tt
+
+-- there was no memory for the data
+pub returns-in_err-held-clause-look : goal.returns-in_err-held-clause-look
+returns-in_err-held-clause-look g c = rw (err_from_is_err_and c.from_residual.result c.from_residual.ensures.1).1 tt
+
+-- or none for the numbers
+pub returns-in_err-numbers-clause-look : goal.returns-in_err-numbers-clause-look
+returns-in_err-numbers-clause-look g c = rw (err_from_is_err_and c.from_residual-in_err-numbers.result c.from_residual-in_err-numbers.ensures.1).1 tt
