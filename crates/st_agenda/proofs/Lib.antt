@@ -1,5 +1,4 @@
 -- Lemmas on what waits, on the time-outs that run, and on both as one; and the definitions computed on examples.
-pub mod Given
 pub mod PendingLemmas
 pub mod ItemsLemmas
 pub mod AgreesLemmas

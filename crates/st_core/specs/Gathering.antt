@@ -1,6 +1,7 @@
 -- What was gathered for a report, and the answer that it makes.
-use Rattle.std.specs.Prelude.{◌≡◌, ℕ, Option, Some, List, [], Result, Ok, Err}
+use Rattle.std.specs.Prelude.{◌≡◌, ℕ, Bool, ◌&&◌, Option, Some, List, [], Result, Ok, Err, if◌then◌else◌}
 use Rattle.st_events.specs.declared.action.Action.{Action}
+use Rattle.st_events.specs.declared.outcome.Outcome.{Outcome}
 use Rattle.st_events.specs.declared.refusal.Refusal.{Refusal}
 use Rattle.st_answers.specs.declared.done.Done.{Done}
 use Rattle.st_answers.specs.declared.report.Report.{Report}
@@ -11,7 +12,7 @@ use Rattle.st_core.specs.declared.course.Course.{Course}
 use Rattle.st_core.specs.declared.gathered.Gathered.{Gathered}
 use Rattle.st_core.specs.declared.machine_state.MachineState.{MachineState}
 use Rattle.st_core.specs.MachineState.{Machine}
-use Rattle.st_core.specs.Callbacks.{Called, or_old}
+use Rattle.st_core.specs.Callbacks.{Callbacks, Called, or_old, called_with, entered_by, is_entered}
 use Rattle.st_core.specs.Run.{Meets, turn_takes_memory, turn_without_memory}
 
 -- no reply was taken yet, and nothing is inserted, set or sent
@@ -48,6 +49,15 @@ pub record ComesTo {S D C : Type 0} (course : Course S) (held : D) (made : List 
   pub «data» : called.data ≡ or_old held new
   pub changed : called.changed ≡ course.changed
   pub actions : called.actions ≡ asked
+
+-- the state that was come to is entered where there are enter calls and one is due: then the enter call's part is in
+pub record EntersWhere {S D C : Type 0} (callbacks : Callbacks S D C) (old : S) (due : Bool) (handled called : Called S D C) : Type 0 where
+  pub called_is : called ≡ (if callbacks.enters_is && due then entered_by callbacks old handled else handled)
+
+-- `handle` answered this outcome to an event of a machine, and this is what it comes to, alone and with the enter call
+pub record ComesOf {S D C : Type 0} (callbacks : Callbacks S D C) (machine : MachineState S D C) (made : List (Call S)) (outcome : Outcome S D C) (handled called : Called S D C) : Type 0 where
+  pub handled_is : handled ≡ called_with callbacks.same_state made machine.state machine.data outcome
+  pub called_is : called ≡ (if is_entered callbacks machine.state outcome then entered_by callbacks machine.state handled else handled)
 
 -- a turn on an event ended so, or was refused: the module stays, and its answer and the machine after it are those of the
 -- definition; or memory was wanted, and nothing changed

@@ -10,6 +10,7 @@ pub mod Replies
 pub mod Start
 pub mod Run
 pub mod Gathering
+pub mod Prepared
 pub mod UntilIdle
 pub mod Lawful
 pub mod Messages

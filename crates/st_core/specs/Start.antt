@@ -61,6 +61,11 @@ with_begun machine actions = record machine {
   outbox = with_sent machine.id machine.outbox (sends_of actions);
 }
 
+-- `init` answered this state with these data and actions, and this is what it comes to, with the enter call where there
+-- are enter calls
+pub record BegunBy {S D C : Type 0} (callbacks : Callbacks S D C) (state : S) (held : D) (actions : List (Action C)) (called : Called S D C) : Type 0 where
+  pub called_is : called ≡ begun_by callbacks state held actions
+
 module _ {M S D C A : Type 0} where
   -- a refused start gives the module back
   abbrev pub start_refused : M → Refusal → Result (Start M S D C A) (Refused M)

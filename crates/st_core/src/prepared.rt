@@ -1,17 +1,13 @@
 //! What a transition needs before it changes anything: numbers and memory.
-ghost use Rattle.std.specs.Prelude.{◌≡◌, ◌⊎◌, ◌+◌, ◌≤◌, ◌^◌, ◌&&◌, [], false, true, length, nat_le, vec_capacity, IfOk, IfErr, OnOk};
+ghost use Rattle.std.specs.Prelude.{◌≡◌, ◌+◌, ◌≤◌, ◌^◌, [], nat_le, OnOk};
 ghost use Rattle.std.specs.List.{range_with_len};
-ghost use Rattle.std.specs.Option.{unwrap_or};
-ghost use Rattle.st_events.specs.declared.refusal.Refusal.TheVariants.{NoMemory, Exhausted};
 ghost use Rattle.st_actions.specs.Counted.{IsCountOf};
-ghost use Rattle.st_actions.specs.Plan.{replies_of, inserts_of, postpone_of, settings_of, sends_of};
+ghost use Rattle.st_actions.specs.Plan.{inserts_of};
 ghost use Rattle.st_actions.specs.Taking.{all_settings_of};
-ghost use Rattle.st_agenda.specs.Items.{numbered, numbers_of};
 ghost use Rattle.st_agenda.specs.Agenda.{running_on};
 ghost use Rattle.st_agenda.specs.Timing.{has_numbers};
-ghost use Rattle.st_outbox.specs.Outbox.{has_message_numbers};
 ghost use Rattle.st_core.specs.Gathering.{IsEmpty};
-ghost use Rattle.st_core.specs.Transition.{decisions_of};
+ghost use Rattle.st_core.specs.Prepared.{KeepsAll, Prepares};
 
 use crate::decisions::note_decisions;
 use crate::gathered::Gathered;
@@ -34,27 +30,8 @@ pub(crate) fn prepare<S: Drop, C: Drop>(
     gathered: &mut Gathered<S>,
 ) -> Result<Counts, Refusal>
     requires empty { IsEmpty gathered.old }
-    ensures counted { IfOk result (λ counts. IsCountOf counts actions.new) }
-    ensures postpone { IfOk result (λ counts. unwrap_or counts.postpone false ≡ postpone_of actions.old) }
-    ensures last { OnOk result (all_settings_of actions.new ≡ settings_of actions.old) }
-    ensures same_replies { replies_of actions.new ≡ replies_of actions.old }
-    ensures same_inserts { inserts_of actions.new ≡ inserts_of actions.old }
-    ensures same_sends { sends_of actions.new ≡ sends_of actions.old }
-    ensures numbers { OnOk result (has_numbers agenda.old.schedule.next_number (running_on changed agenda.old.schedule) (inserts_of actions.old) (settings_of actions.old) ≡ true) }
-    ensures message_numbers { OnOk result (has_message_numbers outgoing.old.outbox (sends_of actions.old) ≡ true) }
-    ensures replied { OnOk result (gathered.new.replied.items ≡ []) }
-    ensures replies { OnOk result (length (replies_of actions.old) ≤ vec_capacity gathered.new.replied) }
-    ensures inserted { OnOk result (gathered.new.inserted ≡ numbers_of (numbered agenda.old.schedule.next_number (inserts_of actions.old))) }
-    ensures set { OnOk result (gathered.new.set ≡ decisions_of (settings_of actions.old)) }
-    ensures sent { OnOk result (gathered.new.sent ≡ range_with_len outgoing.old.outbox.next_number (length (sends_of actions.old))) }
-    ensures same_calls { gathered.new.calls ≡ gathered.old.calls }
-    ensures staged { OnOk result (length (inserts_of actions.old) + 1 ≤ agenda.new.staged) }
-    ensures reserved { OnOk result (length (settings_of actions.old) ≤ agenda.new.reserved) }
-    ensures places { OnOk result (length (sends_of actions.old) ≤ outgoing.new.reserved) }
-    ensures same_outbox { outgoing.new.outbox ≡ outgoing.old.outbox }
-    ensures same_schedule { agenda.new.schedule ≡ agenda.old.schedule }
-
-    ensures refusals { IfErr result (λ refusal. (refusal ≡ NoMemory) ⊎ ((refusal ≡ Exhausted) × ((has_numbers agenda.old.schedule.next_number (running_on changed agenda.old.schedule) (inserts_of actions.old) (settings_of actions.old) && has_message_numbers outgoing.old.outbox (sends_of actions.old)) ≡ false))) }
+    ensures same { KeepsAll actions.old actions.new agenda.old agenda.new outgoing.old outgoing.new gathered.old gathered.new }
+    ensures prepared { Prepares changed actions.old actions.new agenda.old agenda.new outgoing.old outgoing.new gathered.new result }
 {
     let counts = count_last(alloc, actions)?;
     let next = agenda.next_number();

@@ -30,10 +30,10 @@ impl<M: Module> Core<M> {
 
         ensures refusals { IfErr result (λ refusal. refusal ≡ NoMemory) }
     {
-        let schedule = self.agenda.copy(self.alloc, &self.module)?;
-        let requests = self.requests.copy(&self.module)?;
-        let outbox = self.outgoing.copy(self.alloc, &self.module)?;
         let data = self.module.copy_data(self.alloc, &self.data)?;
+        let outbox = self.outgoing.copy(self.alloc, &self.module)?;
+        let requests = self.requests.copy(&self.module)?;
+        let schedule = self.agenda.copy(self.alloc, &self.module)?;
         Ok(MachineState {
             id: self.id,
             state: self.state,

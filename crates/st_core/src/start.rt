@@ -1,8 +1,8 @@
 //! A machine starts.
 ghost use Rattle.std.specs.Prelude.{◌≡◌, ◌≤◌, ◌<◌, ◌^◌, []};
-ghost use Rattle.st_core.specs.Callbacks.{Called, callbacks_of, begun_with, begun_by, entered_by};
+ghost use Rattle.st_core.specs.Callbacks.{Called, callbacks_of, begun_with, entered_by};
 ghost use Rattle.st_core.specs.Gathering.{IsEmpty};
-ghost use Rattle.st_core.specs.Start.{start_of, begun_as, started_by, started_with, ended_with, Starts, first_state};
+ghost use Rattle.st_core.specs.Start.{BegunBy, Starts, start_of, begun_as, started_by, started_with, ended_with, first_state};
 
 use crate::added::add_entered;
 use crate::gathered::Gathered;
@@ -116,8 +116,9 @@ impl<M: Module> Core<M> {
     ) -> Result<Start<M>, Refused<M>>
         requires moment { opening.now < 2 ^ 63 }
         requires greatest { opening.first < 2 ^ 63 }
-        ensures start { Starts opening.module result (begun_as (callbacks_of M.Module M.State.eq opening.module) opening.module opening.id
-            (begun_by (callbacks_of M.Module M.State.eq opening.module) state «data» actions) opening.now opening.first) }
+        ensures start { (called : Called M.State M.Data M.Content)
+            → BegunBy (callbacks_of M.Module M.State.eq opening.module) state «data» actions called
+            → Starts opening.module result (begun_as (callbacks_of M.Module M.State.eq opening.module) opening.module opening.id called opening.now opening.first) }
     {
         let gathered = Gathered::new(opening.alloc, OneInline::new(opening.alloc));
         if opening.module.enters() {

@@ -1,12 +1,12 @@
 //! One turn: the next event is handled, and the machine changes. The steps stand in the manual's
 //! order; what can fail is done before anything changes.
-ghost use Rattle.std.specs.Prelude.{◌≡◌, ◌<◌, ◌^◌, ◌&&◌, ◌||◌, false, None, Some, Bool, Option, if◌then◌else◌, OnErr};
+ghost use Rattle.std.specs.Prelude.{◌≡◌, ◌<◌, ◌^◌, ◌&&◌, ◌||◌, false, None, Some, Bool, Option, OnErr};
 ghost use Rattle.std.specs.Option.{option_map};
 ghost use Rattle.st_answers.specs.declared.answer.Answer.TheVariants as answer;
 ghost use Rattle.st_answers.specs.declared.command.Command.TheVariants as command;
-ghost use Rattle.st_core.specs.Callbacks.{Called, callbacks_of, called_with, entered_by, is_entered};
+ghost use Rattle.st_core.specs.Callbacks.{Called, callbacks_of, entered_by};
 ghost use Rattle.st_core.specs.Choice.{next_event_of};
-ghost use Rattle.st_core.specs.Gathering.{ComesTo, IsEmpty, TurnsTo};
+ghost use Rattle.st_core.specs.Gathering.{ComesOf, ComesTo, EntersWhere, IsEmpty, TurnsTo};
 ghost use Rattle.st_core.specs.Transition.{with_moment, unless_refused, stopped, concluded};
 ghost use Rattle.st_core.specs.Run.{Does};
 
@@ -90,8 +90,7 @@ impl<M: Module> Core<M> {
         requires number_is { option_map (λ event. event.number) (next_event_of self.old.machine) ≡ Some number }
         requires empty { IsEmpty gathered.old }
         ensures { (handled called : Called M.State M.Data M.Content)
-            → handled ≡ called_with M.State.eq gathered.old.calls self.old.machine.state self.old.machine.data outcome
-            → called ≡ (if is_entered (callbacks_of M.Module M.State.eq self.old.module_) self.old.machine.state outcome then entered_by (callbacks_of M.Module M.State.eq self.old.module_) self.old.machine.state handled else handled)
+            → ComesOf (callbacks_of M.Module M.State.eq self.old.module_) self.old.machine gathered.old.calls outcome handled called
             → TurnsTo number self.old self.new gathered.new result
             (unless_refused self.old.machine (concluded (callbacks_of M.Module M.State.eq self.old.module_) (with_moment self.old.machine now) number called called.reason)) }
     {
@@ -144,7 +143,7 @@ impl<M: Module> Core<M> {
         requires empty { IsEmpty gathered.old }
         ensures { (handled called : Called M.State M.Data M.Content)
             → ComesTo course self.old.machine.data gathered.old.calls «data» actions handled → handled.reason ≡ None
-            → called ≡ (if (callbacks_of M.Module M.State.eq self.old.module_).enters_is && (course.changed || course.repeats) then entered_by (callbacks_of M.Module M.State.eq self.old.module_) self.old.machine.state handled else handled)
+            → EntersWhere (callbacks_of M.Module M.State.eq self.old.module_) self.old.machine.state (course.changed || course.repeats) handled called
             → TurnsTo course.number self.old self.new gathered.new result
             (unless_refused self.old.machine (concluded (callbacks_of M.Module M.State.eq self.old.module_) (with_moment self.old.machine course.now) course.number called called.reason)) }
     {

@@ -65,6 +65,7 @@ fn drawn<S: Copy, D, C>(
     state: S,
     outcome: &Outcome<S, D, C>,
 ) -> Result<Option<Arrow<S>>, AllocError>
+    requires actions_fit { ActionsFit C.row }
     ensures { IfOk result (λ arrow. arrow ≡ arrow_of state outcome.now) }
 {
     match outcome {

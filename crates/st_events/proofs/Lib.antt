@@ -1,3 +1,4 @@
--- Lemmas on the places of short lists, and on numbers and timers that are compared.
+-- What is given, and lemmas on the places of short lists, and on numbers and timers that are compared.
+pub mod Given
 pub mod PlacesLemmas
 pub mod ComparedLemmas

@@ -34,6 +34,11 @@ pub took_later : (a b c d : List Entry) (old new : List (List Entry)) (token : T
     → c ≡ a → d ≡ b → TakesOne old token new → TakesOne (a ∷ b ∷ old) token (c ∷ d ∷ new)
 took_later a b c d old new token p q took = (suc (suc took.0), took.1, omega (arith, took.2), λ i. p i ∷ q i ∷ took.3 i)
 
+-- the first end took this token
+pub took_first : (a b : List Entry) (others : List (List Entry)) (token : Token)
+    → ((place : ℕ) × (b ≡ a ++ (place, token) ∷ [])) → TakesOne (a ∷ others) token (b ∷ others)
+took_first a b others token took = (0, took.0, omega arith, λ i. took.1 i ∷ others)
+
 -- the first end took nothing, and the second this token
 pub took_second : (a b c d : List Entry) (others : List (List Entry)) (token : Token)
     → c ≡ a → ((place : ℕ) × (d ≡ b ++ (place, token) ∷ [])) → TakesOne (a ∷ b ∷ others) token (c ∷ d ∷ others)

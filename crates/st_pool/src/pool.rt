@@ -63,9 +63,7 @@ impl<R: Threads + Wait + Drop, C: Drop> Pool<R, C> {
             let EndedWorker { mut worker, turns } = thread.join(&self.rt);
             self.turns = self.turns.saturating_add(turns);
             let tokens = worker.hand_over(&mut self.left, &mut self.carried);
-            for _ in 0..tokens {
-                self.state.rest(&self.rt);
-            }
+            self.state.rest_each(&self.rt, tokens);
             self.ended.push_reserved(worker);
         }
     }

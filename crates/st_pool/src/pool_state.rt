@@ -158,6 +158,13 @@ impl PoolState {
         }
     }
 
+    /// So many tokens came to rest.
+    pub fn rest_each<R: Wait>(&self, rt: &R, tokens: u32) {
+        for _ in 0..tokens {
+            self.rest(rt);
+        }
+    }
+
     /// Waits until each token that was scheduled or woken has come to rest.
     pub fn drain<R: Wait>(&self, rt: &R) {
         let injector = self.drained.wait_while(

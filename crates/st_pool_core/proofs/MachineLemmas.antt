@@ -9,6 +9,7 @@ use Rattle.st_events.specs.declared.machine_id.MachineId.{MachineId}
 use Rattle.st_scheduled.specs.ScheduledMachine.{ScheduledMachine, same_id, id_of, is_callers}
 use Rattle.st_pool_core.specs.PoolState.{machine_of, place_of, changed_for, is_with_callers}
 use Rattle.st_scheduled.proofs.TokensCompared.{same_id_self}
+use Rattle.st_pool_core.proofs.IdLemmas.{changed_same}
 use Rattle.st_pool_core.proofs.MachineLookups.{found_id}
 
 module _ {M S D C : Type 0} where
@@ -68,6 +69,12 @@ module _ {M S D C : Type 0} where
   changed_there id (one ∷ others) zero f old new h is after = rw h (ap (λ (x : ScheduledMachine M S D C). x ∷ others) (after ∙ ap f is))
   changed_there id (one ∷ others) (suc place) f old new h is after =
       rw h.0 (ap (λ (xs : List (ScheduledMachine M S D C)). one ∷ xs) (changed_there id others place f old new h.1 is after))
+
+  -- the machine at that place written there again changes nothing
+  pub set_same : (id : MachineId) (machines : List (ScheduledMachine M S D C)) (place : ℕ) (old : ScheduledMachine M S D C) → IsPlaceOf id machines place
+      → old ≡ slice_index_or machines place old → slice_set machines place old ≡ machines
+  set_same id machines place old h is = changed_there id machines place (λ (one : ScheduledMachine M S D C). old) old old h is refl
+      ∙ changed_same id machines old (machine_at id machines place old h is)
 
   -- the machine of an id has that id
   found_same : (id : MachineId) (machines : List (ScheduledMachine M S D C)) (m : ScheduledMachine M S D C) → machine_of id machines ≡ Some m

@@ -1,25 +1,27 @@
 -- What a pool is after one of its machines was told a command, served, gave a message or was posted one, or was not there.
-use Rattle.std.proofs.Common.{◌≡◌, ℕ, zero, suc, ◌-◌, Bool, true, false, inl, inr, ⊎_elim, Option, Some, None, List, [], ◌∷◌, slice_index_or, refl, sym, ap, ◌∙◌}
+use Rattle.std.proofs.Common.{◌≡◌, ℕ, zero, suc, ◌-◌, Bool, true, false, inl, inr, ⊎_elim, Option, Some, None, Result, Ok, Err, List, [], ◌∷◌, slice_index_or, refl, sym, ap, ◌∙◌}
 use Rattle.std.specs.Prelude.{is_some, if◌then◌else◌}
 use Rattle.st_events.specs.declared.machine_id.MachineId.{MachineId}
 use Rattle.st_events.specs.declared.message.Message.{Message}
 use Rattle.st_events.specs.declared.token.Token.{Token}
 use Rattle.st_events.specs.declared.refusal.Refusal.{Refusal}
+use Rattle.st_events.specs.declared.refused.Refused.{Refused as RefusedWith}
 use Rattle.st_events.specs.declared.refusal.Refusal.TheVariants.{NoMemory, NotPossible, NoSuchMachine}
 use Rattle.st_answers.specs.declared.command.Command.{Command}
 use Rattle.st_answers.specs.declared.command.Command.TheVariants as command
 use Rattle.st_answers.specs.declared.entry.Entry.TheVariants.{Info}
 use Rattle.st_core.specs.Callbacks.{Callbacks}
 use Rattle.st_pool_core.specs.declared.step.Step.TheVariants as step
+use Rattle.st_scheduled.specs.declared.posted.Posted.{Posted}
 use Rattle.st_scheduled.specs.declared.step_answer.StepAnswer.{StepAnswer}
 use Rattle.st_scheduled.specs.declared.step_answer.StepAnswer.TheVariants as said
 use Rattle.st_scheduled.specs.ScheduledMachine.{ScheduledMachine, id_of}
 use Rattle.st_pool_core.specs.PoolState.{PoolState, machine_of, changed_for, has_messages}
 use Rattle.st_pool_core.specs.Queues.{hand_in, handed, changed_at}
 use Rattle.st_pool_core.specs.Transit.{message_in, is_carrying, with_message}
-use Rattle.st_scheduled.specs.Answered.{is_refused}
+use Rattle.st_scheduled.specs.Answered.{is_refused, posted_as}
 use Rattle.st_scheduled.specs.Serving.{content_of, refused_with, is_turn, takes_memory_as, told_on, Tells}
-use Rattle.st_pool_core.specs.Machines.{TellsOne, ServesOne}
+use Rattle.st_pool_core.specs.Machines.{TellsOne, ServesOne, PostsOne}
 use Rattle.st_pool_core.specs.Step.{delivered_by, TellsIn, DoesStep}
 use Rattle.st_pool_core.specs.Balance.{IsBalanced}
 use Rattle.st_scheduled.proofs.ToldLemmas.{refused_told}
@@ -29,6 +31,10 @@ use Rattle.st_pool_core.proofs.WentLemmas.{IsOut, told_out, IsPost, told_post}
 use Rattle.st_pool_core.proofs.TransitLemmas.{message_there}
 use Rattle.st_pool_core.proofs.CarryingLemmas.{told_keeps_id}
 use Rattle.st_pool_core.proofs.MessageLemmas.{AnswersSo, post_answers}
+
+-- the errors of one result are one
+pub same_error : {T E : Type 0} (result : Result T E) (one other : E) → result ≡ Err one → result ≡ Err other → one ≡ other
+same_error result one other is same = cc
 
 module _ {M S D C : Type 0} (callbacks : M → Callbacks S D C) where
   -- a pool with these machines
@@ -123,13 +129,13 @@ module _ {M S D C : Type 0} (callbacks : M → Callbacks S D C) where
       told.tells
 
   -- the machine of a message's target is not there: it is lost
-  pub delivers-missing : (pool : PoolState M S D C) (worker : ℕ) (message : Message C) → message_in pool.transit worker ≡ Some message
+  delivers-missing : (pool : PoolState M S D C) (worker : ℕ) (message : Message C) → message_in pool.transit worker ≡ Some message
       → machine_of message.target pool.machines ≡ None
       → DoesStep callbacks pool (step.Deliver worker) (said.Lost NoSuchMachine) (record pool { transit = with_message pool.transit worker None })
   delivers-missing pool worker message carried missing = rw (carried, missing) (inl (refl, refl))
 
   -- it was posted to its target
-  pub delivers-in : (pool : PoolState M S D C) (worker : ℕ) (message : Message C) (number : ℕ) (wake : Option Token) (machines : List (ScheduledMachine M S D C))
+  delivers-in : (pool : PoolState M S D C) (worker : ℕ) (message : Message C) (number : ℕ) (wake : Option Token) (machines : List (ScheduledMachine M S D C))
       → message_in pool.transit worker ≡ Some message
       → TellsOne callbacks pool.machines message.target (command.Post Info message.content) (said.Posted number wake) machines
       → DoesStep callbacks pool (step.Deliver worker) (said.Posted number wake) (record pool { machines = machines; transit = with_message pool.transit worker None })
@@ -149,7 +155,7 @@ module _ {M S D C : Type 0} (callbacks : M → Callbacks S D C) where
   refused_is one other value content same = ap (refusal_or one) same
 
   -- its target refused it: it is lost
-  pub delivers-lost : (pool : PoolState M S D C) (worker : ℕ) (message : Message C) (refusal : Refusal) (content : Option C) (machines : List (ScheduledMachine M S D C))
+  delivers-lost : (pool : PoolState M S D C) (worker : ℕ) (message : Message C) (refusal : Refusal) (content : Option C) (machines : List (ScheduledMachine M S D C))
       → message_in pool.transit worker ≡ Some message → (refusal ≡ NoMemory → ⊥)
       → TellsOne callbacks pool.machines message.target (command.Post Info message.content) (refused_with refusal content) machines
       → DoesStep callbacks pool (step.Deliver worker) (said.Lost refusal) (record pool { machines = machines; transit = with_message pool.transit worker None })
@@ -181,7 +187,7 @@ module _ {M S D C : Type 0} (callbacks : M → Callbacks S D C) where
   delivery_takes pool worker id after answer (inr refused) takes = let none : false ≡ true = rw refused.1 at takes in cc
 
   -- memory was wanted: the worker carries the message still
-  pub delivers-wants : (pool : PoolState M S D C) (worker : ℕ) (message : Message C) (content : Option C) (machines : List (ScheduledMachine M S D C))
+  delivers-wants : (pool : PoolState M S D C) (worker : ℕ) (message : Message C) (content : Option C) (machines : List (ScheduledMachine M S D C))
       → message_in pool.transit worker ≡ Some message
       → TellsOne callbacks pool.machines message.target (command.Post Info message.content) (refused_with NoMemory content) machines
       → DoesStep callbacks pool (step.Deliver worker) (refused_with NoMemory None)
@@ -196,3 +202,33 @@ module _ {M S D C : Type 0} (callbacks : M → Callbacks S D C) where
       (λ wanted. rw (carried, told.found, same, back)
       (inr (delivery_takes pool worker message.target posts.1 posts.0 (told_post callbacks told.old message.content) wanted.0, refl, refl)))
       told.tells
+
+  -- a message was posted
+  pub delivers-posted : (pool : PoolState M S D C) (worker : ℕ) (message : Message C) (posted : Posted) (machines : List (ScheduledMachine M S D C))
+      → message_in pool.transit worker ≡ Some message → PostsOne callbacks pool.machines message.target Info message.content (Ok posted) machines
+      → DoesStep callbacks pool (step.Deliver worker) (posted_as (Ok posted)) (record pool { machines = machines; transit = with_message pool.transit worker None })
+  delivers-posted pool worker message posted machines carried done = elim done.posts [
+    | inl missing ↦ let other = missing.0 in cc
+    | inr told ↦ delivers-in pool worker message posted.number posted.wake machines carried told
+  ]
+
+  -- it was refused, but not for want of memory
+  pub delivers-refused : (pool : PoolState M S D C) (worker : ℕ) (message : Message C) (refused : RefusedWith C) (machines : List (ScheduledMachine M S D C))
+      → message_in pool.transit worker ≡ Some message → (refused.refusal ≡ NoMemory → ⊥)
+      → PostsOne callbacks pool.machines message.target Info message.content (Err refused) machines
+      → DoesStep callbacks pool (step.Deliver worker) (said.Lost refused.refusal) (record pool { machines = machines; transit = with_message pool.transit worker None })
+  delivers-refused pool worker message refused machines carried some done = elim done.posts [
+    | inl missing ↦ rw (ap (λ (one : RefusedWith C). one.refusal) (same_error _ refused _ refl missing.0), missing.2) (delivers-missing pool worker message carried missing.1)
+    | inr told ↦ delivers-lost pool worker message refused.refusal (Some refused.value) machines carried some told
+  ]
+
+  -- it was refused for want of memory: the worker carries it still
+  pub delivers-again : (pool : PoolState M S D C) (worker : ℕ) (message : Message C) (refused : RefusedWith C) (machines : List (ScheduledMachine M S D C))
+      → message_in pool.transit worker ≡ Some message → refused.refusal ≡ NoMemory
+      → PostsOne callbacks pool.machines message.target Info message.content (Err refused) machines
+      → DoesStep callbacks pool (step.Deliver worker) (refused_with NoMemory None)
+      (record pool { machines = machines; transit = with_message (with_message pool.transit worker None) worker (Some (record message { content = refused.value })) })
+  delivers-again pool worker message refused machines carried wanted done = elim done.posts [
+    | inl missing ↦ let other = sym wanted ∙ ap (λ (one : RefusedWith C). one.refusal) (same_error _ refused _ refl missing.0) in cc
+    | inr told ↦ rw done.returned (delivers-wants pool worker message (Some refused.value) machines carried (rw wanted at told))
+  ]

@@ -1,5 +1,5 @@
 -- A pool as it begins.
-use Rattle.std.specs.Prelude.{◌≡◌, ◌⊎◌, ℕ, zero, suc, Bool, false, ◌&&◌, nat_lt, None, List, [], ◌∷◌, map, replicate}
+use Rattle.std.specs.Prelude.{◌≡◌, ◌⊎◌, ℕ, zero, suc, Bool, true, false, ◌&&◌, nat_lt, None, List, [], ◌∷◌, map, replicate, All}
 use Rattle.st_events.specs.declared.refusal.Refusal.{Refusal}
 use Rattle.st_events.specs.declared.refusal.Refusal.TheVariants.{NoMemory, NotPossible}
 use Rattle.st_events.specs.declared.machine_id.MachineId.{MachineId}
@@ -39,3 +39,14 @@ opened workers cores = record {
   queues = record { shared = []; workers = idle_workers workers };
   transit = replicate workers None;
 }
+
+-- why a pool of so many workers and these machines is not opened
+pub record IsWhyNone {M S D C : Type 0} (workers : ℕ) (cores : List (Machine M S D C)) (refusal : Refusal) : Type 0 where
+  pub why : IsWhyNotOpened workers cores refusal
+
+-- a pool of so many workers and these machines was opened: each has one id of its own, and its own messages alone
+pub record Opens {M S D C : Type 0} (workers : ℕ) (cores : List (Machine M S D C)) (pool : PoolState M S D C) : Type 0 where
+  pub is : pool ≡ opened workers cores
+  pub possible : may_have workers ≡ true
+  pub each : OneEach (map scheduled_at_first cores)
+  pub own : All HasItsOwn cores

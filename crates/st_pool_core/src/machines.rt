@@ -1,13 +1,11 @@
 //! The machines of a pool, by id.
-ghost use Rattle.std.specs.Prelude.{◌≡◌, ◌<◌, length, map, None, IfOk, IfErr, IfSome, IfNone, option_copied};
-ghost use Rattle.st_answers.specs.declared.command.Command.TheVariants as command;
+ghost use Rattle.std.specs.Prelude.{◌≡◌, ◌<◌, length, map, None, IfOk, IfErr, IfSome, option_copied};
 ghost use Rattle.st_core.specs.Callbacks.{callbacks_of};
 ghost use Rattle.st_pool_core.specs.Opening.{core_id};
-ghost use Rattle.st_pool_core.specs.PoolState.{place_of, machine_of, changed_for, is_with_callers, has_messages, with_callers_in};
-ghost use Rattle.st_scheduled.specs.Answered.{posted_as, taken_out_as};
+ghost use Rattle.st_pool_core.specs.PoolState.{place_of, machine_of, changed_for, is_with_callers, with_callers_in};
 ghost use Rattle.st_scheduled.specs.ScheduledMachine.{moved};
 ghost use Rattle.st_scheduled.specs.Serving.{scheduled_at_first};
-ghost use Rattle.st_pool_core.specs.Machines.{TellsOne, ServesOne};
+ghost use Rattle.st_pool_core.specs.Machines.{TellsOne, ServesAt, GivesOne, PostsOne};
 
 use indexmap::IndexSet;
 use st_core::{Command, Core, Entry};
@@ -87,16 +85,6 @@ impl<M: Module> Machines<M> {
         }
     }
 
-    /// Says whether the machine of an id has a message that was not taken out yet.
-    pub(crate) fn has_messages(&self, id: MachineId) -> bool
-        ensures { result ≡ has_messages self.now id }
-    {
-        match self.get(id) {
-            Some(machine) => machine.core().has_message(),
-            None => false,
-        }
-    }
-
     /// Notes of a machine's outstanding token whether it is with callers; where the machine is not there, nothing.
     pub(crate) fn move_token(&mut self, id: MachineId, with_callers: bool)
         ensures { self.new ≡ changed_for id (moved with_callers) self.old }
@@ -126,48 +114,45 @@ impl<M: Module> Machines<M> {
         }
     }
 
-    /// Takes the first message of the machine of an id out, and answers what it answers; where the machine is not there, it
-    /// answers `None`.
-    pub(crate) fn take_out(&mut self, id: MachineId) -> Option<TakenOutOf<M>>
-        ensures told { IfSome result (λ answer. TellsOne (callbacks_of M.Module M.State.eq) self.old id command.TakeOut (taken_out_as answer) self.new) }
-
-        ensures missing { IfNone result ((machine_of id self.old ≡ None) × (self.new ≡ self.old)) }
+    /// Takes the first message of the machine of an id out, and answers what it answers; where the machine is not there or
+    /// has none, it answers `NotPossible`.
+    pub(crate) fn take_out(&mut self, id: MachineId) -> TakenOutOf<M>
+        ensures { GivesOne (callbacks_of M.Module M.State.eq) self.old id result self.new }
     {
-        let place = self.place_of(id)?;
+        let Some(place) = self.place_of(id) else {
+            return Err(Refusal::NotPossible);
+        };
         let machine = &mut self.all[place];
-        Some(machine.take_out())
+        if !machine.core().has_message() {
+            return Err(Refusal::NotPossible);
+        }
+        machine.take_out()
     }
 
     /// Posts an event to the machine of an id, and answers what it answers; where the machine is not there, it answers
-    /// `None`.
-    pub(crate) fn post(
-        &mut self,
-        id: MachineId,
-        entry: Entry,
-        content: M::Content,
-    ) -> Option<PostedOf<M>>
-        ensures told { IfSome result (λ answer. TellsOne (callbacks_of M.Module M.State.eq) self.old id (command.Post entry content) (posted_as answer) self.new) }
-        ensures returned { IfSome result (λ answer. IfErr answer (λ refused. refused.value ≡ content)) }
-
-        ensures missing { IfNone result ((machine_of id self.old ≡ None) × (self.new ≡ self.old)) }
+    /// `NoSuchMachine`, and the content comes back.
+    pub(crate) fn post(&mut self, id: MachineId, entry: Entry, content: M::Content) -> PostedOf<M>
+        ensures { PostsOne (callbacks_of M.Module M.State.eq) self.old id entry content result self.new }
     {
-        let place = self.place_of(id)?;
+        let Some(place) = self.place_of(id) else {
+            return Err(Refused::new(Refusal::NoSuchMachine, content));
+        };
         let machine = &mut self.all[place];
-        Some(machine.post(entry, content))
+        machine.post(entry, content)
     }
 
     /// Serves the machine of an id at a moment, in milliseconds, and says whether it keeps its token; where the machine
-    /// is not there, it answers `None`.
-    pub(crate) fn serve(&mut self, id: MachineId, now: u64) -> Option<(AnswerOf<M>, bool)>
-        ensures served { IfSome result (λ done. ServesOne (callbacks_of M.Module M.State.eq) self.old id now done.0 done.1 self.new) }
-
-        ensures missing { IfNone result ((machine_of id self.old ≡ None) × (self.new ≡ self.old)) }
+    /// is not there, it answers `NotPossible`, and no token is retired.
+    pub(crate) fn serve(&mut self, id: MachineId, now: u64) -> (AnswerOf<M>, bool)
+        ensures { ServesAt (callbacks_of M.Module M.State.eq) self.old id now result.0 result.1 self.new }
     {
-        let place = self.place_of(id)?;
+        let Some(place) = self.place_of(id) else {
+            return (StepAnswer::refused(Refusal::NotPossible, None), true);
+        };
         let machine = &mut self.all[place];
         let answer = StepAnswer::served(machine.serve(now));
         let keeps = machine.has_token();
-        Some((answer, keeps))
+        (answer, keeps)
     }
 
     /// The tokens that are with callers, in the order of their machines. Where there is no memory, nothing is listed.

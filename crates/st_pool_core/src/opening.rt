@@ -1,6 +1,6 @@
 //! A pool begins.
-ghost use Rattle.std.specs.Prelude.{◌≡◌, true, map, MatchOption, IfOk, IfErr, All};
-ghost use Rattle.st_pool_core.specs.Opening.{core_id, may_have, opened, HasItsOwn, IsWhyNotOpened};
+ghost use Rattle.std.specs.Prelude.{◌≡◌, map, MatchOption, IfOk, IfErr, All};
+ghost use Rattle.st_pool_core.specs.Opening.{core_id, may_have, HasItsOwn, IsWhyNone, Opens};
 ghost use Rattle.st_pool_core.specs.PoolState.{OneEach};
 ghost use Rattle.st_scheduled.specs.Serving.{scheduled_at_first};
 
@@ -23,29 +23,22 @@ fn may_have(workers: usize) -> bool
     0 < workers && workers <= MOST_WORKERS
 }
 
-/// The ids of machines, in their order; `None` where two have one id.
+/// The ids of machines, in their order; `None` where two have one id. Each machine's outbox has its own messages alone,
+/// since it is lawful.
 fn ids_of<M: Module>(
     cores: &[Core<M>],
     alloc: Global,
 ) -> Result<Option<IndexSet<MachineId>>, AllocError>
-    ensures { IfOk result (λ ids. MatchOption ids (OneEach (map scheduled_at_first cores.now) → ⊥) (λ ids. (ids.keys ≡ map core_id cores.now) × OneEach (map scheduled_at_first cores.now))) }
+    ensures { IfOk result (λ ids. MatchOption ids (OneEach (map scheduled_at_first cores.now) → ⊥) (λ ids. (ids.keys ≡ map core_id cores.now) × OneEach (map scheduled_at_first cores.now) × All HasItsOwn cores.now)) }
 {
     let mut ids = IndexSet::with_capacity(alloc, cores.len())?;
     for core in cores {
+        a_machine_is_lawful(core);
         if !ids.insert(core.id())? {
             return Ok(None);
         }
     }
     Ok(Some(ids))
-}
-
-/// Each machine's outbox has its own messages alone, since it is lawful. Nothing is done.
-fn send_own<M: Module>(cores: &[Core<M>])
-    ensures { All HasItsOwn cores.now }
-{
-    for core in cores {
-        a_machine_is_lawful(core);
-    }
 }
 
 impl<M: Module> Pool<M> {
@@ -55,11 +48,9 @@ impl<M: Module> Pool<M> {
         workers: usize,
         cores: Vec<Core<M>>,
     ) -> Result<Pool<M>, Refused<Vec<Core<M>>>>
-        ensures opened { IfOk result (λ pool. pool ≡ opened workers cores.items) }
-        ensures possible { IfOk result (λ pool. (may_have workers ≡ true) × OneEach (map scheduled_at_first cores.items)) }
-        ensures own { IfOk result (λ pool. All HasItsOwn cores.items) }
+        ensures opened { IfOk result (λ pool. Opens workers cores.items pool) }
 
-        ensures refusals { IfErr result (λ refused. IsWhyNotOpened workers cores.items refused.refusal) }
+        ensures refusals { IfErr result (λ refused. IsWhyNone workers cores.items refused.refusal) }
         ensures returned { IfErr result (λ refused. refused.value ≡ cores) }
     {
         if !may_have(workers) {
@@ -76,7 +67,6 @@ impl<M: Module> Pool<M> {
         let Ok(transit) = Transit::new(alloc, workers) else {
             return Err(Refused::new(Refusal::NoMemory, cores));
         };
-        send_own(&cores);
         match Machines::new(alloc, ids, cores) {
             Ok(machines) => Ok(Pool {
                 machines,

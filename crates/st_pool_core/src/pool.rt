@@ -6,7 +6,7 @@ ghost use Rattle.st_pool_core.specs.declared.step.Step.TheVariants as step;
 ghost use Rattle.st_pool_core.specs.Balance.{IsBalanced};
 ghost use Rattle.st_pool_core.specs.Deliveries.{CarriesOwn};
 ghost use Rattle.st_scheduled.specs.Serving.{refused_with};
-ghost use Rattle.st_pool_core.specs.Step.{TellsIn, DoesStep};
+ghost use Rattle.st_pool_core.specs.Step.{IsFreeHand, TellsIn, DoesStep};
 
 use crate::Step;
 use crate::machines::Machines;
@@ -112,20 +112,25 @@ impl<M: Module> Pool<M> {
         }
     }
 
+    /// The token in the hand of a worker that carries no message; `None` where it carries one, or its hand is empty.
+    fn free_hand(&self, worker: usize) -> Option<Token>
+        ensures { IsFreeHand self.now worker result }
+    {
+        if self.transit.is_carrying(worker) {
+            return None;
+        }
+        self.queues.hand(worker)
+    }
+
     /// A worker that carries no message serves the machine of the token in its hand, at a moment in milliseconds.
     fn turn(&mut self, worker: usize, now: u64) -> AnswerOf<M>
         requires { IsBalanced self.old }
         ensures { DoesStep (callbacks_of M.Module M.State.eq) self.old (step.Turn worker now) result self.new }
     {
-        if self.transit.is_carrying(worker) {
-            return not_possible();
-        }
-        let Some(token) = self.queues.hand(worker) else {
+        let Some(token) = self.free_hand(worker) else {
             return not_possible();
         };
-        let Some((answer, keeps)) = self.machines.serve(token.machine, now) else {
-            return not_possible();
-        };
+        let (answer, keeps) = self.machines.serve(token.machine, now);
         if !keeps {
             self.queues.set_hand(worker, None);
         }
@@ -136,10 +141,7 @@ impl<M: Module> Pool<M> {
     fn put_back(&mut self, worker: usize) -> AnswerOf<M>
         ensures { DoesStep (callbacks_of M.Module M.State.eq) self.old (step.PutBack worker) result self.new }
     {
-        if self.transit.is_carrying(worker) {
-            return not_possible();
-        }
-        let Some(token) = self.queues.hand(worker) else {
+        let Some(token) = self.free_hand(worker) else {
             return not_possible();
         };
         if self.queues.push(worker, token).is_err() {
@@ -153,10 +155,7 @@ impl<M: Module> Pool<M> {
     fn drop_token(&mut self, worker: usize) -> AnswerOf<M>
         ensures { DoesStep (callbacks_of M.Module M.State.eq) self.old (step.Drop worker) result self.new }
     {
-        if self.transit.is_carrying(worker) {
-            return not_possible();
-        }
-        let Some(token) = self.queues.hand(worker) else {
+        let Some(token) = self.free_hand(worker) else {
             return not_possible();
         };
         self.queues.set_hand(worker, None);
@@ -169,22 +168,15 @@ impl<M: Module> Pool<M> {
         requires { CarriesOwn self.old }
         ensures { DoesStep (callbacks_of M.Module M.State.eq) self.old (step.Carry worker) result self.new }
     {
-        if self.transit.is_carrying(worker) {
-            return not_possible();
-        }
-        let Some(token) = self.queues.hand(worker) else {
+        let Some(token) = self.free_hand(worker) else {
             return not_possible();
         };
-        if !self.machines.has_messages(token.machine) {
-            return not_possible();
-        }
         match self.machines.take_out(token.machine) {
-            None => not_possible(),
-            Some(Ok(message)) => {
+            Ok(message) => {
                 self.transit.set(worker, message);
                 StepAnswer::Moved
             }
-            Some(Err(refusal)) => StepAnswer::refused(refusal, None),
+            Err(refusal) => StepAnswer::refused(refusal, None),
         }
     }
 
@@ -203,9 +195,8 @@ impl<M: Module> Pool<M> {
             content,
         } = message;
         match self.machines.post(target, Entry::Info, content) {
-            None => StepAnswer::Lost(Refusal::NoSuchMachine),
-            Some(Ok(posted)) => StepAnswer::posted(Ok(posted)),
-            Some(Err(refused)) if is_no_memory(refused.refusal) => {
+            Ok(posted) => StepAnswer::posted(Ok(posted)),
+            Err(refused) if is_no_memory(refused.refusal) => {
                 let message = Message {
                     sender,
                     number,
@@ -215,7 +206,7 @@ impl<M: Module> Pool<M> {
                 self.transit.set(worker, Some(message));
                 no_memory()
             }
-            Some(Err(refused)) => StepAnswer::Lost(refused.refusal),
+            Err(refused) => StepAnswer::Lost(refused.refusal),
         }
     }
 }

@@ -96,12 +96,14 @@ impl Mail {
     /// The next message of the sender in a slot, which leaves its outbox.
     fn take_out(&self, own: Token) -> Option<Message<u64>> {
         let slot = own.machine.slot;
-        let left = self.outbox.get(slot)?.load(Ordering::SeqCst);
+        let outbox = self.outbox.get(slot)?;
+        let carried = self.carried.get(slot)?;
+        let left = outbox.load(Ordering::SeqCst);
         if left == 0 {
             return None;
         }
-        self.outbox.get(slot)?.store(left - 1, Ordering::SeqCst);
-        let was_carried = self.carried.get(slot)?.swap(1, Ordering::SeqCst);
+        outbox.store(left - 1, Ordering::SeqCst);
+        let was_carried = carried.swap(1, Ordering::SeqCst);
         self.expects(was_carried == 0);
         Some(Message {
             sender: own.machine,

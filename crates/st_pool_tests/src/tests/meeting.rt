@@ -43,6 +43,26 @@ impl Meeting {
             }
         }
     }
+
+    /// Counts a turn of the token in a slot. Whether it meets the other before that turn.
+    fn counts(&self, own: usize) -> bool {
+        match self.turns.get(own) {
+            Some(turns) => turns.fetch_add(1, Ordering::SeqCst).saturating_add(1) == self.at,
+            None => false,
+        }
+    }
+
+    /// The token in one slot waits until that in the other has come as far.
+    fn meets(&self, own: usize, other: usize) {
+        if let Some(come) = self.come.get(own) {
+            come.store(1, Ordering::SeqCst);
+        }
+        if let Some(waited) = self.come.get(other) {
+            if !waits_for(waited, true) {
+                self.gave_up.fetch_add(1, Ordering::SeqCst);
+            }
+        }
+    }
 }
 
 impl Gate for Meeting {
@@ -54,20 +74,8 @@ impl Gate for Meeting {
 
     fn before(&self, _worker: usize, token: Token) {
         let own = token.machine.slot;
-        let other = if own == 0 { 1 } else { 0 };
-        let (Some(turns), Some(come), Some(waited)) = (
-            self.turns.get(own),
-            self.come.get(own),
-            self.come.get(other),
-        ) else {
-            return;
-        };
-        if turns.fetch_add(1, Ordering::SeqCst).saturating_add(1) != self.at {
-            return;
-        }
-        come.store(1, Ordering::SeqCst);
-        if !waits_for(waited, true) {
-            self.gave_up.fetch_add(1, Ordering::SeqCst);
+        if self.counts(own) {
+            self.meets(own, if own == 0 { 1 } else { 0 });
         }
     }
 

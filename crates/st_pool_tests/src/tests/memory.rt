@@ -3,7 +3,8 @@ use super::counted::Counted;
 use super::flood::Flood;
 use super::host::{Host, is_number};
 use super::silent::Silent;
-use super::started::{are_left, closes, closes_again, schedules, started};
+use super::started::{are_left, closes, leaves_all, schedules, started};
+use st_pool::{Pool, Runtime};
 use std::alloc::Global;
 use std::process::Abort;
 use std::sync::Arc;
@@ -38,11 +39,7 @@ fn a_refused_call_loses_no_token(rt: HostRuntime) {
     let machines = endless(&rt, rt.alloc(), 200);
     let gate = silent(&rt, rt.alloc());
     let mut pool = started(&rt, threads, 3, &machines, &gate);
-    schedules(&rt, &pool, 0, 200);
-    let end = closes(&rt, &mut pool);
-    pool.drain();
-    are_left(&rt, &end, 200);
-    closes_again(&rt, &mut pool, end.turns);
+    leaves_all(&rt, &mut pool, 200);
     rt.end();
 }
 
@@ -74,12 +71,21 @@ fn a_woken_token_that_finds_no_room_is_not_lost(rt: HostRuntime) {
     let machines = flood(&rt, rt.alloc(), 200);
     let gate = silent(&rt, rt.alloc());
     let mut pool = started(&rt, threads, 2, &machines, &gate);
-    schedules(&rt, &pool, 0, 1);
-    waits_until_woken(&machines, 200);
-    let end = closes(&rt, &mut pool);
+    leaves_what_was_woken(&rt, &mut pool, &machines);
+    rt.end();
+}
+
+/// Of two hundred machines each is woken, and they are left with the one that woke them.
+fn leaves_what_was_woken<R: Runtime>(
+    rt: &Host<impl Abort>,
+    pool: &mut Pool<R, u64>,
+    machines: &Flood,
+) {
+    schedules(rt, pool, 0, 1);
+    waits_until_woken(machines, 200);
+    let end = closes(rt, pool);
     let woken = machines.woken();
     let left = (woken as usize).saturating_add(1);
-    are_left(&rt, &end, left);
-    is_number(&rt, "all were woken", woken, 200);
-    rt.end();
+    are_left(rt, &end, left);
+    is_number(rt, "all were woken", woken, 200);
 }

@@ -39,24 +39,50 @@ fn all_arrive<R: Runtime, G: Gate + Drop + Send + Sync + 'static>(
 )
     requires { (1 ≤ sending.workers) × (sending.workers ≤ 16) }
 {
+    let mail = mail_of(rt, sending);
+    let mut pool = started(rt, threads, sending.workers, &mail, gate);
+    all_are_sent(rt, &mut pool, &mail, sending);
+}
+
+/// The machines that send so.
+fn mail_of(rt: &Host<impl Abort + AllocGlobal>, sending: Sending) -> Arc<Mail> {
     let Sending {
-        workers,
+        workers: _,
         senders,
         targets,
         each,
         refusals,
-        rounds,
+        rounds: _,
     } = sending;
-    let mail = Mail::new(rt.alloc(), senders, targets, each, refusals).expect(rt, "machines");
-    let mut pool = started(rt, threads, workers, &mail, gate);
-    let all = (senders as u64).saturating_mul(each);
-    for _ in 0..rounds {
-        mail.begin_anew();
-        schedules(rt, &pool, 0, senders);
-        pool.drain();
-        is_number(rt, "all were handled once drained", mail.handled(), all);
+    Mail::new(rt.alloc(), senders, targets, each, refusals).expect(rt, "machines")
+}
+
+/// All messages are sent, so many rounds, and then the pool is closed.
+fn all_are_sent<R: Runtime>(
+    rt: &Host<impl Abort>,
+    pool: &mut Pool<R, u64>,
+    mail: &Mail,
+    sending: Sending,
+) {
+    let all = (sending.senders as u64).saturating_mul(sending.each);
+    for _ in 0..sending.rounds {
+        one_round_is_sent(rt, pool, mail, sending.senders, all);
     }
-    all_have_arrived(rt, &mail, &closes(rt, &mut pool));
+    all_have_arrived(rt, mail, &closes(rt, pool));
+}
+
+/// All messages of one round are sent: once drained, so many were handled.
+fn one_round_is_sent<R: Runtime>(
+    rt: &Host<impl Abort>,
+    pool: &Pool<R, u64>,
+    mail: &Mail,
+    senders: usize,
+    all: u64,
+) {
+    mail.begin_anew();
+    schedules(rt, pool, 0, senders);
+    pool.drain();
+    is_number(rt, "all were handled once drained", mail.handled(), all);
 }
 
 /// Looks that no message came out of turn, and that none is left.
@@ -151,23 +177,28 @@ fn what_was_woken_is_left_to_the_others(rt: HostRuntime) {
     let machines = Eager::new(rt.alloc()).expect(&rt, "machines");
     let gate = Meeting::new(rt.alloc(), 2).expect(&rt, "a gate");
     let mut pool = started(&rt, threads, 2, &machines, &gate);
+    none_waits_in_vain(&rt, &mut pool, &gate);
+    rt.end_with_memory();
+}
+
+/// Of two workers one serves what was woken while the other serves who woke it, two hundred times.
+fn none_waits_in_vain<R: Runtime>(rt: &Host<impl Abort>, pool: &mut Pool<R, u64>, gate: &Meeting) {
     // Both workers are to sleep first.
     for _ in 0..200_000 {
         thread::yield_now();
     }
     for _ in 0..200 {
-        gate.begin_anew();
-        schedules(&rt, &pool, 0, 1);
-        pool.drain();
+        meets_once(rt, pool, gate);
     }
-    is_number(&rt, "none waits in vain", gate.gave_up(), 0);
-    is_number(
-        &rt,
-        "each made its turns",
-        closes(&rt, &mut pool).turns,
-        800,
-    );
-    rt.end_with_memory();
+    is_number(rt, "none waits in vain", gate.gave_up(), 0);
+    is_number(rt, "each made its turns", closes(rt, pool).turns, 800);
+}
+
+/// The first machine is scheduled, and all rest once drained.
+fn meets_once<R: Runtime>(rt: &Host<impl Abort>, pool: &Pool<R, u64>, gate: &Meeting) {
+    gate.begin_anew();
+    schedules(rt, pool, 0, 1);
+    pool.drain();
 }
 
 #[test]
@@ -177,17 +208,21 @@ fn what_was_woken_is_served_before_more_is(rt: HostRuntime) {
     let machines = Flood::new(rt.alloc(), 200).expect(&rt, "machines");
     let gate = Silent::new(rt.alloc()).expect(&rt, "a gate");
     let mut pool = started(&rt, threads, 1, &machines, &gate);
-    schedules(&rt, &pool, 0, 1);
-    waits_until_woken(&machines, 200);
-    let end = closes(&rt, &mut pool);
-    is_count(&rt, "all are left", end.left.len(), 201);
-    is_number(
-        &rt,
-        "the first had its turn at once",
-        machines.served_at(),
-        1,
-    );
+    serves_the_first_at_once(&rt, &mut pool, &machines);
     rt.end_with_memory();
+}
+
+/// The machine that was woken first is served before two hundred are.
+fn serves_the_first_at_once<R: Runtime>(
+    rt: &Host<impl Abort>,
+    pool: &mut Pool<R, u64>,
+    machines: &Flood,
+) {
+    schedules(rt, pool, 0, 1);
+    waits_until_woken(machines, 200);
+    is_count(rt, "all are left", closes(rt, pool).left.len(), 201);
+    let first = machines.served_at();
+    is_number(rt, "the first had its turn at once", first, 1);
 }
 
 /// A ring goes round so many times, so many turns each time. Whoever drains the pool finds it at its end.
@@ -204,14 +239,23 @@ fn goes_to_its_end<R: Runtime>(
     let gate = Silent::new(rt.alloc()).expect(rt, "a gate");
     let mut pool = started(rt, threads, workers, &ring, &gate);
     for _ in 0..rounds {
-        ring.begin_anew(turns);
-        schedules(rt, &pool, 0, 1);
-        pool.drain();
-        is_number(rt, "no turn is left once drained", ring.left(), 0);
+        goes_once(rt, &pool, &ring, turns);
     }
-    let end = closes(rt, &mut pool);
     let all = turns.saturating_mul(u64::from(rounds));
-    is_number(rt, "so many turns were made", end.turns, all);
+    ends_at(rt, &closes(rt, &mut pool), all);
+}
+
+/// A ring goes round once.
+fn goes_once<R: Runtime>(rt: &Host<impl Abort>, pool: &Pool<R, u64>, ring: &Ring, turns: u64) {
+    ring.begin_anew(turns);
+    schedules(rt, pool, 0, 1);
+    pool.drain();
+    is_number(rt, "no turn is left once drained", ring.left(), 0);
+}
+
+/// Looks that so many turns were made, and that no token is left.
+fn ends_at(rt: &impl Abort, end: &PoolEnd<u64>, turns: u64) {
+    is_number(rt, "so many turns were made", end.turns, turns);
     holds(rt, "no token is left", end.left.is_empty());
 }
 
@@ -263,11 +307,16 @@ fn a_close_hands_out_what_is_carried(rt: HostRuntime) {
     let mut pool = started(&rt, threads, 3, &mail, &gate);
     schedules(&rt, &pool, 0, 10);
     waits_until_carried(&mail, 3);
-    let end = closes(&rt, &mut pool);
-    pool.drain();
-    three_are_carried(&rt, &mail, &end);
-    closes_again(&rt, &mut pool, end.turns);
+    hands_out_three(&rt, &mut pool, &mail);
     rt.end_with_memory();
+}
+
+/// A pool of three workers is closed, each of which carries a message, and drained, and closed again.
+fn hands_out_three<R: Runtime>(rt: &Host<impl Abort>, pool: &mut Pool<R, u64>, mail: &Mail) {
+    let end = closes(rt, pool);
+    pool.drain();
+    three_are_carried(rt, mail, &end);
+    closes_again(rt, pool, end.turns);
 }
 
 /// A pool is closed while a hundred senders send 2,000 messages. No message is lost.
@@ -340,18 +389,40 @@ fn a_token_stays_with_the_worker_that_carries(rt: HostRuntime) {
     let (_inlet, mut all) = workers(&rt, 2);
     let mut other = all.pop().expect(&rt, "a second worker");
     let mut own = all.pop().expect(&rt, "a first worker");
-    let put = own.lane.put_local(token(0));
-    same(&rt, "it gets a token", &put, &Ok(()));
-    goes_on(&rt, &wait, &mut own, &mail, "its message is refused");
-    holds(&rt, "it carries it", own.transit.message.is_some());
-    keeps_token(&rt, &wait, &own, &mut other);
-    goes_on(&rt, &wait, &mut own, &mail, "its message is delivered");
-    carries_what_was_woken(&rt, &mut own);
-    keeps_token(&rt, &wait, &own, &mut other);
-    goes_on(&rt, &wait, &mut own, &mail, "the sender rests");
-    is_token(&rt, "the hand is empty", own.hand, None);
-    is_number(&rt, "one arrived", mail.delivered(), 1);
+    carries(&rt, &wait, &mut own, &mut other, &mail);
+    delivers_and_rests(&rt, &wait, &mut own, &mut other, &mail);
     rt.end_with_memory();
+}
+
+/// A worker gets the sender's token, and carries its message, which is refused.
+fn carries(
+    rt: &Host<impl Abort>,
+    wait: &impl Wait,
+    own: &mut Worker<u64>,
+    other: &mut Worker<u64>,
+    mail: &Mail,
+) {
+    let put = own.lane.put_local(token(0));
+    same(rt, "it gets a token", &put, &Ok(()));
+    goes_on(rt, wait, own, mail, "its message is refused");
+    holds(rt, "it carries it", own.transit.message.is_some());
+    keeps_token(rt, wait, own, other);
+}
+
+/// The message that a worker carries is delivered, and then the sender rests.
+fn delivers_and_rests(
+    rt: &Host<impl Abort>,
+    wait: &impl Wait,
+    own: &mut Worker<u64>,
+    other: &mut Worker<u64>,
+    mail: &Mail,
+) {
+    goes_on(rt, wait, own, mail, "its message is delivered");
+    carries_what_was_woken(rt, own);
+    keeps_token(rt, wait, own, other);
+    goes_on(rt, wait, own, mail, "the sender rests");
+    is_token(rt, "the hand is empty", own.hand, None);
+    is_number(rt, "one arrived", mail.delivered(), 1);
 }
 
 #[test]
@@ -359,22 +430,23 @@ fn a_message_in_the_hand_is_served_first(rt: HostRuntime) {
     let rt = Host::with_memory(rt);
     let mail = Mail::new(rt.alloc(), 1, 1, 2, 1).expect(&rt, "machines");
     let mut hand = Hand::new();
-    is_token(
-        &rt,
-        "the token comes back with a message",
-        serve_one(&*mail, token(0), 5, &mut hand),
-        Some(token(0)),
-    );
+    comes_back(&rt, &mail, &mut hand, "the token comes back with a message");
     is_number(&rt, "one is carried", mail.carried(), 1);
-    hand.woken = None;
-    is_token(
-        &rt,
-        "the token comes back without one",
-        serve_one(&*mail, token(0), 5, &mut hand),
-        Some(token(0)),
-    );
-    is_number(&rt, "it was delivered", mail.delivered(), 1);
-    is_number(&rt, "none is carried", mail.carried(), 0);
-    is_number(&rt, "one waits", mail.waiting(), 1);
+    comes_back(&rt, &mail, &mut hand, "the token comes back without one");
+    one_of_two_was_delivered(&rt, &mail);
     rt.end_with_memory();
+}
+
+/// The sender's token is served with nothing woken in the hand, and comes back.
+fn comes_back(rt: &impl Abort, mail: &Mail, hand: &mut Hand<u64>, word: &str) {
+    hand.woken = None;
+    let back = serve_one(mail, token(0), 5, hand);
+    is_token(rt, word, back, Some(token(0)));
+}
+
+/// Looks that of two messages one was delivered, and that the other waits.
+fn one_of_two_was_delivered(rt: &impl Abort, mail: &Mail) {
+    is_number(rt, "it was delivered", mail.delivered(), 1);
+    is_number(rt, "none is carried", mail.carried(), 0);
+    is_number(rt, "one waits", mail.waiting(), 1);
 }

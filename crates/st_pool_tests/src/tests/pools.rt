@@ -2,8 +2,8 @@
 use super::counted::{Counted, token};
 use super::host::{Host, holds, is_count, is_number, same};
 use super::silent::Silent;
-use super::started::{are_left, closes, closes_again, schedules, started};
-use st_pool::{Pool, PutRefused, Runtime, Scheduler, Wake};
+use super::started::{closes, leaves_all, schedules, started};
+use st_pool::{Pool, PoolEnd, PutRefused, Runtime, Scheduler, Wake};
 use std::process::Abort;
 use std::sync::Wait;
 use std::thread;
@@ -17,10 +17,15 @@ fn serves_a_thousand<R: Runtime>(
 ) {
     schedules(rt, pool, 0, 500);
     for slot in 500..1_000 {
-        let woken = scheduler.wake(wait, token(slot)) == Ok(());
-        holds(rt, "each is woken", woken);
+        is_woken(rt, wait, scheduler, slot);
     }
     pool.drain();
+}
+
+/// A scheduler wakes the token of a slot.
+fn is_woken(rt: &impl Abort, wait: &impl Wait, scheduler: &Scheduler, slot: usize) {
+    let woken = scheduler.wake(wait, token(slot));
+    same(rt, "each is woken", &woken, &Ok(()));
 }
 
 /// Looks that each of so many machines made ten turns.
@@ -33,7 +38,11 @@ fn made_ten_turns(rt: &impl Abort, machines: &Counted, count: usize) {
 
 /// Closes a pool, whose workers made so many turns and left no token.
 fn has_made<R: Runtime>(rt: &Host<impl Abort>, pool: &mut Pool<R, u64>, turns: u64) {
-    let end = closes(rt, pool);
+    is_end(rt, &closes(rt, pool), turns);
+}
+
+/// Looks that so many turns were made, and that no token is left.
+fn is_end(rt: &impl Abort, end: &PoolEnd<u64>, turns: u64) {
     is_number(rt, "the workers made all turns", end.turns, turns);
     holds(rt, "none is left", end.left.is_empty());
 }
@@ -42,6 +51,25 @@ fn has_made<R: Runtime>(rt: &Host<impl Abort>, pool: &mut Pool<R, u64>, turns: u
 fn wakes_none(rt: &impl Abort, wait: &impl Wait, scheduler: &Scheduler, word: &str) {
     let late = token(3);
     same(rt, word, &scheduler.wake(wait, late), &Err(late));
+}
+
+/// A pool that has served a thousand is closed, and takes no token any more.
+fn ends<R: Runtime>(
+    rt: &Host<impl Abort>,
+    wait: &impl Wait,
+    pool: &mut Pool<R, u64>,
+    scheduler: &Scheduler,
+) {
+    has_made(rt, pool, 10_000);
+    wakes_none(rt, wait, scheduler, "a closed pool wakes none");
+    let late = token(3);
+    let refused = pool.schedule(late);
+    same(
+        rt,
+        "a closed pool schedules none",
+        &refused,
+        &Err(PutRefused(late)),
+    );
 }
 
 #[test]
@@ -54,15 +82,7 @@ fn a_thousand_machines_make_ten_turns_each(rt: HostRuntime) {
     let scheduler = pool.scheduler().expect(&rt, "a scheduler");
     serves_a_thousand(&rt, &threads, &pool, &scheduler);
     made_ten_turns(&rt, &machines, 1_000);
-    has_made(&rt, &mut pool, 10_000);
-    wakes_none(&rt, &threads, &scheduler, "a closed pool wakes none");
-    let late = token(3);
-    same(
-        &rt,
-        "a closed pool schedules none",
-        &pool.schedule(late),
-        &Err(PutRefused(late)),
-    );
+    ends(&rt, &threads, &mut pool, &scheduler);
     drop(pool);
     wakes_none(&rt, &threads, &scheduler, "a pool that is gone wakes none");
     rt.end_with_memory();
@@ -103,11 +123,7 @@ fn tokens_that_never_rest_are_left_once_each(rt: HostRuntime) {
     let machines = Counted::endless(rt.alloc(), 10).expect(&rt, "machines");
     let gate = Silent::new(rt.alloc()).expect(&rt, "a gate");
     let mut pool = started(&rt, threads, 3, &machines, &gate);
-    schedules(&rt, &pool, 0, 10);
-    let end = closes(&rt, &mut pool);
-    pool.drain();
-    are_left(&rt, &end, 10);
-    closes_again(&rt, &mut pool, end.turns);
+    leaves_all(&rt, &mut pool, 10);
     rt.end_with_memory();
 }
 
@@ -135,12 +151,7 @@ fn a_cold_token_is_served_beside_more_hot_ones_than_workers(rt: HostRuntime) {
     let machines = Counted::endless(rt.alloc(), 7).expect(&rt, "machines");
     let gate = Silent::new(rt.alloc()).expect(&rt, "a gate");
     let mut pool = started(&rt, threads, 2, &machines, &gate);
-    schedules(&rt, &pool, 0, 6);
-    waits_for_turns(&machines, 0, 1_000);
-    waits_for_turns(&machines, 1, 1_000);
-    schedules(&rt, &pool, 6, 7);
-    waits_for_turns(&machines, 6, 0);
-    holds(&rt, "the cold one is served", machines.turns_of(6) > 0);
+    serves_a_cold_one(&rt, &pool, &machines);
     made_a_turn(&rt, &machines, 6);
     is_count(
         &rt,
@@ -149,6 +160,16 @@ fn a_cold_token_is_served_beside_more_hot_ones_than_workers(rt: HostRuntime) {
         7,
     );
     rt.end_with_memory();
+}
+
+/// Six hot tokens are scheduled, and a cold one once two of them made their turns, which is served too.
+fn serves_a_cold_one<R: Runtime>(rt: &Host<impl Abort>, pool: &Pool<R, u64>, machines: &Counted) {
+    schedules(rt, pool, 0, 6);
+    waits_for_turns(machines, 0, 1_000);
+    waits_for_turns(machines, 1, 1_000);
+    schedules(rt, pool, 6, 7);
+    waits_for_turns(machines, 6, 0);
+    holds(rt, "the cold one is served", machines.turns_of(6) > 0);
 }
 
 #[test]
@@ -160,10 +181,15 @@ fn a_pool_that_is_let_go_ends_its_threads(rt: HostRuntime) {
     let pool = started(&rt, threads, 2, &machines, &gate);
     schedules(&rt, &pool, 0, 4);
     drop(pool);
+    makes_no_turn(&rt, &machines);
+    rt.end_with_memory();
+}
+
+/// Looks that the first machine makes no turn meanwhile.
+fn makes_no_turn(rt: &impl Abort, machines: &Counted) {
     let turns = machines.turns_of(0);
     for _ in 0..1_000 {
         thread::yield_now();
     }
-    is_number(&rt, "no turn is made any more", machines.turns_of(0), turns);
-    rt.end_with_memory();
+    is_number(rt, "no turn is made any more", machines.turns_of(0), turns);
 }

@@ -71,7 +71,11 @@ pub fn closes<R: Runtime>(rt: &Host<impl Abort>, pool: &mut Pool<R, u64>) -> Poo
 
 /// Closes a pool for the second time: so many turns were made, as at the first, and nothing is left any more.
 pub fn closes_again<R: Runtime>(rt: &Host<impl Abort>, pool: &mut Pool<R, u64>, turns: u64) {
-    let again = closes(rt, pool);
+    is_second_end(rt, &closes(rt, pool), turns);
+}
+
+/// Looks that a second close counts so many turns, and that nothing is left.
+fn is_second_end(rt: &impl Abort, again: &PoolEnd<u64>, turns: u64) {
     is_number(
         rt,
         "the second close counts the same turns",
@@ -82,6 +86,16 @@ pub fn closes_again<R: Runtime>(rt: &Host<impl Abort>, pool: &mut Pool<R, u64>, 
     holds(rt, "the second close finds none left", left);
     let carried = again.carried.is_empty();
     holds(rt, "the second close finds none carried", carried);
+}
+
+/// Schedules so many tokens of machines that never rest, and closes the pool: each is left once. Then it is drained at once,
+/// and closes again.
+pub fn leaves_all<R: Runtime>(rt: &Host<impl Abort>, pool: &mut Pool<R, u64>, count: usize) {
+    schedules(rt, pool, 0, count);
+    let end = closes(rt, pool);
+    pool.drain();
+    are_left(rt, &end, count);
+    closes_again(rt, pool, end.turns);
 }
 
 /// Looks that the tokens of so many slots are left, each once, and no others.

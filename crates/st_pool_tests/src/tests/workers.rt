@@ -13,6 +13,11 @@ use std::sync::Wait;
 pub fn workers(rt: &Host<impl Abort + AllocGlobal>, count: usize) -> (Inlet, Vec<Worker<u64>>) {
     let inlet = Inlet::new(rt.alloc()).expect(rt, "a shared queue");
     let all = Seats::for_workers(rt.alloc(), &inlet, count).expect(rt, "seats");
+    (inlet, seated(rt, all))
+}
+
+/// A worker on each of these seats.
+fn seated(rt: &Host<impl Abort + AllocGlobal>, all: Vec<Seats>) -> Vec<Worker<u64>> {
     let mut workers = Vec::new(rt.alloc());
     for seats in all {
         let number = workers.len();
@@ -20,7 +25,7 @@ pub fn workers(rt: &Host<impl Abort + AllocGlobal>, count: usize) -> (Inlet, Vec
             .push(Worker::new(number, seats))
             .expect(rt, "a place");
     }
-    (inlet, workers)
+    workers
 }
 
 /// A worker in whose hand no woken token is goes one round.

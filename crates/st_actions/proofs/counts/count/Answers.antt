@@ -1,7 +1,7 @@
 use Rattle.std.proofs.Common.{◌≡◌, ◌+◌, ◌-◌, refl, arith}
 use Rattle.std.proofs.lemmas.List.{drop_all}
 use Rattle.st_actions.proofs.CountLemmas.{all_counted}
-use Rattle.st_actions.proofs.Given.{given}
+use Rattle.st_events.proofs.Given.{given}
 use Rattle.st_actions.proofs.counts.count.Goals as goal
 
 -- the list is the caller's, and so is its layout

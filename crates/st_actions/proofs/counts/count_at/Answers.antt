@@ -1,6 +1,6 @@
 use Rattle.std.proofs.Common.{sym}
 use Rattle.st_actions.proofs.CountLemmas.{drop_there}
-use Rattle.st_actions.proofs.Given.{given}
+use Rattle.st_events.proofs.Given.{given}
 use Rattle.st_actions.proofs.counts.count_at.Goals as goal
 
 pub returns-in-Some-clause-counted : goal.returns-in-Some-clause-counted

@@ -3,7 +3,7 @@ use Rattle.std.proofs.lemmas.List.{take_all}
 use Rattle.st_actions.specs.Joined.{is_set_by}
 use Rattle.st_actions.specs.Noted.{is_noted, room}
 use Rattle.st_actions.proofs.JoinLemmas.{one_more_noted, is_there}
-use Rattle.st_actions.proofs.Given.{given}
+use Rattle.st_events.proofs.Given.{given}
 use Rattle.st_actions.proofs.joining.timers_of.Goals as goal
 use Rattle.st_actions.proofs.joining.timers_of.Goals.{in-Some, in_default}
 

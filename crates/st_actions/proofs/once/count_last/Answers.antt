@@ -1,7 +1,7 @@
 use Rattle.std.proofs.Common.{◌≤◌, length, refl, arith}
 use Rattle.st_actions.specs.Taking.{all_settings_of}
 use Rattle.st_actions.proofs.KeptLemmas.{one_is_last}
-use Rattle.st_actions.proofs.Given.{given}
+use Rattle.st_events.proofs.Given.{given}
 use Rattle.std.proofs.lemmas.Result.{err_from_is_err_and}
 use Rattle.st_actions.proofs.once.count_last.Goals as goal
 

@@ -4,7 +4,7 @@ use Rattle.std.proofs.lemmas.Bool.{not-true, not-false}
 use Rattle.st_actions.specs.Noted.{is_noted}
 use Rattle.st_actions.specs.Once.{overrides}
 use Rattle.st_actions.proofs.KeptLemmas.{overrides_is, sets_is}
-use Rattle.st_actions.proofs.Given.{given}
+use Rattle.st_events.proofs.Given.{given}
 use Rattle.st_actions.proofs.once.keep_at.Goals as goal
 
 -- the timer was noted

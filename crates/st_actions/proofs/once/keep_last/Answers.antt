@@ -4,7 +4,7 @@ use Rattle.st_actions.specs.Plan.{replies_of, inserts_of, sends_of, postpone_or,
 use Rattle.st_actions.specs.Taking.{all_settings_of, as_reply, as_insert, as_send}
 use Rattle.st_actions.proofs.TakingLemmas.{replies_are, inserts_are, sends_are, setting_is_no_reply, setting_is_no_insert, setting_is_no_send}
 use Rattle.st_actions.proofs.KeptLemmas.{front_kept, settings_kept_at, noted_at, others_kept, postpone_kept, length_kept}
-use Rattle.st_actions.proofs.Given.{given}
+use Rattle.st_events.proofs.Given.{given}
 use Rattle.std.proofs.lemmas.Result.{err_from_is_err_and}
 use Rattle.st_actions.proofs.once.keep_last.Goals as goal
 

@@ -1,4 +1,4 @@
-use Rattle.st_actions.proofs.Given.{given}
+use Rattle.st_events.proofs.Given.{given}
 use Rattle.std.proofs.Common.{refl}
 use Rattle.st_actions.proofs.once.timer_at.Goals as goal
 

@@ -1,4 +1,4 @@
-use Rattle.st_actions.proofs.Given.{given}
+use Rattle.st_events.proofs.Given.{given}
 use Rattle.st_actions.proofs.taking.is_setting_at.Goals as goal
 
 -- the list is the caller's, and so is its layout

@@ -3,7 +3,7 @@ use Rattle.st_events.specs.declared.action.Action.TheVariants.{Hibernate}
 use Rattle.st_actions.specs.Plan.{replies_of, inserts_of, sends_of}
 use Rattle.st_actions.specs.Taking.{all_settings_of, as_reply, as_insert, as_setting, as_send}
 use Rattle.st_actions.proofs.TakingLemmas.{none_at, some_at, other_out, last_taken, none_behind, none_behind_out, replies_are, inserts_are, settings_are, sends_are, insert_is_no_reply, insert_is_no_setting, insert_is_no_send}
-use Rattle.st_actions.proofs.Given.{given}
+use Rattle.st_events.proofs.Given.{given}
 use Rattle.std.proofs.lemmas.List.{length-set}
 use Rattle.st_actions.proofs.taking.take_insert.Goals as goal
 

@@ -3,7 +3,7 @@ use Rattle.st_events.specs.declared.action.Action.TheVariants.{Hibernate}
 use Rattle.st_actions.specs.Plan.{replies_of, inserts_of, sends_of}
 use Rattle.st_actions.specs.Taking.{all_settings_of, as_reply, as_insert, as_setting, as_send}
 use Rattle.st_actions.proofs.TakingLemmas.{none_at, some_at, other_out, first_taken, none_in_front, none_in_front_out, replies_are, inserts_are, settings_are, sends_are, reply_is_no_insert, reply_is_no_setting, reply_is_no_send}
-use Rattle.st_actions.proofs.Given.{given}
+use Rattle.st_events.proofs.Given.{given}
 use Rattle.std.proofs.lemmas.List.{length-set}
 use Rattle.st_actions.proofs.taking.take_reply.Goals as goal
 

@@ -3,7 +3,7 @@ use Rattle.st_events.specs.declared.action.Action.TheVariants.{Hibernate}
 use Rattle.st_actions.specs.Plan.{sends_of}
 use Rattle.st_actions.specs.Taking.{as_send}
 use Rattle.st_actions.proofs.TakingLemmas.{none_at, first_taken, none_in_front, none_in_front_out, sends_are}
-use Rattle.st_actions.proofs.Given.{given}
+use Rattle.st_events.proofs.Given.{given}
 use Rattle.std.proofs.lemmas.List.{length-set}
 use Rattle.st_actions.proofs.taking.take_send.Goals as goal
 

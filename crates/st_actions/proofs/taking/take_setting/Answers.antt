@@ -3,7 +3,7 @@ use Rattle.st_events.specs.declared.action.Action.TheVariants.{Hibernate}
 use Rattle.st_actions.specs.Plan.{sends_of}
 use Rattle.st_actions.specs.Taking.{all_settings_of, as_setting, as_send}
 use Rattle.st_actions.proofs.TakingLemmas.{none_at, some_at, first_taken, other_out, none_in_front, none_in_front_out, settings_are, sends_are, setting_is_no_send}
-use Rattle.st_actions.proofs.Given.{given}
+use Rattle.st_events.proofs.Given.{given}
 use Rattle.std.proofs.lemmas.List.{length-set}
 use Rattle.st_actions.proofs.taking.take_setting.Goals as goal
 

@@ -1,6 +1,6 @@
-use Rattle.std.proofs.Common.{◌++◌, ap, ◌∙◌, rules}
+use Rattle.std.proofs.Common.{◌++◌, ap, ◌∙◌}
 use Rattle.st_actions.specs.Joined.{as_actions}
-use Rattle.st_agenda.proofs.Given.{given}
+use Rattle.st_events.proofs.Given.{given}
 use Rattle.st_core.proofs.AddedLemmas.{action_in, actions_in}
 use Rattle.st_core.proofs.added.add_actions.Goals as goal
 

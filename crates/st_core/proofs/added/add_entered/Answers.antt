@@ -1,5 +1,5 @@
-use Rattle.std.proofs.Common.{sym, append-nil, rules}
-use Rattle.st_agenda.proofs.Given.{given}
+use Rattle.std.proofs.Common.{sym, append-nil}
+use Rattle.st_events.proofs.Given.{given}
 use Rattle.st_core.proofs.AddedLemmas.{enter-replies}
 use Rattle.st_core.proofs.added.add_entered.Goals as goal
 

@@ -1,6 +1,6 @@
-use Rattle.std.proofs.Common.{◌++◌, ap, ◌∙◌, rules}
+use Rattle.std.proofs.Common.{◌++◌, ap, ◌∙◌}
 use Rattle.st_core.specs.Callbacks.{reply_actions}
-use Rattle.st_agenda.proofs.Given.{given}
+use Rattle.st_events.proofs.Given.{given}
 use Rattle.st_core.proofs.AddedLemmas.{reply_in, replies_in}
 use Rattle.st_core.proofs.added.add_replies.Goals as goal
 

@@ -1,39 +1,39 @@
-use Rattle.std.proofs.Common.{ap, sym, refl, ◌∙◌, inr, false, length, arith, rules}
+use Rattle.std.proofs.Common.{ap, sym, refl, ◌∙◌, inr, false, length, arith}
 use Rattle.std.proofs.lemmas.Bool.{leb-true}
 use Rattle.st_actions.specs.Plan.{inserts_of}
 use Rattle.st_core.specs.Transition.{decisions_of}
-use Rattle.st_agenda.proofs.Given.{given}
+use Rattle.st_events.proofs.Given.{given}
 use Rattle.st_core.proofs.TransitionLemmas.{numbers-numbered, enough_for_inserts, fewer_inserts, first_false, second_false}
 use Rattle.st_core.proofs.prepared.prepare.Goals as goal
 use Rattle.st_core.proofs.prepared.prepare.Goals.{then-not-has_numbers-via-then-not-has_numbers, then-not-has_numbers-via-else-not-has_numbers+then-not-has_message_numbers}
 
--- there is a place for the tag of each reply
-pub returns-clause-replies : goal.returns-clause-replies
-returns-clause-replies g c =
-    let same = ap length c.count_last.ensures.same_replies in
-    omega (arith, same, c.in_ok-counts.ensures.counted.replies, c.in_ok-reserve_exact.ensures.ok)
-
-pub returns-clause-inserted : goal.returns-clause-inserted
-returns-clause-inserted g c =
-    rw (c.in_ok-note_numbers.ensures, c.next_number-next.ensures.next_number, c.in_ok-counts.ensures.counted.inserts, c.count_last.ensures.same_inserts)
-    (sym (numbers-numbered c.args.agenda.now.schedule.next_number (inserts_of c.args.actions.now)))
-
--- the numbers of what is sent are noted
-pub returns-clause-sent : goal.returns-clause-sent
-returns-clause-sent g c =
-    rw (c.in_ok-prepare_sends.ensures.sent, c.in_ok-counts.ensures.counted.sends, c.count_last.ensures.same_sends) refl
-
-pub returns-clause-places : goal.returns-clause-places
-returns-clause-places g c =
-    let same = ap length c.count_last.ensures.same_sends in
-    omega (arith, same, c.in_ok-counts.ensures.counted.sends, c.in_ok-prepare_sends.ensures.places)
-
-pub returns-clause-postpone : goal.returns-clause-postpone
-returns-clause-postpone g c = sym (c.in_ok-counts.ensures.counted.postpone false) ∙ c.count_last.ensures.same_postpone false
+-- all is ready
+pub returns-clause-prepared : goal.returns-clause-prepared
+returns-clause-prepared g c =
+    let counted = c.in_ok-counts.ensures.counted in
+    let inserts = ap length c.count_last.ensures.same_inserts in
+    let sends = ap length c.count_last.ensures.same_sends in
+    record {
+      counted = counted;
+      postpone = sym (counted.postpone false) ∙ c.count_last.ensures.same_postpone false;
+      last = c.in_ok-counts.ensures.last;
+      numbers = rw (c.count_last.ensures.same_inserts, c.in_ok-counts.ensures.last) at (sym c.has_numbers.ensures ∙ c.if-not-has_numbers.false);
+      message_numbers = rw (counted.sends, c.count_last.ensures.same_sends) at (sym c.has_message_numbers.ensures ∙ c.if-not-has_message_numbers.false);
+      replied = c.in_ok-reserve_exact.ensures.items ∙ c.requires.empty.replied;
+      replies = let replies = ap length c.count_last.ensures.same_replies in omega (arith, replies, counted.replies, c.in_ok-reserve_exact.ensures.ok);
+      inserted =
+          rw (c.in_ok-note_numbers.ensures, c.next_number-next.ensures.next_number, counted.inserts, c.count_last.ensures.same_inserts)
+          (sym (numbers-numbered c.args.agenda.now.schedule.next_number (inserts_of c.args.actions.now)));
+      set = c.in_ok-note_decisions.ensures ∙ ap decisions_of c.in_ok-counts.ensures.last;
+      sent = rw (c.in_ok-prepare_sends.ensures.sent, counted.sends, c.count_last.ensures.same_sends) refl;
+      staged = omega (arith, inserts, counted.inserts, c.in_ok-reserve_for.ensures.staged);
+      reserved = let settings = ap length c.in_ok-counts.ensures.last in omega (arith, settings, counted.settings, c.in_ok-reserve_for.ensures.reserved);
+      places = omega (arith, sends, counted.sends, c.in_ok-prepare_sends.ensures.places);
+    }
 
 -- too few numbers are left, for events and time-outs or for messages
-pub returns-then-not-has_numbers-clause-refusals : goal.returns-then-not-has_numbers-clause-refusals
-returns-then-not-has_numbers-clause-refusals g c =
+pub returns-then-not-has_numbers-clause-prepared : goal.returns-then-not-has_numbers-clause-prepared
+returns-then-not-has_numbers-clause-prepared g c =
     inr (
       refl,
       elim c.then-not-has_numbers.branch [
@@ -71,31 +71,83 @@ count_last-requires g c = search given
 pub has_numbers-requires : goal.has_numbers-requires
 has_numbers-requires g c = (search given, c.in_ok-counts.ensures.counted)
 
--- the actions are those that were counted
-pub returns-clause-counted : goal.returns-clause-counted
-returns-clause-counted g c = c.in_ok-counts.ensures.counted
+-- nothing has changed, and the same is asked for
+pub returns-in_err-counts-clause-same : goal.returns-in_err-counts-clause-same
+returns-in_err-counts-clause-same g c = record {
+  replies = c.count_last.ensures.same_replies;
+  inserts = c.count_last.ensures.same_inserts;
+  sends = c.count_last.ensures.same_sends;
+  calls = refl;
+  outbox = refl;
+  schedule = refl;
+}
 
-pub returns-clause-last : goal.returns-clause-last
-returns-clause-last g c = c.in_ok-counts.ensures.last
+pub returns-then-not-has_numbers-clause-same : goal.returns-then-not-has_numbers-clause-same
+returns-then-not-has_numbers-clause-same g c = record {
+  replies = c.count_last.ensures.same_replies;
+  inserts = c.count_last.ensures.same_inserts;
+  sends = c.count_last.ensures.same_sends;
+  calls = refl;
+  outbox = refl;
+  schedule = refl;
+}
 
-pub returns-clause-numbers : goal.returns-clause-numbers
-returns-clause-numbers g c = rw (c.count_last.ensures.same_inserts, c.in_ok-counts.ensures.last) at (sym c.has_numbers.ensures ∙ c.if-not-has_numbers.false)
+pub returns-in_err-reserve_exact-clause-same : goal.returns-in_err-reserve_exact-clause-same
+returns-in_err-reserve_exact-clause-same g c = record {
+  replies = c.count_last.ensures.same_replies;
+  inserts = c.count_last.ensures.same_inserts;
+  sends = c.count_last.ensures.same_sends;
+  calls = refl;
+  outbox = refl;
+  schedule = refl;
+}
 
-pub returns-clause-message_numbers : goal.returns-clause-message_numbers
-returns-clause-message_numbers g c = rw (c.in_ok-counts.ensures.counted.sends, c.count_last.ensures.same_sends) at (sym c.has_message_numbers.ensures ∙ c.if-not-has_message_numbers.false)
+pub returns-in_err-note_numbers-clause-same : goal.returns-in_err-note_numbers-clause-same
+returns-in_err-note_numbers-clause-same g c = record {
+  replies = c.count_last.ensures.same_replies;
+  inserts = c.count_last.ensures.same_inserts;
+  sends = c.count_last.ensures.same_sends;
+  calls = refl;
+  outbox = refl;
+  schedule = refl;
+}
 
-pub returns-clause-replied : goal.returns-clause-replied
-returns-clause-replied g c = c.in_ok-reserve_exact.ensures.items ∙ c.requires.empty.replied
+pub returns-in_err-note_decisions-clause-same : goal.returns-in_err-note_decisions-clause-same
+returns-in_err-note_decisions-clause-same g c = record {
+  replies = c.count_last.ensures.same_replies;
+  inserts = c.count_last.ensures.same_inserts;
+  sends = c.count_last.ensures.same_sends;
+  calls = refl;
+  outbox = refl;
+  schedule = refl;
+}
 
-pub returns-clause-set : goal.returns-clause-set
-returns-clause-set g c = c.in_ok-note_decisions.ensures ∙ ap decisions_of c.in_ok-counts.ensures.last
+pub returns-in_err-reserve_for-clause-same : goal.returns-in_err-reserve_for-clause-same
+returns-in_err-reserve_for-clause-same g c = record {
+  replies = c.count_last.ensures.same_replies;
+  inserts = c.count_last.ensures.same_inserts;
+  sends = c.count_last.ensures.same_sends;
+  calls = refl;
+  outbox = refl;
+  schedule = c.reserve_for.ensures.unchanged;
+}
 
-pub returns-clause-staged : goal.returns-clause-staged
-returns-clause-staged g c =
-    let same = ap length c.count_last.ensures.same_inserts in
-    omega (arith, same, c.in_ok-counts.ensures.counted.inserts, c.in_ok-reserve_for.ensures.staged)
+pub returns-in_err-prepare_sends-clause-same : goal.returns-in_err-prepare_sends-clause-same
+returns-in_err-prepare_sends-clause-same g c = record {
+  replies = c.count_last.ensures.same_replies;
+  inserts = c.count_last.ensures.same_inserts;
+  sends = c.count_last.ensures.same_sends;
+  calls = refl;
+  outbox = c.prepare_sends.ensures.same_outbox;
+  schedule = c.reserve_for.ensures.unchanged;
+}
 
-pub returns-clause-reserved : goal.returns-clause-reserved
-returns-clause-reserved g c =
-    let same = ap length c.in_ok-counts.ensures.last in
-    omega (arith, same, c.in_ok-counts.ensures.counted.settings, c.in_ok-reserve_for.ensures.reserved)
+pub returns-clause-same : goal.returns-clause-same
+returns-clause-same g c = record {
+  replies = c.count_last.ensures.same_replies;
+  inserts = c.count_last.ensures.same_inserts;
+  sends = c.count_last.ensures.same_sends;
+  calls = refl;
+  outbox = c.prepare_sends.ensures.same_outbox;
+  schedule = c.reserve_for.ensures.unchanged;
+}

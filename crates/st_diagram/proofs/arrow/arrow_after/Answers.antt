@@ -9,4 +9,4 @@ pub returns : goal.returns
 returns g c = c.drawn.ensures
 
 pub drawn-requires : goal.drawn-requires
-drawn-requires g c = c.requires.outcome_fits
+drawn-requires g c = (c.requires.outcome_fits, c.requires.actions_fit)

@@ -22,3 +22,19 @@ returns-in-Stop g c = drawn_as c.ended.result c.args.state c.args.outcome.now _ 
 
 pub returns-in-StopAndReply : goal.returns-in-StopAndReply
 returns-in-StopAndReply g c = drawn_as c.ended-in-StopAndReply.result c.args.state c.args.outcome.now _ c.in-StopAndReply.is c.ended-in-StopAndReply.ensures
+
+-- the actions fit in memory
+pub leads-requires : goal.leads-requires
+leads-requires g c = c.requires.actions_fit
+
+pub leads-requires-in-KeepState : goal.leads-requires-in-KeepState
+leads-requires-in-KeepState g c = c.requires.actions_fit
+
+pub asked-requires : goal.asked-requires
+asked-requires g c = c.requires.actions_fit
+
+pub leads-requires-in-RepeatState : goal.leads-requires-in-RepeatState
+leads-requires-in-RepeatState g c = c.requires.actions_fit
+
+pub leads-requires-in-RepeatStateAndData : goal.leads-requires-in-RepeatStateAndData
+leads-requires-in-RepeatStateAndData g c = c.requires.actions_fit

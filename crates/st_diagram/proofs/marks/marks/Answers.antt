@@ -1,6 +1,7 @@
 use Rattle.std.proofs.Common.{◌≡◌, ◌≤◌, None, length, string_bytes, slice_get, option_copied, sym, ap, ◌∙◌, arith}
 use Rattle.st_diagram.specs.Marks.{mark_of}
 use Rattle.st_diagram.proofs.TextLemmas.{one_found_more, missing_is_past}
+use Rattle.st_events.proofs.Given.{given}
 use Rattle.st_diagram.proofs.marks.marks.Goals.{in-Some+in_ok-push_str, in_default}
 use Rattle.st_diagram.proofs.marks.marks.Goals as goal
 
@@ -18,3 +19,10 @@ loop-index-preserved g c = elim c.match-get.branch [
       let past : length c.args.actions.now ≤ c.loop-index.index = missing_is_past c.args.actions.now c.loop-index.index missing in
       absurd (omega arith)
 ]
+
+-- the layout is a hypothesis
+pub len-index-end-requires : goal.len-index-end-requires
+len-index-end-requires g c = search given
+
+pub get-requires : goal.get-requires
+get-requires g c = search given

@@ -3,6 +3,7 @@ use Rattle.std.proofs.lemmas.List.{take_all}
 use Rattle.std.specs.HashSet.{contains}
 use Rattle.st_pool_core.specs.Opening.{core_id}
 use Rattle.st_scheduled.specs.ScheduledMachine.{same_id}
+use Rattle.st_pool_core.proofs.MessageLemmas.{own_next, lawful_own}
 use Rattle.st_pool_core.proofs.OpeningLemmas.{twice, distinct_each, ids_next, not_false, not_true}
 use Rattle.st_pool_core.proofs.opening.ids_of.Goals as goal
 
@@ -20,11 +21,13 @@ loop-core-preserved g c =
       keys = ids_next c.args.cores.now c.loop-core.core-index c.core-item.result c.loop-core.ids.keys c.insert.new.self.keys c.loop-core-test.true c.core-item.is
           c.loop-core.invariant.keys (rw c.id.ensures at absent) (rw c.id.ensures at c.in_ok-insert.ensures.keys);
       unique = c.insert.ensures.unique;
+      own = own_next c.args.cores.now c.loop-core.core-index c.core-item.result c.loop-core-test.true c.core-item.is c.loop-core.invariant.own
+          (lawful_own c.core-item.result c.a_machine_is_lawful.ensures);
     }
 
 -- all ids, and each is of one machine
 pub returns : goal.returns
 returns g c =
-    let all : c.loop-core.ids.keys ≡ map core_id c.args.cores.now =
-    c.loop-core.invariant.keys ∙ ap (map core_id) (take_all c.loop-core.core-index c.args.cores.now (omega arith)) in
-    (all, distinct_each c.args.cores.now (rw all at c.loop-core.invariant.unique))
+    let whole = take_all c.loop-core.core-index c.args.cores.now (omega arith) in
+    let all : c.loop-core.ids.keys ≡ map core_id c.args.cores.now = c.loop-core.invariant.keys ∙ ap (map core_id) whole in
+    (all, distinct_each c.args.cores.now (rw all at c.loop-core.invariant.unique), rw whole at c.loop-core.invariant.own)

@@ -1,6 +1,6 @@
 use Rattle.st_actions.specs.Plan.{inserts_of}
 use Rattle.st_agenda.proofs.SweepLemmas.{kept_inserted, inserted_is}
-use Rattle.st_agenda.proofs.Given.{given}
+use Rattle.st_events.proofs.Given.{given}
 use Rattle.st_agenda.proofs.agenda.Agenda.insert_all.Goals as goal
 
 pub invariant_of-self : goal.invariant_of-self

@@ -1,6 +1,6 @@
 use Rattle.std.proofs.Common.{◌≡◌, ◌+◌, length, arith}
 use Rattle.st_actions.specs.Plan.{inserts_of}
-use Rattle.st_agenda.proofs.Given.{given}
+use Rattle.st_events.proofs.Given.{given}
 use Rattle.st_agenda.proofs.PendingLemmas.{length-with_inserts, sound_inserted, inserted_is}
 use Rattle.st_agenda.proofs.pending.Pending.insert.Goals as goal
 

@@ -1,5 +1,5 @@
-use Rattle.std.proofs.Common.{◌≡◌, Bool, if◌then◌else◌, refl, ap, sym, ◌∙◌}
-use Rattle.st_core.specs.Callbacks.{callbacks_of, begun_by, begun_with, entered_by}
+use Rattle.std.proofs.Common.{Bool, if◌then◌else◌, refl, ap, sym, ◌∙◌}
+use Rattle.st_core.specs.Callbacks.{callbacks_of, begun_with, entered_by}
 use Rattle.st_core.proofs.StartLemmas.{starts_same}
 use Rattle.st_core.specs.Start.{begun_as}
 use Rattle.st_core.proofs.engine.Core.begin.Goals as goal
@@ -7,21 +7,28 @@ use Rattle.st_core.proofs.engine.Core.begin.Goals as goal
 -- there is an enter call
 pub returns-then-enters : goal.returns-then-enters
 returns-then-enters g c = record {
-  start =
+  start = λ called begun.
       let callbacks = callbacks_of g.M.Module g.M.State.PartialEq.eq c.args.opening.module in
-      let begun = begun_with c.args.state c.args.data c.args.actions in
-      c.begin_entered.ensures.start (begun_by callbacks c.args.state c.args.data c.args.actions)
-      (ap (λ (enters : Bool). if enters then entered_by callbacks c.args.state begun else begun) (sym c.enters.ensures ∙ c.if-enters.true));
+      let alone = begun_with c.args.state c.args.data c.args.actions in
+      c.begin_entered.ensures.start called
+      (begun.called_is ∙ ap (λ (enters : Bool). if enters then entered_by callbacks c.args.state alone else alone) (sym c.enters.ensures ∙ c.if-enters.true));
 }
 
 -- there is none
 pub returns : goal.returns
 returns g c = record {
-  start =
+  start = λ called begun.
       let callbacks = callbacks_of g.M.Module g.M.State.PartialEq.eq c.args.opening.module in
-      let begun = begun_with c.args.state c.args.data c.args.actions in
-      let same : begun_by callbacks c.args.state c.args.data c.args.actions ≡ begun =
-      ap (λ (enters : Bool). if enters then entered_by callbacks c.args.state begun else begun) (sym c.enters.ensures ∙ c.if-enters.false) in
+      let alone = begun_with c.args.state c.args.data c.args.actions in
+      let same = begun.called_is ∙ ap (λ (enters : Bool). if enters then entered_by callbacks c.args.state alone else alone) (sym c.enters.ensures ∙ c.if-enters.false) in
       starts_same _ c.args.opening.module _ (ap (λ called. begun_as callbacks c.args.opening.module c.args.opening.id called c.args.opening.now c.args.opening.first) same)
-      (c.run_from.ensures.start begun (sym (c.new-gathered.ensures.calls ∙ c.new.ensures)) refl);
+      (c.run_from.ensures.start alone (sym (c.new-gathered.ensures.calls ∙ c.new.ensures)) refl);
 }
+
+-- the actions fit in memory, and nothing was gathered yet
+pub begin_entered-requires : goal.begin_entered-requires
+begin_entered-requires g c =
+    (g.met.M.Module.lawful.actions_fit, (c.requires.moment, (c.requires.greatest, (c.new-gathered.ensures.calls ∙ c.new.ensures, c.new-gathered.ensures.empty))))
+
+pub run_from-requires : goal.run_from-requires
+run_from-requires g c = (g.met.M.Module.lawful.actions_fit, (c.requires.moment, (c.requires.greatest, c.new-gathered.ensures.empty)))

@@ -1,9 +1,9 @@
-use Rattle.std.proofs.Common.{◌≡◌, refl, ap, sym, ◌∙◌, inr, rules}
+use Rattle.std.proofs.Common.{◌≡◌, refl, ap, sym, ◌∙◌, inr}
 use Rattle.std.proofs.lemmas.Result.{err_from_is_err_and}
 use Rattle.std.specs.Prelude.{None, Some}
 use Rattle.st_core.specs.Callbacks.{Called, callbacks_of, or_old, entered_as, entered_with}
 use Rattle.st_core.specs.Transition.{with_moment}
-use Rattle.st_agenda.proofs.Given.{given}
+use Rattle.st_events.proofs.Given.{given}
 use Rattle.st_core.proofs.TransitionLemmas.{concluded_takes_memory, goes_on, stops, turns_same, or_old_twice}
 use Rattle.st_core.proofs.engine.Core.enter.Goals as goal
 

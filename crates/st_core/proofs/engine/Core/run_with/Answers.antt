@@ -25,7 +25,7 @@ returns-in-Err g c =
           let machine = first_state c.args.opening.id c.args.state c.args.data c.args.opening.now c.args.opening.first in
           let next : c.new-agenda.result.schedule.next_number ≡ c.args.opening.first = ap (λ (a : Agenda _). a.schedule.next_number) c.new-agenda.ensures in
           let idle : running_on false c.new-agenda.result.schedule ≡ [] = ap (λ (a : Agenda _). running_on false a.schedule) c.new-agenda.ensures in
-          let why = rw (next, idle, c.new-outgoing.ensures) at c.in-Err.ensures.refusals in
+          let why = rw (next, idle, c.new-outgoing.ensures) at c.in-Err.ensures.prepared in
           started_refused _ c.args.opening.module machine called c.in-Err.refusal (rw (same_actions, none_runs called.changed c.args.opening.first) why)
           (rw c.new.ensures refl);
     }
@@ -35,13 +35,13 @@ insert-requires g c =
     let actions = c.args.actions.now in
     let next : c.new-agenda.result.schedule.next_number ≡ c.args.opening.first = ap (λ (a : Agenda _). a.schedule.next_number) c.new-agenda.ensures in
     let idle : running_on false c.new-agenda.result.schedule ≡ [] = ap (λ (a : Agenda _). running_on false a.schedule) c.new-agenda.ensures in
-    let enough = enough_for_all c.args.opening.first (length (inserts_of actions)) (numbers_taken [] (settings_of actions)) (rw (next, idle) at c.in-Ok.ensures.numbers) in
-    let first = ap (λ (s : Schedule _). s.next_number) (c.prepare.ensures.same_schedule ∙ ap (λ (a : Agenda _). a.schedule) c.new-agenda.ensures) in
-    let few = ap length c.prepare.ensures.same_inserts in (
+    let enough = enough_for_all c.args.opening.first (length (inserts_of actions)) (numbers_taken [] (settings_of actions)) (rw (next, idle) at c.in-Ok.ensures.prepared.numbers) in
+    let first = ap (λ (s : Schedule _). s.next_number) (c.prepare.ensures.same.schedule ∙ ap (λ (a : Agenda _). a.schedule) c.new-agenda.ensures) in
+    let few = ap length c.prepare.ensures.same.inserts in (
       g.met.M.Module.lawful.actions_fit,
       (
-        omega (arith, few, c.in-Ok.ensures.counted.inserts),
-        (omega (arith, few, c.in-Ok.ensures.counted.inserts, c.in-Ok.ensures.staged), omega (arith, few, c.in-Ok.ensures.counted.inserts, first, enough)),
+        omega (arith, few, c.in-Ok.ensures.prepared.counted.inserts),
+        (omega (arith, few, c.in-Ok.ensures.prepared.counted.inserts, c.in-Ok.ensures.prepared.staged), omega (arith, few, c.in-Ok.ensures.prepared.counted.inserts, first, enough)),
       ),
     )
 
@@ -50,24 +50,24 @@ set_all-requires g c =
     let actions = c.args.actions.now in
     let next : c.new-agenda.result.schedule.next_number ≡ c.args.opening.first = ap (λ (a : Agenda _). a.schedule.next_number) c.new-agenda.ensures in
     let idle : running_on false c.new-agenda.result.schedule ≡ [] = ap (λ (a : Agenda _). running_on false a.schedule) c.new-agenda.ensures in
-    let enough = enough_for_all c.args.opening.first (length (inserts_of actions)) (numbers_taken [] (settings_of actions)) (rw (next, idle) at c.in-Ok.ensures.numbers) in
-    let settings : all_settings_of c.insert.new.actions ≡ settings_of actions = c.insert.ensures.same_settings ∙ c.in-Ok.ensures.last in
-    let begun = c.prepare.ensures.same_schedule ∙ ap (λ (a : Agenda _). a.schedule) c.new-agenda.ensures in
+    let enough = enough_for_all c.args.opening.first (length (inserts_of actions)) (numbers_taken [] (settings_of actions)) (rw (next, idle) at c.in-Ok.ensures.prepared.numbers) in
+    let settings : all_settings_of c.insert.new.actions ≡ settings_of actions = c.insert.ensures.same_settings ∙ c.in-Ok.ensures.prepared.last in
+    let begun = c.prepare.ensures.same.schedule ∙ ap (λ (a : Agenda _). a.schedule) c.new-agenda.ensures in
     let running : c.insert.new.self.schedule.running ≡ [] = ap (λ (a : Agenda _). a.schedule.running) c.insert.ensures.inserted ∙ ap (λ (s : Schedule _). s.running) begun in
     let kept = ap (λ (a : Agenda _). a.reserved) c.insert.ensures.inserted in
     let more = ap (λ (a : Agenda _). a.schedule.next_number) c.insert.ensures.inserted in
     let first = ap (λ (s : Schedule _). s.next_number) begun in
-    let count = ap length c.prepare.ensures.same_inserts in
-    let settled = ap length c.in-Ok.ensures.last in
+    let count = ap length c.prepare.ensures.same.inserts in
+    let settled = ap length c.in-Ok.ensures.prepared.last in
     rw (settings, running) (
       g.met.M.Module.lawful.actions_fit,
       (
-        omega (arith, settled, c.in-Ok.ensures.counted.settings),
+        omega (arith, settled, c.in-Ok.ensures.prepared.counted.settings),
         (
           c.requires.moment,
           (
             settings_once actions,
-            (omega (arith, settled, c.in-Ok.ensures.counted.settings, kept, c.in-Ok.ensures.reserved), omega (arith, more, first, count, enough)),
+            (omega (arith, settled, c.in-Ok.ensures.prepared.counted.settings, kept, c.in-Ok.ensures.prepared.reserved), omega (arith, more, first, count, enough)),
           ),
         ),
       ),
@@ -77,14 +77,14 @@ set_all-requires g c =
 pub send_each-requires : goal.send_each-requires
 send_each-requires g c =
     let actions = c.args.actions.now in
-    let next = ap (λ (o : Outbox _). o.next_number) (c.prepare.ensures.same_outbox ∙ c.new-outgoing.ensures) in
-    let enough = leb-true (1 + length (sends_of actions)) (2 ^ 63) (rw c.new-outgoing.ensures at c.in-Ok.ensures.message_numbers) in
-    let sends = ap length (c.set_all.ensures.same_sends ∙ (c.insert.ensures.same_sends ∙ c.prepare.ensures.same_sends)) in
-    let counted = ap length c.prepare.ensures.same_sends in (
+    let next = ap (λ (o : Outbox _). o.next_number) (c.prepare.ensures.same.outbox ∙ c.new-outgoing.ensures) in
+    let enough = leb-true (1 + length (sends_of actions)) (2 ^ 63) (rw c.new-outgoing.ensures at c.in-Ok.ensures.prepared.message_numbers) in
+    let sends = ap length (c.set_all.ensures.same_sends ∙ (c.insert.ensures.same_sends ∙ c.prepare.ensures.same.sends)) in
+    let counted = ap length c.prepare.ensures.same.sends in (
       g.met.M.Module.lawful.actions_fit,
       (
-        omega (arith, sends, counted, c.in-Ok.ensures.counted.sends),
-        (omega (arith, counted, c.in-Ok.ensures.counted.sends, c.in-Ok.ensures.places), omega (arith, counted, c.in-Ok.ensures.counted.sends, next, enough)),
+        omega (arith, sends, counted, c.in-Ok.ensures.prepared.counted.sends),
+        (omega (arith, counted, c.in-Ok.ensures.prepared.counted.sends, c.in-Ok.ensures.prepared.places), omega (arith, counted, c.in-Ok.ensures.prepared.counted.sends, next, enough)),
       ),
     )
 
@@ -96,21 +96,21 @@ returns g c =
           let machine = first_state c.args.opening.id c.args.state c.args.data c.args.opening.now c.args.opening.first in
           let next : c.new-agenda.result.schedule.next_number ≡ c.args.opening.first = ap (λ (a : Agenda _). a.schedule.next_number) c.new-agenda.ensures in
           let idle : running_on false c.new-agenda.result.schedule ≡ [] = ap (λ (a : Agenda _). running_on false a.schedule) c.new-agenda.ensures in
-          let settings : all_settings_of c.insert.new.actions ≡ settings_of c.args.actions.now = c.insert.ensures.same_settings ∙ c.in-Ok.ensures.last in
-          let numbers = rw (next, idle) at c.in-Ok.ensures.numbers in
-          let messages = rw c.new-outgoing.ensures at c.in-Ok.ensures.message_numbers in
-          let sends : sends_of c.set_all.new.actions ≡ sends_of c.args.actions.now = c.set_all.ensures.same_sends ∙ (c.insert.ensures.same_sends ∙ c.prepare.ensures.same_sends) in
+          let settings : all_settings_of c.insert.new.actions ≡ settings_of c.args.actions.now = c.insert.ensures.same_settings ∙ c.in-Ok.ensures.prepared.last in
+          let numbers = rw (next, idle) at c.in-Ok.ensures.prepared.numbers in
+          let messages = rw c.new-outgoing.ensures at c.in-Ok.ensures.prepared.message_numbers in
+          let sends : sends_of c.set_all.new.actions ≡ sends_of c.args.actions.now = c.set_all.ensures.same_sends ∙ (c.insert.ensures.same_sends ∙ c.prepare.ensures.same.sends) in
           let told : c.prepare.new.gathered.sent ≡ sent_by machine called.actions =
-          rw same_actions (c.in-Ok.ensures.sent ∙ (ap (λ (o : Outbox _). range_with_len o.next_number (length (sends_of c.args.actions.now))) c.new-outgoing.ensures
+          rw same_actions (c.in-Ok.ensures.prepared.sent ∙ (ap (λ (o : Outbox _). range_with_len o.next_number (length (sends_of c.args.actions.now))) c.new-outgoing.ensures
           ∙ sym (numbers_sent c.args.opening.id 1 (sends_of c.args.actions.now)))) in
-          let inserted : c.prepare.new.gathered.inserted ≡ inserted_by machine called.actions = rw (same_actions, ← next) c.in-Ok.ensures.inserted in
-          let set : c.prepare.new.gathered.set ≡ decisions_of (settings_of called.actions) = rw same_actions c.in-Ok.ensures.set in
+          let inserted : c.prepare.new.gathered.inserted ≡ inserted_by machine called.actions = rw (same_actions, ← next) c.in-Ok.ensures.prepared.inserted in
+          let set : c.prepare.new.gathered.set ≡ decisions_of (settings_of called.actions) = rw same_actions c.in-Ok.ensures.prepared.set in
           let scheduled : c.set_all.new.self.schedule ≡ (with_begun machine called.actions).schedule =
-          rw (c.set_all.ensures.set, c.insert.ensures.inserted, settings, c.prepare.ensures.same_inserts, c.prepare.ensures.same_schedule, c.new-agenda.ensures, same_actions) refl in
-          let sent : c.send_each.new.outgoing.outbox ≡ (with_begun machine called.actions).outbox = rw (c.send_each.ensures, sends, c.prepare.ensures.same_outbox, c.new-outgoing.ensures, same_actions) refl in
+          rw (c.set_all.ensures.set, c.insert.ensures.inserted, settings, c.prepare.ensures.same.inserts, c.prepare.ensures.same.schedule, c.new-agenda.ensures, same_actions) refl in
+          let sent : c.send_each.new.outgoing.outbox ≡ (with_begun machine called.actions).outbox = rw (c.send_each.ensures, sends, c.prepare.ensures.same.outbox, c.new-outgoing.ensures, same_actions) refl in
           started_is _ c.args.opening.module machine called (rw (same_actions, none_runs called.changed c.args.opening.first) (both_true numbers messages))
           (machine_is refl refl refl scheduled c.new-2.ensures sent refl refl)
-          (c.into_report-report.ensures ∙ told_is None c.args.state refl (c.prepare.ensures.same_calls ∙ sym same_calls) refl c.in-Ok.ensures.replied inserted set told);
+          (c.into_report-report.ensures ∙ told_is None c.args.state refl (c.prepare.ensures.same.calls ∙ sym same_calls) refl c.in-Ok.ensures.prepared.replied inserted set told);
     }
 
 -- it can come about
@@ -119,13 +119,13 @@ invariant_of-core g c =
     let actions = c.args.actions.now in
     let next : c.new-agenda.result.schedule.next_number ≡ c.args.opening.first = ap (λ (a : Agenda _). a.schedule.next_number) c.new-agenda.ensures in
     let idle : running_on false c.new-agenda.result.schedule ≡ [] = ap (λ (a : Agenda _). running_on false a.schedule) c.new-agenda.ensures in
-    let enough = enough_for_all c.args.opening.first (length (inserts_of actions)) (numbers_taken [] (settings_of actions)) (rw (next, idle) at c.in-Ok.ensures.numbers) in
-    let settings : all_settings_of c.insert.new.actions ≡ settings_of actions = c.insert.ensures.same_settings ∙ c.in-Ok.ensures.last in
-    let sends : sends_of c.set_all.new.actions ≡ sends_of actions = c.set_all.ensures.same_sends ∙ (c.insert.ensures.same_sends ∙ c.prepare.ensures.same_sends) in
-    let places = leb-true (1 + length (sends_of actions)) (2 ^ 63) (rw c.new-outgoing.ensures at c.in-Ok.ensures.message_numbers) in
+    let enough = enough_for_all c.args.opening.first (length (inserts_of actions)) (numbers_taken [] (settings_of actions)) (rw (next, idle) at c.in-Ok.ensures.prepared.numbers) in
+    let settings : all_settings_of c.insert.new.actions ≡ settings_of actions = c.insert.ensures.same_settings ∙ c.in-Ok.ensures.prepared.last in
+    let sends : sends_of c.set_all.new.actions ≡ sends_of actions = c.set_all.ensures.same_sends ∙ (c.insert.ensures.same_sends ∙ c.prepare.ensures.same.sends) in
+    let places = leb-true (1 + length (sends_of actions)) (2 ^ 63) (rw c.new-outgoing.ensures at c.in-Ok.ensures.prepared.message_numbers) in
     let machine = first_state c.args.opening.id c.args.state c.args.data c.args.opening.now c.args.opening.first in
     let scheduled : c.set_all.new.self.schedule ≡ (with_begun machine actions).schedule =
-    rw (c.set_all.ensures.set, c.insert.ensures.inserted, settings, c.prepare.ensures.same_inserts, c.prepare.ensures.same_schedule, c.new-agenda.ensures) refl in
-    let sent : c.send_each.new.outgoing.outbox ≡ (with_begun machine actions).outbox = rw (c.send_each.ensures, sends, c.prepare.ensures.same_outbox, c.new-outgoing.ensures) refl in
+    rw (c.set_all.ensures.set, c.insert.ensures.inserted, settings, c.prepare.ensures.same.inserts, c.prepare.ensures.same.schedule, c.new-agenda.ensures) refl in
+    let sent : c.send_each.new.outgoing.outbox ≡ (with_begun machine actions).outbox = rw (c.send_each.ensures, sends, c.prepare.ensures.same.outbox, c.new-outgoing.ensures) refl in
     lawful_same c.args.opening.id None scheduled c.new-2.ensures sent refl
     (begun_keeps c.args.opening.id c.args.opening.now c.args.opening.first (inserts_of actions) (settings_of actions) (sends_of actions) c.requires.moment (settings_once actions) enough places)

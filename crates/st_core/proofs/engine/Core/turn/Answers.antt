@@ -52,7 +52,7 @@ returns-in-Err-conclude-clause-does g c =
     rw (answered, c.new-gathered.ensures.calls, c.handle_alone-calls.ensures, ← c.self.view_is) refl in
     let entered : called ≡ (if is_entered callbacks machine.state c.in-Ok.outcome then entered_by callbacks machine.state handled else handled) = rw answered refl in
     let definition = unless_refused machine (concluded callbacks (with_moment machine c.args.now) event.number called called.reason) in
-    let turns = c.conclude.ensures handled called given entered in
+    let turns = c.conclude.ensures handled called (record { handled_is = given; called_is = entered }) in
     turn_does (callbacks_of g.M.Module g.M.State.PartialEq.eq) c.args.self.now c.conclude.new.self c.args.now (Err c.in-Err-conclude.refused) turns.0
     (meets_same turn_takes_memory turn_without_memory _ _ _ (turn_is callbacks machine c.args.now event ended early seen)
     (told_as event.number c.args.self.now c.conclude.new.self c.conclude.new.gathered c.conclude.result (Err c.in-Err-conclude.refused) definition c.in-Err-conclude.is turns))
@@ -70,7 +70,7 @@ returns-in-Err-conclude-clause-unchanged g c =
     let entered : called ≡ (if is_entered callbacks machine.state c.in-Ok.outcome then entered_by callbacks machine.state handled else handled) = rw answered refl in
     turn_keeps c.args.self.now c.conclude.new.self event.number c.conclude.new.gathered c.conclude.result c.in-Err-conclude.refused
     (concluded callbacks (with_moment machine c.args.now) event.number called called.reason) c.in-Err-conclude.is
-    (c.conclude.ensures handled called given entered)
+    (c.conclude.ensures handled called (record { handled_is = given; called_is = entered }))
 
 -- it is done, and reported
 pub returns-clause-does : goal.returns-clause-does
@@ -90,7 +90,7 @@ returns-clause-does g c =
     let definition = unless_refused machine (concluded callbacks (with_moment machine c.args.now) event.number called called.reason) in
     let report_is : c.into_report-report.result ≡ report_with (Some event.number) c.in-Ok-conclude.done machine.state c.conclude.new.self.machine.state c.conclude.new.gathered =
     rw (c.into_report-report.ensures, ← c.self.view_is, ← c.self-2.view_is) refl in
-    let turns = c.conclude.ensures handled called given entered in
+    let turns = c.conclude.ensures handled called (record { handled_is = given; called_is = entered }) in
     rw report_is
     (turn_does (callbacks_of g.M.Module g.M.State.PartialEq.eq) c.args.self.now c.conclude.new.self c.args.now _ turns.0
     (meets_same turn_takes_memory turn_without_memory _ _ _ (turn_is callbacks machine c.args.now event ended early seen)

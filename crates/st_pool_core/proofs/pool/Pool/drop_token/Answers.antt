@@ -1,31 +1,23 @@
-use Rattle.std.proofs.Common.{sym, ◌∙◌}
 use Rattle.st_core.specs.Callbacks.{callbacks_of}
-use Rattle.st_pool_core.proofs.QueueLemmas.{hand_there, hand_has_lane}
-use Rattle.st_pool_core.proofs.WorkerSteps.{drop-carrying, drop-empty, drop-done}
+use Rattle.st_pool_core.proofs.WorkerSteps.{held_there, held_has_lane, drop-not_free, drop-done}
 use Rattle.st_pool_core.proofs.pool.Pool.drop_token.Goals as goal
 
--- its worker carries a message
-pub returns-then-is_carrying : goal.returns-then-is_carrying
-returns-then-is_carrying g c =
-    rw (← c.self.view_is, c.not_possible.ensures) (drop-carrying (callbacks_of g.M.Module g.M.State.PartialEq.eq)
-    (record { machines = c.self.inside.machines; queues = c.self.inside.queues; transit = c.self.inside.transit }) c.args.worker (sym c.is_carrying.ensures ∙ c.if-is_carrying.true))
-
--- its worker's hand is empty
+-- its worker carries a message, or has an empty hand
 pub returns-in_default : goal.returns-in_default
 returns-in_default g c =
-    rw (← c.self.view_is, c.not_possible-in_default.ensures) (drop-empty (callbacks_of g.M.Module g.M.State.PartialEq.eq)
-    (record { machines = c.self.inside.machines; queues = c.self.inside.queues; transit = c.self.inside.transit }) c.args.worker
-    (sym c.is_carrying.ensures ∙ c.if-is_carrying.false) (sym c.hand.ensures ∙ c.in_default.is))
+    rw c.not_possible.ensures (drop-not_free (callbacks_of g.M.Module g.M.State.PartialEq.eq) c.args.self.now c.args.worker (rw c.in_default.is at c.free_hand.ensures))
 
 -- the token is dropped
 pub returns : goal.returns
 returns g c =
     rw (← c.self.view_is, c.move_token.ensures, c.set_hand.ensures) (drop-done (callbacks_of g.M.Module g.M.State.PartialEq.eq)
     (record { machines = c.self.inside.machines; queues = c.self.inside.queues; transit = c.self.inside.transit }) c.args.worker c.in-Some.token
-    (sym c.is_carrying.ensures ∙ c.if-is_carrying.false) (sym c.hand.ensures ∙ c.in-Some.is))
+    (rw (← c.self.view_is, c.in-Some.is) at c.free_hand.ensures))
 
+-- the worker is there, for its hand is full
 pub set_hand-requires-clause-there : goal.set_hand-requires-clause-there
-set_hand-requires-clause-there g c = hand_has_lane c.self.inside.queues c.args.worker c.in-Some.token (sym c.hand.ensures ∙ c.in-Some.is)
+set_hand-requires-clause-there g c = held_has_lane (record { machines = c.self.inside.machines; queues = c.self.inside.queues; transit = c.self.inside.transit }) c.args.worker c.in-Some.token
+    (rw (← c.self.view_is, c.in-Some.is) at c.free_hand.ensures)
 
 pub set_hand-requires-clause-from_one : goal.set_hand-requires-clause-from_one
-set_hand-requires-clause-from_one g c = (hand_there c.self.inside.queues c.args.worker c.in-Some.token (sym c.hand.ensures ∙ c.in-Some.is)).0
+set_hand-requires-clause-from_one g c = (held_there c.args.self.now c.args.worker c.in-Some.token (rw c.in-Some.is at c.free_hand.ensures)).0
