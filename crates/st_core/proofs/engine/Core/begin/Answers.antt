@@ -24,11 +24,3 @@ returns g c = record {
       starts_same _ c.args.opening.module _ (ap (λ called. begun_as callbacks c.args.opening.module c.args.opening.id called c.args.opening.now c.args.opening.first) same)
       (c.run_from.ensures.start alone (sym (c.new-gathered.ensures.calls ∙ c.new.ensures)) refl);
 }
-
--- the actions fit in memory, and nothing was gathered yet
-pub begin_entered-requires : goal.begin_entered-requires
-begin_entered-requires g c =
-    (g.met.M.Module.lawful.actions_fit, (c.requires.moment, (c.requires.greatest, (c.new-gathered.ensures.calls ∙ c.new.ensures, c.new-gathered.ensures.empty))))
-
-pub run_from-requires : goal.run_from-requires
-run_from-requires g c = (g.met.M.Module.lawful.actions_fit, (c.requires.moment, (c.requires.greatest, c.new-gathered.ensures.empty)))

@@ -120,26 +120,3 @@ ne-requires g c = λ κs within. within
 
 pub drop-data-requires : goal.drop-data-requires
 drop-data-requires g c = λ κs within. within
-
-pub proceed-requires : goal.proceed-requires
-proceed-requires g c = (g.met.M.Module.lawful.actions_fit, (c.requires.moment, (c.requires.number_is, c.requires.empty)))
-
-pub proceed-requires-in-KeepState : goal.proceed-requires-in-KeepState
-proceed-requires-in-KeepState g c = (g.met.M.Module.lawful.actions_fit, (c.requires.moment, (c.requires.number_is, c.requires.empty)))
-
-pub proceed-requires-in-KeepStateAndData : goal.proceed-requires-in-KeepStateAndData
-proceed-requires-in-KeepStateAndData g c = (g.met.M.Module.lawful.actions_fit, (c.requires.moment, (c.requires.number_is, c.requires.empty)))
-
-pub proceed-requires-in-RepeatState : goal.proceed-requires-in-RepeatState
-proceed-requires-in-RepeatState g c = (g.met.M.Module.lawful.actions_fit, (c.requires.moment, (c.requires.number_is, c.requires.empty)))
-
-pub proceed-requires-in-RepeatStateAndData : goal.proceed-requires-in-RepeatStateAndData
-proceed-requires-in-RepeatStateAndData g c = (g.met.M.Module.lawful.actions_fit, (c.requires.moment, (c.requires.number_is, c.requires.empty)))
-
-pub stop_by-requires : goal.stop_by-requires
-stop_by-requires g c = (g.met.M.Module.lawful.actions_fit, (c.requires.moment, c.requires.empty))
-
-pub stop_by-requires-in-StopAndReply : goal.stop_by-requires-in-StopAndReply
-stop_by-requires-in-StopAndReply g c = (g.met.M.Module.lawful.actions_fit, (c.requires.moment, c.requires.empty))
-
--- what is handed on leaves the module

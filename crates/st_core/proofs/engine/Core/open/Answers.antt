@@ -2,9 +2,6 @@ use Rattle.std.proofs.Common.{refl}
 use Rattle.st_core.specs.Callbacks.{callbacks_of, begun_by}
 use Rattle.st_core.proofs.engine.Core.open.Goals as goal
 
-pub begin-requires : goal.begin-requires
-begin-requires g c = (g.met.M.Module.lawful.actions_fit, (c.requires.moment, c.requires.greatest))
-
 pub returns-in-Ok : goal.returns-in-Ok
 returns-in-Ok g c =
     let callbacks = callbacks_of g.M.Module g.M.State.PartialEq.eq c.args.opening.module in
