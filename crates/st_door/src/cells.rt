@@ -13,7 +13,7 @@ ghost use Rattle.st_door.specs.Entries.{HasTold, HasToldBy, IsWhole, history_in,
 ghost use Rattle.st_door.specs.Settling.{CanServe, command_for, message_from, source_for};
 
 use crate::answers::DoorAnswer;
-use crate::past::Past;
+use crate::past::{Past, journal_of};
 use crate::service::Service;
 use crate::{Door, DoorContent};
 use st_cell::{Cell, a_cell_has_a_token_for_work};
@@ -40,7 +40,7 @@ fn shorten(cell: &mut Cell<Door>) -> Result<(), AllocError>
     ensures same { cell.new.scheduled ≡ cell.old.scheduled }
     ensures ports { cell.new.ports ≡ cell.old.ports }
 {
-    let entries = cell.entries().len();
+    let entries = journal_of(cell).len();
     if entries > JOURNAL_LIMIT && entries > cell.core().waiting() && cell.cut().is_err() {
         return Err(AllocError);
     }
@@ -57,7 +57,7 @@ fn put_by(cell: &mut Cell<Door>, past: &mut Past) -> Result<(), AllocError>
     ensures same { cell.new.scheduled ≡ cell.old.scheduled }
     ensures ports { cell.new.ports ≡ cell.old.ports }
 {
-    let entries = cell.entries().len();
+    let entries = journal_of(cell).len();
     if entries > JOURNAL_LIMIT && entries > cell.core().waiting() / 4 {
         past.take_in(cell)?;
     }

@@ -14,7 +14,7 @@ ghost use Rattle.st_door.specs.Traces.{trace_by};
 
 use crate::answers::DoorAnswer;
 use crate::cells::{make_ready, serve, tell};
-use crate::past::Past;
+use crate::past::{Past, journal_of};
 use crate::service::Service;
 use crate::tracing::write_trace;
 use crate::{Door, DoorContent, ScriptFault, Sink};
@@ -120,7 +120,7 @@ impl DoorCell {
     pub(crate) fn is_late(&self, moment: u64) -> bool
         ensures { result ≡ is_late moment self.now }
     {
-        let core = self.cell.core();
+        let core = self.core();
         self.past.is_none() && core.ended().is_none() && core.latest() < moment
     }
 
@@ -194,7 +194,7 @@ impl DoorCell {
             return Ok(());
         };
         a_cell_is_journaled(&*self.cell);
-        let id = self.cell.core().id();
-        write_trace(alloc, id, name, past, self.cell.entries(), writer)
+        let id = self.core().id();
+        write_trace(alloc, id, name, past, journal_of(&*self.cell), writer)
     }
 }

@@ -21,6 +21,13 @@ use std::snapshot::Snapshot;
 /// An entry of a door's journal.
 pub(crate) type DoorEntry = JournalEntry<DoorState, DoorContent>;
 
+/// The journal of a door's cell.
+pub(crate) fn journal_of(cell: &Cell<Door>) -> &[DoorEntry]
+    ensures { result.now ≡ cell.now.journal }
+{
+    cell.entries()
+}
+
 /// Entries that have left a door's journal, as the lines of its trace. Contracts see the entries too, which take no memory.
 #[derive(Drop)]
 struct Piece {
@@ -124,7 +131,7 @@ impl Past {
         ensures uncut { OnErr result (cell.new ≡ cell.old) }
     {
         self.pieces.reserve(1)?;
-        let (text, latest) = lines_of(self.alloc, self.latest, cell.entries())?;
+        let (text, latest) = lines_of(self.alloc, self.latest, journal_of(cell))?;
         let Ok(journal) = cell.take_journal("") else {
             return Err(AllocError);
         };

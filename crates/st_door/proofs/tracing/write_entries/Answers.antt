@@ -1,4 +1,4 @@
-use Rattle.std.proofs.Common.{rules, ◌≡◌, ◌+◌, ◌≤◌, ℕ, List, [], ◌++◌, drop, length, refl, arith}
+use Rattle.std.proofs.Common.{rules, ◌+◌, ◌≤◌, ℕ, List, [], ◌++◌, drop, length, refl, arith}
 use Rattle.st_trace.specs.Trace.{entry_line, entry_lines}
 use Rattle.st_trace.proofs.TraceLemmas.{one_line_more}
 use Rattle.st_door.specs.Printing.{state_name_of}

@@ -10,7 +10,7 @@ use Rattle.st_door.proofs.door_cell.DoorCell.write_trace.Goals as goal
 -- the write stopped within the trace of the history that is kept
 pub returns-clause-front : goal.returns-clause-front
 returns-clause-front g c =
-    let past : History = c.deref-3.result.now in
-    let same : trace_of c.id-id.result c.args.name.now past.from (past.entries ++ c.entries.result.now) state_name_of
+    let past : History = c.deref-2.result.now in
+    let same : trace_of c.id-id.result c.args.name.now past.from (past.entries ++ c.journal_of.result.now) state_name_of
     ≡ trace_by c.args.name.now c.args.self.now.machine c.args.self.now.history = search rules in
     on_err _ _ c.write_trace.result (λ front. front_same _ _ _ _ same front) c.write_trace.ensures.front

@@ -15,7 +15,7 @@ invariant_of-self-3 c =
     let latest = c.self.inside.latest in
     let pieces : List Piece = c.self.inside.pieces.items in
     let piece : Piece = record { text = c.in_ok-text.text; entries = c.of.result } in
-    let same : c.of.result.value ≡ c.entries.result.now = c.of.ensures ∙ (c.in-Ok.ensures.journal.entries ∙ sym c.entries.ensures) in
+    let same : c.of.result.value ≡ c.journal_of.result.now = c.of.ensures ∙ (c.in-Ok.ensures.journal.entries ∙ sym c.journal_of.ensures) in
     let text : string_bytes piece.text ≡ entry_lines state_name_of latest piece.entries.value =
     c.in_ok-text.ensures.text ∙ ap (λ (entries : List DoorEntry). entry_lines state_name_of latest entries) (sym same) in
     let moment = c.in_ok-text.ensures.latest ∙ ap (λ (entries : List DoorEntry). latest_of latest entries) (sym same) in

@@ -1,4 +1,6 @@
+use Rattle.st_door.specs.declared.line.Line.TheVariants as line
 use Rattle.st_door.specs.Doors.{IsFirst, has_name}
+use Rattle.st_door.specs.Script.{step_of}
 use Rattle.st_door.proofs.DoorLemmas.{IsFirst-within, if_ok, ok_always}
 use Rattle.st_door.proofs.ScriptStateLemmas.{IsFirst-labels, show-done, idle-effect, idle-script}
 use Rattle.st_door.proofs.IdleLemmas.{no_door}
@@ -14,11 +16,11 @@ returns-clause-effect c =
     let first : IsFirst (has_name c.args.name.now) c.args.self.now.doors c.in-Some.place = c.in-Some.ensures.place in
     let idle = IsFirst-labels c.args.name.now c.args.self.now.doors c.run_until_idle.new.self.doors c.in-Some.place c.in_ok-run_until_idle.ensures.same_labels first in
     if_ok _ _ c.status_effect.result (λ effect says.
-    idle-effect c.args.self.now c.run_until_idle.new.self c.args.name.now c.in-Some.place _ effect c.in_ok-run_until_idle.ensures.rested
+    idle-effect c.args.self.now c.run_until_idle.new.self c.args.name.now c.in-Some.place (step_of c.args.self.now (line.Show c.args.name.now)) effect c.in_ok-run_until_idle.ensures.rested
     (show-done c.args.self.now c.args.name.now c.in-Some.place first) idle (says no_door))
     c.status_effect.ensures
 
 pub returns-clause-script : goal.returns-clause-script
 returns-clause-script c =
-    ok_always _ c.status_effect.result (idle-script c.args.self.now c.run_until_idle.new.self c.args.name.now _ c.in_ok-run_until_idle.ensures.rested
+    ok_always _ c.status_effect.result (idle-script c.args.self.now c.run_until_idle.new.self c.args.name.now (step_of c.args.self.now (line.Show c.args.name.now)) c.in_ok-run_until_idle.ensures.rested
     (show-done c.args.self.now c.args.name.now c.in-Some.place c.in-Some.ensures.place))
