@@ -13,4 +13,5 @@ pub mod ChangeLemmas
 pub mod ReaderLemmas
 pub mod UntilIdleLemmas
 pub mod OutboxLemmas
+pub mod PreparedLemmas
 pub mod SendingLemmas

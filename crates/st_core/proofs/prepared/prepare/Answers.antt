@@ -4,6 +4,7 @@ use Rattle.st_actions.specs.Plan.{inserts_of}
 use Rattle.st_core.specs.Transition.{decisions_of}
 use Rattle.st_events.proofs.Given.{given}
 use Rattle.st_core.proofs.TransitionLemmas.{numbers-numbered, enough_for_inserts, fewer_inserts, first_false, second_false}
+use Rattle.st_core.proofs.PreparedLemmas.{keeps_all}
 use Rattle.st_core.proofs.prepared.prepare.Goals as goal
 use Rattle.st_core.proofs.prepared.prepare.Goals.{then-not-has_numbers-via-then-not-has_numbers, then-not-has_numbers-via-else-not-has_numbers+then-not-has_message_numbers}
 
@@ -73,81 +74,25 @@ has_numbers-requires g c = (search given, c.in_ok-counts.ensures.counted)
 
 -- nothing has changed, and the same is asked for
 pub returns-in_err-counts-clause-same : goal.returns-in_err-counts-clause-same
-returns-in_err-counts-clause-same g c = record {
-  replies = c.count_last.ensures.same_replies;
-  inserts = c.count_last.ensures.same_inserts;
-  sends = c.count_last.ensures.same_sends;
-  calls = refl;
-  outbox = refl;
-  schedule = refl;
-}
+returns-in_err-counts-clause-same g c = keeps_all c.count_last.ensures.same_replies c.count_last.ensures.same_inserts c.count_last.ensures.same_sends refl refl refl
 
 pub returns-then-not-has_numbers-clause-same : goal.returns-then-not-has_numbers-clause-same
-returns-then-not-has_numbers-clause-same g c = record {
-  replies = c.count_last.ensures.same_replies;
-  inserts = c.count_last.ensures.same_inserts;
-  sends = c.count_last.ensures.same_sends;
-  calls = refl;
-  outbox = refl;
-  schedule = refl;
-}
+returns-then-not-has_numbers-clause-same g c = keeps_all c.count_last.ensures.same_replies c.count_last.ensures.same_inserts c.count_last.ensures.same_sends refl refl refl
 
 pub returns-in_err-reserve_exact-clause-same : goal.returns-in_err-reserve_exact-clause-same
-returns-in_err-reserve_exact-clause-same g c = record {
-  replies = c.count_last.ensures.same_replies;
-  inserts = c.count_last.ensures.same_inserts;
-  sends = c.count_last.ensures.same_sends;
-  calls = refl;
-  outbox = refl;
-  schedule = refl;
-}
+returns-in_err-reserve_exact-clause-same g c = keeps_all c.count_last.ensures.same_replies c.count_last.ensures.same_inserts c.count_last.ensures.same_sends refl refl refl
 
 pub returns-in_err-note_numbers-clause-same : goal.returns-in_err-note_numbers-clause-same
-returns-in_err-note_numbers-clause-same g c = record {
-  replies = c.count_last.ensures.same_replies;
-  inserts = c.count_last.ensures.same_inserts;
-  sends = c.count_last.ensures.same_sends;
-  calls = refl;
-  outbox = refl;
-  schedule = refl;
-}
+returns-in_err-note_numbers-clause-same g c = keeps_all c.count_last.ensures.same_replies c.count_last.ensures.same_inserts c.count_last.ensures.same_sends refl refl refl
 
 pub returns-in_err-note_decisions-clause-same : goal.returns-in_err-note_decisions-clause-same
-returns-in_err-note_decisions-clause-same g c = record {
-  replies = c.count_last.ensures.same_replies;
-  inserts = c.count_last.ensures.same_inserts;
-  sends = c.count_last.ensures.same_sends;
-  calls = refl;
-  outbox = refl;
-  schedule = refl;
-}
+returns-in_err-note_decisions-clause-same g c = keeps_all c.count_last.ensures.same_replies c.count_last.ensures.same_inserts c.count_last.ensures.same_sends refl refl refl
 
 pub returns-in_err-reserve_for-clause-same : goal.returns-in_err-reserve_for-clause-same
-returns-in_err-reserve_for-clause-same g c = record {
-  replies = c.count_last.ensures.same_replies;
-  inserts = c.count_last.ensures.same_inserts;
-  sends = c.count_last.ensures.same_sends;
-  calls = refl;
-  outbox = refl;
-  schedule = c.reserve_for.ensures.unchanged;
-}
+returns-in_err-reserve_for-clause-same g c = keeps_all c.count_last.ensures.same_replies c.count_last.ensures.same_inserts c.count_last.ensures.same_sends refl refl c.reserve_for.ensures.unchanged
 
 pub returns-in_err-prepare_sends-clause-same : goal.returns-in_err-prepare_sends-clause-same
-returns-in_err-prepare_sends-clause-same g c = record {
-  replies = c.count_last.ensures.same_replies;
-  inserts = c.count_last.ensures.same_inserts;
-  sends = c.count_last.ensures.same_sends;
-  calls = refl;
-  outbox = c.prepare_sends.ensures.same_outbox;
-  schedule = c.reserve_for.ensures.unchanged;
-}
+returns-in_err-prepare_sends-clause-same g c = keeps_all c.count_last.ensures.same_replies c.count_last.ensures.same_inserts c.count_last.ensures.same_sends refl c.prepare_sends.ensures.same_outbox c.reserve_for.ensures.unchanged
 
 pub returns-clause-same : goal.returns-clause-same
-returns-clause-same g c = record {
-  replies = c.count_last.ensures.same_replies;
-  inserts = c.count_last.ensures.same_inserts;
-  sends = c.count_last.ensures.same_sends;
-  calls = refl;
-  outbox = c.prepare_sends.ensures.same_outbox;
-  schedule = c.reserve_for.ensures.unchanged;
-}
+returns-clause-same g c = keeps_all c.count_last.ensures.same_replies c.count_last.ensures.same_inserts c.count_last.ensures.same_sends refl c.prepare_sends.ensures.same_outbox c.reserve_for.ensures.unchanged
