@@ -9,6 +9,19 @@ use std::alloc::{AllocError, Global};
 /// To whom a machine's messages go: the owner, which is whoever writes the lines.
 const OWNER: MachineId = MachineId { slot: 0, serial: 0 };
 
+/// What a word alone brings about.
+fn said(word: &str) -> Step<Content> {
+    match word {
+        "start" => Step::Start,
+        "count" => Step::Post(Entry::Call, Content::Count),
+        "connected" => Step::Post(Entry::Info, Content::Connected),
+        "progress" => Step::Post(Entry::Info, Content::Progress),
+        "failed" => Step::Post(Entry::Info, Content::Failed),
+        "lost" => Step::Post(Entry::Info, Content::Lost),
+        _ => Step::Unknown,
+    }
+}
+
 /// What a client says by a word, and by its number.
 fn said_by(word: &str, client: u32) -> Step<Content> {
     match word {
@@ -25,12 +38,7 @@ impl Textual for Connection {
     fn step_of(words: &[&str]) -> Step<Content> {
         match *words {
             [] => Step::Nothing,
-            ["start"] => Step::Start,
-            ["count"] => Step::Post(Entry::Call, Content::Count),
-            ["connected"] => Step::Post(Entry::Info, Content::Connected),
-            ["progress"] => Step::Post(Entry::Info, Content::Progress),
-            ["failed"] => Step::Post(Entry::Info, Content::Failed),
-            ["lost"] => Step::Post(Entry::Info, Content::Lost),
+            [word] => said(word),
             [word, client] => client
                 .parse::<u32>()
                 .map_or(Step::Unknown, |client| said_by(word, client)),
@@ -42,8 +50,7 @@ impl Textual for Connection {
         alloc: Global,
         number: u32,
         moment: u64,
-        place: &mut Option<Box<Core<Connection>>>,
-    ) -> Result<(), Refusal> {
+    ) -> Result<Option<Box<Core<Connection>>>, Refusal> {
         let id = MachineId {
             slot: 1,
             serial: u64::from(number),
@@ -52,10 +59,7 @@ impl Textual for Connection {
             owner: OWNER,
             number,
         };
-        if let Some(core) = started(alloc, Connection, id, &arg, moment)? {
-            *place = Some(core);
-        }
-        Ok(())
+        started(alloc, Connection, id, &arg, moment)
     }
 
     fn reply_text(alloc: Global, content: Content, after: Link) -> Result<String, AllocError> {

@@ -3,13 +3,13 @@
 mod machine;
 mod step;
 
-use crate::line::read_line;
+use crate::line::{Line, read_line};
 use crate::log::add;
 use crate::start::started;
 use crate::time::{LIMIT, due, tick};
 use lift_module::{Cabin, Content, Door};
-use machine::{carry, post, stop, turn};
-use st_core::{Core, Entry, MachineId, Refusal};
+use machine::{post, stop, work};
+use st_core::{Core, Entry, MachineId, Module, Refusal};
 use std::alloc::Global;
 use step::{Step, step_of};
 
@@ -18,9 +18,6 @@ const CABIN: MachineId = MachineId { slot: 0, serial: 1 };
 
 /// The door.
 const DOOR: MachineId = MachineId { slot: 1, serial: 1 };
-
-/// The reason for which a lift that does not start is refused.
-const NOT_STARTED: Refusal = Refusal::NotPossible;
 
 /// The lift: a cabin and its door, between which it carries the messages.
 #[derive(Drop)]
@@ -32,14 +29,27 @@ pub struct Lift {
     door: Box<Core<Door>>,
 }
 
+/// Starts a machine of the lift, at moment 0. One that does not start is refused.
+fn running<M: Module>(
+    alloc: Global,
+    module: M,
+    id: MachineId,
+    arg: &M::Arg,
+) -> Result<Box<Core<M>>, Refusal> {
+    match started(alloc, module, id, arg, 0)? {
+        Some(core) => Ok(core),
+        None => Err(Refusal::NotPossible),
+    }
+}
+
 impl Lift {
     /// A lift that rests, at moment 0.
     pub fn new(alloc: Global) -> Result<Lift, Refusal> {
         Ok(Lift {
             alloc,
             now: 0,
-            cabin: started(alloc, Cabin, CABIN, &DOOR, 0)?.ok_or(NOT_STARTED)?,
-            door: started(alloc, Door, DOOR, &CABIN, 0)?.ok_or(NOT_STARTED)?,
+            cabin: running(alloc, Cabin, CABIN, &DOOR)?,
+            door: running(alloc, Door, DOOR, &CABIN)?,
         })
     }
 
@@ -47,10 +57,15 @@ impl Lift {
     pub fn take_line(&mut self, text: &str) -> Result<String, Refusal> {
         let line = read_line(self.alloc, text)?;
         let mut log = String::new(self.alloc);
-        self.pass(line.moment.unwrap_or(self.now), &mut log)?;
-        self.step(line.text, step_of(&line.words), &mut log)?;
-        self.settle(&mut log)?;
+        self.obey(&line, &mut log)?;
         Ok(log)
+    }
+
+    /// Does what a line brings about, at its moment.
+    fn obey(&mut self, line: &Line<'_>, log: &mut String) -> Result<(), Refusal> {
+        self.pass(line.moment.unwrap_or(self.now), log)?;
+        self.step(line.text, step_of(&line.words), log)?;
+        self.settle(log)
     }
 
     /// Lets time pass to a moment: each time-out that is due by then expires at its own moment, and is handled. A moment
@@ -90,10 +105,8 @@ impl Lift {
             if !self.cabin.has_event() && !self.door.has_event() {
                 break;
             }
-            turn(&mut self.cabin, "cabin", alloc, log)?;
-            carry(&mut self.cabin, &mut self.door, "cabin", alloc, log)?;
-            turn(&mut self.door, "door", alloc, log)?;
-            carry(&mut self.door, &mut self.cabin, "door", alloc, log)?;
+            work(&mut self.cabin, &mut self.door, "cabin", alloc, log)?;
+            work(&mut self.door, &mut self.cabin, "door", alloc, log)?;
         }
         Ok(())
     }

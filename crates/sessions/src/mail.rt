@@ -89,20 +89,12 @@ impl Textual for Mail {
         }
     }
 
-    fn start(
-        alloc: Global,
-        number: u32,
-        moment: u64,
-        place: &mut Option<Box<Core<Mail>>>,
-    ) -> Result<(), Refusal> {
+    fn start(alloc: Global, number: u32, moment: u64) -> Result<Option<Box<Core<Mail>>>, Refusal> {
         let id = MachineId {
             slot: 1,
             serial: u64::from(number),
         };
-        if let Some(core) = started(alloc, Mail, id, &MAILBOX, moment)? {
-            *place = Some(core);
-        }
-        Ok(())
+        started(alloc, Mail, id, &MAILBOX, moment)
     }
 
     fn reply_text(alloc: Global, content: Content, _: Phase) -> Result<String, AllocError> {

@@ -19,11 +19,22 @@ use session::Session;
 use std::alloc::Global;
 use std::process::ExitCode;
 
-/// Hands each line to the session, and writes what it says.
+/// Hands a line to the session, and writes what it says.
+fn hand_line(
+    rt: &HostRuntime,
+    alloc: Global,
+    session: &mut Session,
+    line: &str,
+) -> Result<(), Fault> {
+    let said = session.take_line(alloc, line)?;
+    print!(rt; "{said}")?;
+    Ok(())
+}
+
+/// Hands each line to the session.
 fn hand_on(rt: &HostRuntime, alloc: Global, session: &mut Session) -> Result<(), Fault> {
     for line in rt.lines(alloc) {
-        let said = session.take_line(alloc, line?.as_str())?;
-        print!(rt; "{said}")?;
+        hand_line(rt, alloc, session, line?.as_str())?;
     }
     Ok(())
 }

@@ -4,10 +4,10 @@ mod machine;
 mod step;
 mod textual;
 
-use crate::line::read_line;
+use crate::line::{Line, read_line};
 use crate::log::add;
 use machine::{let_time_pass, post, tell_messages};
-use st_core::{Core, Entry, Refusal};
+use st_core::{Core, Entry, Reason, Refusal};
 use std::alloc::Global;
 pub use step::Step;
 pub use textual::Textual;
@@ -38,13 +38,18 @@ impl<M: Textual> Server<M> {
     /// Takes a line of the input, and answers what it brings about, in lines.
     pub fn take_line(&mut self, text: &str) -> Result<String, Refusal> {
         let line = read_line(self.alloc, text)?;
-        let step = M::step_of(&line.words);
         let mut log = String::new(self.alloc);
-        self.pass(line.moment.unwrap_or(self.now), &mut log)?;
-        self.echo(line.text, &step, &mut log)?;
-        self.step(step, &mut log)?;
-        self.part(&mut log)?;
+        self.obey(&line, &mut log)?;
         Ok(log)
+    }
+
+    /// Does what a line brings about, at its moment.
+    fn obey(&mut self, line: &Line<'_>, log: &mut String) -> Result<(), Refusal> {
+        self.pass(line.moment.unwrap_or(self.now), log)?;
+        let step = M::step_of(&line.words);
+        self.echo(line.text, &step, log)?;
+        self.step(step, log)?;
+        self.part(log)
     }
 
     /// Lets time pass to a moment; one before the latest counts as the latest.
@@ -81,7 +86,7 @@ impl<M: Textual> Server<M> {
             return self.note("--", "not possible", log);
         }
         self.count = self.count.saturating_add(1);
-        M::start(self.alloc, self.count, self.now, &mut self.core)?;
+        self.core = M::start(self.alloc, self.count, self.now)?;
         self.tell_messages(log)
     }
 
@@ -104,19 +109,22 @@ impl<M: Textual> Server<M> {
     /// Lets a machine go that has ended, and writes its last word down.
     fn part(&mut self, log: &mut String) -> Result<(), Refusal> {
         let alloc = self.alloc;
-        let Some(core) = &self.core else {
+        let Some((latest, reason, word)) = self.last_word() else {
             return Ok(());
         };
-        let Some((reason, word)) = core.ended() else {
-            return Ok(());
-        };
-        let latest = core.latest();
         add(
             log,
             format!(in alloc; "{latest} -- ended for the reason {reason}, with the word {word}\n"),
         )?;
         self.core = None;
         Ok(())
+    }
+
+    /// Of a machine that has ended the moment, the reason and its last word.
+    fn last_word(&self) -> Option<(u64, Reason, u32)> {
+        let core = self.core.as_ref()?;
+        let (reason, word) = core.ended()?;
+        Some((core.latest(), reason, word))
     }
 
     /// Writes down what happens, behind a mark.

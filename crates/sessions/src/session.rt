@@ -35,15 +35,25 @@ impl Session {
         }
     }
 
+    /// The session of a name, if there is one.
+    fn of(alloc: Global, name: &str) -> Result<Option<Session>, Refusal> {
+        match name {
+            "lift" => Ok(Some(Session::Lift(Lift::new(alloc)?))),
+            "mail" => Ok(Some(Session::Mail(Server::new(alloc)))),
+            "keeper" => Ok(Some(Session::Keeper(Server::new(alloc)))),
+            _ => Ok(None),
+        }
+    }
+
     /// Begins the session of a name. Where there is none of that name, the session that was begun last goes on.
     fn begin(&mut self, alloc: Global, name: &str) -> Result<String, Refusal> {
-        *self = match name {
-            "lift" => Session::Lift(Lift::new(alloc)?),
-            "mail" => Session::Mail(Server::new(alloc)),
-            "keeper" => Session::Keeper(Server::new(alloc)),
-            _ => return no_session(alloc),
-        };
-        Ok(String::new(alloc))
+        match Session::of(alloc, name)? {
+            Some(session) => {
+                *self = session;
+                Ok(String::new(alloc))
+            }
+            None => no_session(alloc),
+        }
     }
 
     /// Hands a line to the session.

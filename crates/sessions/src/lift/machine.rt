@@ -83,18 +83,19 @@ fn tell_turn<M: Module<Content = Content>>(
     name: &str,
     alloc: Global,
     log: &mut String,
-) -> Result<(), AllocError>
+) -> Result<(), Refusal>
 where
     M::State: Debug,
 {
     let now = core.latest();
     tell_course(report, now, name, alloc, log)?;
     tell_asked(report, now, name, alloc, log)?;
-    tell_replies(core, report, name, alloc, log)
+    tell_replies(core, report, name, alloc, log)?;
+    Ok(())
 }
 
 /// Lets a machine handle the next event, and writes down what it did.
-pub fn turn<M: Module<Content = Content>>(
+fn turn<M: Module<Content = Content>>(
     core: &mut Core<M>,
     name: &str,
     alloc: Global,
@@ -103,10 +104,10 @@ pub fn turn<M: Module<Content = Content>>(
 where
     M::State: Debug,
 {
-    if let Turned::Reported(report) = core.turn(core.latest())? {
-        tell_turn(core, &report, name, alloc, log)?;
+    match core.turn(core.latest())? {
+        Turned::Reported(report) => tell_turn(core, &report, name, alloc, log),
+        Turned::Idle => Ok(()),
     }
-    Ok(())
 }
 
 /// Hands an event to a machine that has not ended, and answers its number.
@@ -122,7 +123,7 @@ pub fn post<M: Module<Content = Content>>(
 }
 
 /// Carries the messages of one machine to another, and writes them down.
-pub fn carry<A: Module<Content = Content>, B: Module<Content = Content>>(
+fn carry<A: Module<Content = Content>, B: Module<Content = Content>>(
     from: &mut Core<A>,
     to: &mut Core<B>,
     name: &str,
@@ -139,6 +140,21 @@ pub fn carry<A: Module<Content = Content>, B: Module<Content = Content>>(
         post(to, Entry::Info, content)?;
     }
     Ok(())
+}
+
+/// Lets a machine handle the next event, carries its messages to another, and writes it down.
+pub fn work<A: Module<Content = Content>, B: Module<Content = Content>>(
+    core: &mut Core<A>,
+    other: &mut Core<B>,
+    name: &str,
+    alloc: Global,
+    log: &mut String,
+) -> Result<(), Refusal>
+where
+    A::State: Debug,
+{
+    turn(core, name, alloc, log)?;
+    carry(core, other, name, alloc, log)
 }
 
 /// Writes down the last word of a machine that is stopped.

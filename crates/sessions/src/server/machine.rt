@@ -45,18 +45,19 @@ fn tell_turn<M: Textual>(
     report: &Report<M::State>,
     alloc: Global,
     log: &mut String,
-) -> Result<(), AllocError> {
+) -> Result<(), Refusal> {
     tell_replies(core, report, alloc, log)?;
-    tell_messages(core, alloc, log)
+    tell_messages(core, alloc, log)?;
+    Ok(())
 }
 
 /// Gives the machine a turn, and writes down what it said.
 fn handle<M: Textual>(core: &mut Core<M>, alloc: Global, log: &mut String) -> Result<(), Refusal> {
     let now = core.latest();
-    if let Turned::Reported(report) = core.turn(now)? {
-        tell_turn(core, &report, alloc, log)?;
+    match core.turn(now)? {
+        Turned::Reported(report) => tell_turn(core, &report, alloc, log),
+        Turned::Idle => Ok(()),
     }
-    Ok(())
 }
 
 /// Gives the machine turns until there is nothing to handle, or it has ended.

@@ -12,13 +12,8 @@ pub trait Textual: Module {
     /// What these words bring about.
     fn step_of(words: &[&str]) -> Step<Self::Content>;
 
-    /// Starts the machine of a number, counted from 1, at a moment, and puts it into its place.
-    fn start(
-        alloc: Global,
-        number: u32,
-        moment: u64,
-        place: &mut Option<Box<Core<Self>>>,
-    ) -> Result<(), Refusal>;
+    /// Starts the machine of a number, counted from 1, at a moment.
+    fn start(alloc: Global, number: u32, moment: u64) -> Result<Option<Box<Core<Self>>>, Refusal>;
 
     /// What a reply says, by the state after it, behind its mark.
     fn reply_text(
