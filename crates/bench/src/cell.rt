@@ -1,6 +1,6 @@
 //! Casts and calls of a machine in a cell, whose journal keeps each of them.
 use crate::load::{Load, Work};
-use st_core::{Collected, Core, Entry, Refusal, Refused};
+use st_core::{Collected, Core, Entry, Refusal};
 use st_events::Token;
 use st_lock::{Cell, Posted};
 use std::alloc::Global;
@@ -60,9 +60,9 @@ impl Celled for Cell<Load> {
 
 /// A machine in a cell.
 fn begun(alloc: Global, core: Core<Load>) -> Result<Cell<Load>, Refusal> {
-    match Cell::new(alloc, core) {
-        Ok((cell, _token)) => Ok(cell),
-        Err(Refused { refusal, .. }) => Err(refusal),
+    match Cell::new(alloc, core).ok() {
+        Some((cell, _token)) => Ok(cell),
+        None => Err(Refusal::NoMemory),
     }
 }
 

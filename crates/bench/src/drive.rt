@@ -10,8 +10,9 @@ pub fn started<M: Module>(
     arg: &M::Arg,
 ) -> Result<Option<Core<M>>, Refusal> {
     match Core::start(alloc, module, id, arg, 0)? {
-        Start::Running(core, _) => Ok(Some(core)),
-        _ => Ok(None),
+        Start::Running(core, _report) => Ok(Some(core)),
+        Start::Ignored => Ok(None),
+        Start::Stopped(_) => Ok(None),
     }
 }
 

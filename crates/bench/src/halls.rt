@@ -9,13 +9,21 @@ use st_pool::{Pool, Runtime};
 use std::alloc::Global;
 use std::sync::Arc;
 
+/// A hall without machines.
+pub fn empty<R: Runtime>(rt: R, alloc: Global) -> Result<Arc<Hall<Load, R>>, Refusal> {
+    match Arc::new(alloc, Hall::new(rt, Registry::new(alloc))).ok() {
+        Some(hall) => Ok(hall),
+        None => Err(Refusal::NoMemory),
+    }
+}
+
 /// A hall of so many machines, and a port of each.
 pub fn filled<R: Runtime>(
     rt: R,
     alloc: Global,
     many: u32,
 ) -> Result<(Arc<Hall<Load, R>>, Vec<Port<Load>>), Refusal> {
-    let hall = Hall::new(rt, Registry::new(alloc));
+    let hall = empty(rt, alloc)?;
     let mut ports = Vec::new(alloc);
     for _ in 0..many {
         if let Some(port) = started(&rt, &hall)? {
@@ -24,17 +32,15 @@ pub fn filled<R: Runtime>(
             }
         }
     }
-    match Arc::new(alloc, hall) {
-        Ok(hall) => Ok((hall, ports)),
-        Err(_) => Err(Refusal::NoMemory),
-    }
+    Ok((hall, ports))
 }
 
 /// Starts a machine, and opens a port of it.
 fn started<R: Runtime>(rt: &R, hall: &Hall<Load, R>) -> Result<Option<Port<Load>>, Refusal> {
     match hall.start(None, Load, &0, 0) {
         Ok(Started::Running { id, .. }) => Ok(Some(Machine::port(&hall.machine(id)?, rt)?)),
-        Ok(_) => Ok(None),
+        Ok(Started::Ignored) => Ok(None),
+        Ok(Started::Stopped(_)) => Ok(None),
         Err(refused) => Err(refused.refusal),
     }
 }
@@ -48,10 +54,8 @@ pub fn pool<R: Runtime>(
 ) -> Result<Pool<R, Work>, Refusal>
     requires { (1 ≤ workers) × (workers ≤ 16) }
 {
-    match Arc::new(alloc, Silent) {
-        Ok(gate) => Ok(Pool::start(rt, alloc, workers, hall, &gate)?),
-        Err(_) => Err(Refusal::NoMemory),
-    }
+    let gate = Arc::new(alloc, Silent)?;
+    Ok(Pool::start(rt, alloc, workers, hall, &gate)?)
 }
 
 /// Waits until all tokens rest, closes a pool, and answers how many turns it made.

@@ -37,9 +37,11 @@ fn service<R: Runtime + Clock>(
 
 /// Starts a machine, and answers its port.
 fn spawned<R: Runtime + Clock>(services: &Services<R>) -> Result<Ports<R>, Refusal> {
-    match services.spawn(None, Load, &0) {
-        Ok(Spawned::Running(_, Some(port))) => Ok(port),
-        _ => Err(Refusal::NoMemory),
+    match services.spawn(None, Load, &0).ok() {
+        Some(Spawned::Running(_, port)) => port.ok_or(Refusal::NoMemory),
+        Some(Spawned::Ignored) => Err(Refusal::NoMemory),
+        Some(Spawned::Stopped(_)) => Err(Refusal::NoMemory),
+        None => Err(Refusal::NoMemory),
     }
 }
 

@@ -83,9 +83,9 @@ impl<R: Wait + Drop> Celled for Shared<R> {
 /// A machine that threads may share.
 pub fn share(alloc: Global, core: Core<Load>) -> Result<Arc<Machine<Load>>, Refusal> {
     match Machine::new(alloc, core) {
-        Ok((machine, _token)) => match Arc::new(alloc, machine) {
-            Ok(machine) => Ok(machine),
-            Err(_) => Err(Refusal::NoMemory),
+        Ok((machine, _token)) => match Arc::new(alloc, machine).ok() {
+            Some(machine) => Ok(machine),
+            None => Err(Refusal::NoMemory),
         },
         Err(refused) => Err(refused.refusal),
     }

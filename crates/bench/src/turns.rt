@@ -1,10 +1,11 @@
 //! Turns of a machine of a hall by a worker, behind a gate: one at which nobody waits, or a ticker.
+use crate::halls::empty;
 use crate::load::{Load, Work};
 use crate::rounds::worker;
 use crate::silent::Silent;
 use crate::watch::LoadTicker;
 use st_core::{Entry, MachineId, Refusal};
-use st_hall::{Hall, Machine, Port, Registry, Started};
+use st_hall::{Hall, Machine, Port, Started};
 use st_pool::{Gate, Runtime, Token, Worker};
 use st_ticker::Ticker;
 use std::alloc::Global;
@@ -111,7 +112,7 @@ impl<R: Runtime> TurnedByWorker<R> {
 
 /// A worker makes so many turns of a machine with so many running time-outs, behind a gate at which nobody waits.
 pub fn turns<R: Runtime>(rt: R, alloc: Global, count: u32, timers: u32) -> Result<u64, Refusal> {
-    let hall = Arc::new(alloc, Hall::new(rt, Registry::new(alloc)))?;
+    let hall = empty(rt, alloc)?;
     match turned(rt, alloc, &hall)? {
         Some(mut turned) => turned.turn_each(&Silent, count, timers),
         None => Ok(0),
@@ -125,7 +126,7 @@ pub fn ticked_turns<R: Runtime + Clock>(
     count: u32,
     timers: u32,
 ) -> Result<u64, Refusal> {
-    let hall = Arc::new(alloc, Hall::new(rt, Registry::new(alloc)))?;
+    let hall = empty(rt, alloc)?;
     let Ok(start) = Instant::now(&rt) else {
         return Ok(0);
     };

@@ -1,7 +1,8 @@
 //! What a ticker does behind each turn.
+use crate::halls::empty;
 use crate::load::Load;
 use st_core::{MachineId, Refusal};
-use st_hall::{Hall, Registry, Started};
+use st_hall::Started;
 use st_pool::Runtime;
 use st_ticker::Ticker;
 use std::alloc::Global;
@@ -17,14 +18,15 @@ fn ticker<R: Runtime + Clock>(
     rt: R,
     alloc: Global,
 ) -> Result<Option<(Arc<LoadTicker<R>>, MachineId)>, Refusal> {
-    let hall = Arc::new(alloc, Hall::new(rt, Registry::new(alloc)))?;
+    let hall = empty(rt, alloc)?;
     let Ok(start) = Instant::now(&rt) else {
         return Ok(None);
     };
     let ticker = Ticker::new(rt, alloc, start, &hall)?;
     match hall.start(None, Load, &0, ticker.now()) {
         Ok(Started::Running { id, .. }) => Ok(Some((ticker, id))),
-        Ok(_) => Ok(None),
+        Ok(Started::Ignored) => Ok(None),
+        Ok(Started::Stopped(_)) => Ok(None),
         Err(refused) => Err(refused.refusal),
     }
 }

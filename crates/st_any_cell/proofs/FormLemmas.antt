@@ -1,5 +1,5 @@
 -- What a call of a cell of either form leaves, by what it leaves of the form at hand.
-use Rattle.std.proofs.Common.{◌≡◌, ℕ, Bool, true, false, refl, sym, ap, subst, ◌∙◌, Box, Global}
+use Rattle.std.proofs.Common.{◌≡◌, ℕ, ◌≤◌, ◌<◌, ◌^◌, Bool, true, false, length, arith, refl, sym, ap, subst, ◌∙◌, Box, Global}
 use Rattle.std.specs.Box.{with_value}
 use Rattle.std.specs.Prelude.{Result, Ok, Err, OnErr, IfErr}
 use Rattle.st_events.specs.declared.refused.Refused.{Refused}
@@ -7,7 +7,7 @@ use Rattle.st_events.specs.declared.token.Token.{Token}
 use Rattle.st_core.specs.Callbacks.{Callbacks}
 use Rattle.st_cell.specs.declared.next.Next.{Next}
 use Rattle.st_cell.specs.Calls.{Turns}
-use Rattle.st_cell.specs.Cell.{CellState, IsJournaled}
+use Rattle.st_cell.specs.Cell.{CellState, IsJournaled, IsOpen, count_for}
 use Rattle.st_cell.proofs.CallLemmas.{turns_returned}
 use Rattle.st_cell.proofs.CellLemmas.{cut_kept, turns_refused}
 use Rattle.st_any_cell.specs.declared.any_cell.AnyCell.TheInside.{Inside}
@@ -17,6 +17,28 @@ use Rattle.st_any_cell.specs.declared.form.Form.TheVariants.{Journaled, Unjourna
 use Rattle.st_any_cell.specs.AnyCell.{AnyCellState, bare_cell, kept_as, state_of, IsAnyCell, IsCutBehind, Leaves}
 
 module _ {M S D C A : Type 0} where
+  -- ---- what is known of a cell is known of the form at hand
+  pub in_journaled : (P : CellState M S D C → Type 0) (form : Form M S D C A) (box : Box (CellState M S D C) Global) (old : CellState M S D C) (any : AnyCellState M S D C)
+      → form ≡ Journaled box → old ≡ box.value → state_of form ≡ any → P any.cell → P old
+  in_journaled P form box old any is value seen known =
+      subst P (sym value) (subst (λ (one : Form M S D C A). P (state_of one).cell) is (subst (λ (state : AnyCellState M S D C). P state.cell) (sym seen) known))
+
+  pub in_unjournaled : (P : CellState M S D C → Type 0) (form : Form M S D C A) (old : Bare M S D C A) (any : AnyCellState M S D C)
+      → form ≡ Unjournaled old → state_of form ≡ any → P any.cell → P (bare_cell old)
+  in_unjournaled P form old any is seen known =
+      subst (λ (one : Form M S D C A). P (state_of one).cell) is (subst (λ (state : AnyCellState M S D C). P state.cell) (sym seen) known)
+
+  -- and what is known of the form at hand, of the cell
+  pub of_journaled : (P : CellState M S D C → Type 0) (form : Form M S D C A) (box : Box (CellState M S D C) Global) (old : CellState M S D C) (any : AnyCellState M S D C)
+      → form ≡ Journaled box → old ≡ box.value → state_of form ≡ any → P old → P any.cell
+  of_journaled P form box old any is value seen known =
+      subst (λ (state : AnyCellState M S D C). P state.cell) seen (subst (λ (one : Form M S D C A). P (state_of one).cell) (sym is) (subst P value known))
+
+  pub of_unjournaled : (P : CellState M S D C → Type 0) (form : Form M S D C A) (old : Bare M S D C A) (any : AnyCellState M S D C)
+      → form ≡ Unjournaled old → state_of form ≡ any → P (bare_cell old) → P any.cell
+  of_unjournaled P form old any is seen known =
+      subst (λ (state : AnyCellState M S D C). P state.cell) seen (subst (λ (one : Form M S D C A). P (state_of one).cell) (sym is) known)
+
   -- ---- calls
   -- of a cell that keeps its journal
   pub journaled_called : {R : Type 0} (does : CellState M S D C → R → CellState M S D C → Type 0) (form : Form M S D C A) (inside : Inside M S D C A)
@@ -34,7 +56,26 @@ module _ {M S D C A : Type 0} where
   unjournaled_called does form inside old new said result is after same went =
       rw (after, is, same) (went.0, went.1, ap (λ (cell : CellState M S D C). record { cell = cell; keeps = false }) went.2)
 
+module _ {M S D C : Type 0} where
+  -- ---- ports
+  kept_ports : (keeps : Bool) (after : CellState M S D C) → (kept_as keeps after).ports ≡ after.ports
+  kept_ports true after = refl
+  kept_ports false after = refl
+
+  -- the open ports stay open behind a call
+  pub any_open : (does : CellState M S D C → Type 0) (old new : AnyCellState M S D C) → ((after : CellState M S D C) → does after → length after.ports ≡ length old.cell.ports)
+      → Leaves old does new → length new.cell.ports ≡ length old.cell.ports
+  any_open does old new stays went =
+      ap (λ (state : AnyCellState M S D C). length state.cell.ports) went.2 ∙ (ap length (kept_ports old.keeps went.0) ∙ stays went.0 went.1)
+
 module _ {M S D C : Type 0} (callbacks : M → Callbacks S D C) where
+  -- a port has posted no more events than there were commands
+  pub far_below : (port : ℕ) (cell : CellState M S D C) → IsJournaled callbacks cell → IsOpen port cell → count_for port cell < 2 ^ 63
+  far_below port cell is within =
+      let bounded : count_for port cell ≤ cell.scheduled.count = is.counted.bounded port within in
+      let limited : cell.scheduled.count < 2 ^ 63 = is.limited in
+      omega (arith, bounded, limited)
+
   -- ---- it stays a cell
   left_kept : (keeps : Bool) (after : CellState M S D C) → IsJournaled callbacks after
       → IsAnyCell callbacks (record { cell = kept_as keeps after; keeps = keeps })
@@ -46,6 +87,13 @@ module _ {M S D C : Type 0} (callbacks : M → Callbacks S D C) where
       → Leaves old does new → IsAnyCell callbacks new
   any_kept does old new kept went =
       subst (λ (state : AnyCellState M S D C). IsAnyCell callbacks state) (sym went.2) (left_kept old.keeps went.0 (kept went.0 went.1))
+
+  -- ---- a call that is refused
+  pub any_unchanged : {T E : Type 0} (does : CellState M S D C → Type 0) (old new : AnyCellState M S D C) (result : Result T E)
+      → ((after : CellState M S D C) → does after → OnErr result (after ≡ old.cell)) → IsAnyCell callbacks old → Leaves old does new → OnErr result (new ≡ old)
+  any_unchanged does old new (Ok value) same is went = tt
+  any_unchanged does old new (Err value) same is went =
+      went.2 ∙ (ap (λ (cell : CellState M S D C). record old { cell = kept_as old.keeps cell }) (same went.0 went.1) ∙ ap (λ (cell : CellState M S D C). record old { cell = cell }) is.kept)
 
   -- ---- a turn that is refused
   pub turn_unchanged : (old new : AnyCellState M S D C) (token : Token) (now : ℕ) (result : Result Next (Refused Token)) → IsAnyCell callbacks old

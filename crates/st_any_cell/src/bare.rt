@@ -30,13 +30,13 @@ pub(crate) struct Bare<M: Module> {
 }
 
 /// Whether it was refused that a machine is served, or done.
-fn done<M: Module>(served: ServedOf<M>) -> Result<(), Refusal>
-    ensures { result ≡ done_as {C = M.Content} (served_as served) }
+fn done<M: Module>(served: &ServedOf<M>) -> Result<(), Refusal>
+    ensures { result ≡ done_as {C = M.Content} (served_as served.now) }
 {
     match served {
         Ok(Served::Turned(_report)) => Ok(()),
         Ok(Served::Sending | Served::Rested) => Ok(()),
-        Err(refusal) => Err(refusal),
+        Err(refusal) => Err(*refusal),
     }
 }
 
@@ -178,7 +178,7 @@ impl<M: Module> Bare<M> {
     {
         let served = self.scheduled.serve(now);
         self.has_replied = may_be_awaited::<M>(&served, self.scheduled.core());
-        done::<M>(served)
+        done::<M>(&served)
     }
 
     /// What becomes of the token by which the machine was served.

@@ -129,6 +129,12 @@ pub(crate) fn boxed<M: Module>(
     }
 }
 
+/// A run that comes to where none comes waits for good.
+fn never<R: Wait>(rt: &R) -> ! {
+    for _ in rt.forever() {}
+    unreachable!()
+}
+
 impl<M: Module> Machine<M> {
     /// Puts a machine with an empty journal, which it keeps, under a lock. If it has work, it is issued a token, whose wake number is 0.
     ///
@@ -198,9 +204,9 @@ impl<M: Module> Machine<M> {
 
         ensures refusals { IfErr result (λ refusal. refusal ≡ NoMemory) }
     {
-        match ClaimLock::new(alloc, None) {
-            Ok((lock, _first)) => Ok(Machine::over(alloc, lock, id)),
-            Err(_) => Err(Refusal::NoMemory),
+        match ClaimLock::new(alloc, None).ok() {
+            Some((lock, _first)) => Ok(Machine::over(alloc, lock, id)),
+            None => Err(Refusal::NoMemory),
         }
     }
 
@@ -222,8 +228,7 @@ impl<M: Module> Machine<M> {
         if under.is_some() {
             // No run comes here: a vacant machine is filled once.
             drop(taken.give_back(&mut holder, under));
-            for _ in rt.forever() {}
-            unreachable!()
+            never(rt)
         }
         drop(give_back(taken, &mut holder, inner));
     }
@@ -240,14 +245,12 @@ impl<M: Module> Machine<M> {
         let Some(inner) = under else {
             // No run comes here: a machine is shared after its inner state is there.
             drop(taken.give_back(&mut holder, None));
-            for _ in rt.forever() {}
-            unreachable!()
+            never(rt)
         };
         if inner.id() != self.id {
             // No run comes here: the inner state that was put there is the machine's own.
             drop(give_back(taken, &mut holder, inner));
-            for _ in rt.forever() {}
-            unreachable!()
+            never(rt)
         }
         (Held { taken, holder }, inner)
     }
@@ -278,8 +281,7 @@ impl<M: Module> Machine<M> {
         if !inner.counts(self.id, port, count) {
             // No run comes here: nobody else posts through a port.
             drop(give_back(taken, holder, inner));
-            for _ in rt.forever() {}
-            unreachable!()
+            never(rt)
         }
         (taken, inner)
     }

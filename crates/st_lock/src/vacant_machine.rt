@@ -8,7 +8,7 @@ ghost use Rattle.st_lock.specs.Machines.{id_of, id_for};
 
 use crate::Machine;
 use crate::inner::Inner;
-use crate::machine::boxed;
+use crate::machine::{InnerOf, boxed};
 use st_cell::{Core, MachineId, Module, Refusal, Refused, Token};
 use std::alloc::Global;
 use std::sync::{Arc, Wait};
@@ -22,6 +22,22 @@ pub struct VacantMachine<M: Module> {
     machine: Arc<Machine<M>>,
     // Whether the machine will keep its journal.
     keeps: bool,
+}
+
+/// The inner state of a machine that has just started, in a box. Where there is no memory, the machine comes back.
+fn begun<M: Module>(
+    alloc: Global,
+    core: Core<M>,
+    keeps: bool,
+) -> Result<(InnerOf<M>, Option<Token>), Refused<Core<M>>>
+    ensures token { IfOk result (λ begun. begun.1 ≡ token_of (cell_at_first core).scheduled) }
+
+    ensures refusals { IfErr result (λ refused. refused.refusal ≡ NoMemory) }
+    ensures returned { IfErr result (λ refused. refused.value ≡ core) }
+{
+    let (inner, token) = Inner::begun(alloc, core, keeps)?;
+    let inner = boxed(alloc, inner)?;
+    Ok((inner, token))
 }
 
 impl<M: Module> VacantMachine<M> {
@@ -58,9 +74,9 @@ impl<M: Module> VacantMachine<M> {
         ensures refusals { IfErr result (λ refusal. refusal ≡ NoMemory) }
     {
         let machine = Machine::without_inner(alloc, id)?;
-        match Arc::new(alloc, machine) {
-            Ok(machine) => Ok(VacantMachine { machine, keeps }),
-            Err(_) => Err(Refusal::NoMemory),
+        match Arc::new(alloc, machine).ok() {
+            Some(machine) => Ok(VacantMachine { machine, keeps }),
+            None => Err(Refusal::NoMemory),
         }
     }
 
@@ -84,9 +100,12 @@ impl<M: Module> VacantMachine<M> {
         ensures returned { IfErr result (λ refused. refused.value ≡ core) }
     {
         let VacantMachine { machine, keeps } = self;
-        let (inner, token) = Inner::begun(alloc, core, keeps)?;
-        let inner = boxed(alloc, inner)?;
-        machine.put(rt, inner);
-        Ok((machine, token))
+        match begun(alloc, core, keeps) {
+            Ok((inner, token)) => {
+                machine.put(rt, inner);
+                Ok((machine, token))
+            }
+            Err(refused) => Err(refused),
+        }
     }
 }

@@ -3,9 +3,9 @@ use Rattle.st_answers.specs.declared.command.Command.TheVariants as command
 use Rattle.st_core.specs.Callbacks.{callbacks_of}
 use Rattle.st_scheduled.specs.Answered.{stopped_as}
 use Rattle.st_cell.specs.Calls.{IsTold}
-use Rattle.st_cell.proofs.CellLemmas.{is_told_kept}
-use Rattle.st_any_cell.specs.AnyCell.{AnyCellState, Leaves, state_of}
-use Rattle.st_any_cell.proofs.FormLemmas.{any_kept, journaled_called, unjournaled_called}
+use Rattle.st_cell.proofs.CellLemmas.{is_told_kept, told_unchanged}
+use Rattle.st_any_cell.specs.AnyCell.{AnyCellState, IsAnyCell, Leaves, state_of}
+use Rattle.st_any_cell.proofs.FormLemmas.{any_kept, any_unchanged, journaled_called, unjournaled_called}
 use Rattle.st_any_cell.proofs.any_cell.AnyCell.stop.Goals as goal
 use Rattle.st_any_cell.proofs.any_cell.AnyCell.stop.Goals.{in-Journaled, in-Unjournaled}
 
@@ -31,3 +31,10 @@ returns-clause-does g c =
       | in-Unjournaled w ↦ unjournaled_called (λ old result after. IsTold (callbacks_of g.M.Module g.M.State.PartialEq.eq) old (command.Stop c.args.reason) (stopped_as result) after) c.self.inside.form c.match-self.self-inside w.in-Unjournaled.bare w.stop-in-Unjournaled.new.self w.stop-in-Unjournaled.result c.match-self.result
           w.in-Unjournaled.is w.self-inside-is w.result-is w.stop-in-Unjournaled.ensures.does
     ])
+
+-- a refused stop changes nothing
+pub returns-clause-unchanged : goal.returns-clause-unchanged
+returns-clause-unchanged g c =
+    any_unchanged (callbacks_of g.M.Module g.M.State.PartialEq.eq) (IsTold (callbacks_of g.M.Module g.M.State.PartialEq.eq) c.args.self.now.cell (command.Stop c.args.reason) (stopped_as c.match-self.result)) c.args.self.now (state_of c.match-self.self-inside.form) c.match-self.result
+    (λ after does. told_unchanged (callbacks_of g.M.Module g.M.State.PartialEq.eq) c.args.self.now.cell after (command.Stop c.args.reason) stopped_as c.match-self.result (λ refused. refl) does)
+    (subst (λ (state : AnyCellState _ _ _ _). IsAnyCell (callbacks_of g.M.Module g.M.State.PartialEq.eq) state) c.self.view_is c.self.invariant) (returns-clause-does g c)

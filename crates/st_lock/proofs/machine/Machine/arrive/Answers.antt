@@ -45,22 +45,3 @@ pub returns-clause-own : goal.returns-clause-own
 returns-clause-own g c =
     ap (λ (inner : InnerState _ _ _ _). inner.cell.scheduled.core.machine.id) (sym c.deref.ensures)
     ∙ (sym c.id.ensures ∙ ids_not_other c.id.result c.args.self.now.id c.if-ne.ensures)
-
--- a run that comes to where none comes waits for good
-pub loop-smaller : goal.loop-smaller
-loop-smaller g c = (c.in-Some-2.ensures.goes.on tt).2
-
-pub unreachable-requires : goal.unreachable-requires
-unreachable-requires g c = let no : false ≡ true = c.in-None.ensures.steps in cc
-
-pub unreachable-unreachable : goal.unreachable-unreachable
-unreachable-unreachable g c = c.unreachable.result
-
-pub -then-ne-smaller : goal.-then-ne-smaller
--then-ne-smaller g c = (c.in-Some-3.ensures.goes.on tt).2
-
-pub unreachable-requires-then-ne : goal.unreachable-requires-then-ne
-unreachable-requires-then-ne g c = let no : false ≡ true = c.in-None-2.ensures.steps in cc
-
-pub unreachable-unreachable-then-ne : goal.unreachable-unreachable-then-ne
-unreachable-unreachable-then-ne g c = c.unreachable-then-ne.result

@@ -17,16 +17,6 @@ give_back-requires-clause-out g c = newcomer_out c.arrive-taken.result.2 _ _ _ c
 pub give_back-requires-clause-others : goal.give_back-requires-clause-others
 give_back-requires-clause-others g c = λ claim fits. subst (λ under. Fits (inner_of under) claim) c.arrive-taken.ensures.taken.1 fits
 
--- a run that comes to where none comes waits for good
-pub loop-smaller : goal.loop-smaller
-loop-smaller g c = (c.in-Some.ensures.goes.on tt).2
-
-pub unreachable-requires : goal.unreachable-requires
-unreachable-requires g c = let no : false ≡ true = c.in-None.ensures.steps in cc
-
-pub unreachable-unreachable : goal.unreachable-unreachable
-unreachable-unreachable g c = c.unreachable.result
-
 -- where none lies there, the new one goes there
 pub give_back-requires-2-clause-lock : goal.give_back-requires-2-clause-lock
 give_back-requires-2-clause-lock g c = c.arrive-taken.ensures.lock ∙ sym c.arrive-taken.ensures.taken.0

@@ -60,15 +60,6 @@ returns-clause-count g c = c.if-not-counts.ensures.count refl ∙ ap (λ (inner 
 pub returns-clause-limited : goal.returns-clause-limited
 returns-clause-limited g c = c.if-not-counts.ensures.limited refl
 
--- a run that comes to where none comes waits for good
+-- the holder claims its own state
 pub unreachable-unreachable : goal.unreachable-unreachable
 unreachable-unreachable g c = c.unreachable.result
-
-pub loop-smaller : goal.loop-smaller
-loop-smaller g c = (c.in-Some-2.ensures.goes.on tt).2
-
-pub unreachable-requires-then-not-counts : goal.unreachable-requires-then-not-counts
-unreachable-requires-then-not-counts g c = let no : false ≡ true = c.in-None.ensures.steps in cc
-
-pub unreachable-unreachable-then-not-counts : goal.unreachable-unreachable-then-not-counts
-unreachable-unreachable-then-not-counts g c = c.unreachable-then-not-counts.result
