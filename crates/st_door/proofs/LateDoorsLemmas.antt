@@ -2,7 +2,7 @@
 use Rattle.std.proofs.Common.{◌≡◌, ℕ, zero, suc, ◌+◌, ◌^◌, ◌<◌, ◌≤◌, nat_lt, Bool, true, false, ◌&&◌, List, [], ◌∷◌, ◌++◌, length, get_or, set, map, Option, Some, None, is_none, is_some, IfSome, IfNone, Ok, Err, refl, ap, sym, ◌∙◌, arith, inl, inr}
 use Rattle.std.specs.Global.{Box}
 use Rattle.std.specs.List.{find, flat_map}
-use Rattle.std.proofs.lemmas.Bool.{cases_Bool}
+use Rattle.std.proofs.lemmas.Bool.{cases_Bool, cases_lt}
 use Rattle.std.proofs.lemmas.List.{length-set}
 use Rattle.std.proofs.lemmas.List.Sums.{sum_by-cons}
 use Rattle.st_core.specs.Choice.{has_message_of, is_ready_of, next_due_of}
@@ -496,3 +496,15 @@ none-when (Some x) is = cc
 pub not-kept : (past : Option (Box History)) → is_some past ≡ false → past_in past ≡ None
 not-kept None is = refl
 not-kept (Some past) is = cc
+
+-- ---- what is due of all doors
+-- one door more was looked at
+pub quiet-more : (low due until place : ℕ) (doors : List NamedDoor) → low ≤ due → low ≤ until
+    → ((k : ℕ) (d : NamedDoor) → k < place → IsQuietUntil due (kept_of (get_or doors k d)))
+    → ((d : NamedDoor) → IsQuietUntil until (kept_of (get_or doors place d)))
+    → (k : ℕ) (d : NamedDoor) → k < place + 1 → IsQuietUntil low (kept_of (get_or doors k d))
+quiet-more low due until place doors first second before here k d less = elim (cases_lt k place) [
+  | inl earlier ↦ quiet-lower low due (kept_of (get_or doors k d)) first (before k d (omega (arith, earlier)))
+  | inr last ↦ let same : k ≡ place = omega (arith, last, less) in
+      rw same (quiet-lower low until (kept_of (get_or doors place d)) second (here d))
+]

@@ -10,7 +10,7 @@ use st_events::Refusal;
 pub(crate) type DoorAnswer = Answer<DoorState, DoorContent>;
 
 /// Why a command is refused, if it is.
-pub(crate) fn refusal_in(answer: &DoorAnswer) -> Option<Refusal>
+fn refusal_in(answer: &DoorAnswer) -> Option<Refusal>
     ensures { result ≡ refusal_in answer.now }
 {
     match answer {
@@ -23,7 +23,7 @@ pub(crate) fn refusal_in(answer: &DoorAnswer) -> Option<Refusal>
 }
 
 /// How many time-outs expire at a command: none but a tick has any.
-pub(crate) fn count_in(answer: &DoorAnswer) -> u64
+fn count_in(answer: &DoorAnswer) -> u64
     ensures { result ≡ count_in answer.now }
 {
     match answer {
@@ -33,11 +33,35 @@ pub(crate) fn count_in(answer: &DoorAnswer) -> u64
 }
 
 /// The length that a command brought, if it is a collect that brought one.
-pub(crate) fn length_in(answer: &DoorAnswer) -> Option<usize>
+fn length_in(answer: &DoorAnswer) -> Option<usize>
     ensures { result ≡ length_in answer.now }
 {
     match answer {
         Answer::Collect(Collected::Reply(DoorContent::Length(digits))) => Some(*digits),
         _ => None,
+    }
+}
+
+/// What an answer says, without the answer.
+#[derive(Drop)]
+pub(crate) struct Said {
+    /// Why the command is refused, if it is.
+    pub(crate) refusal: Option<Refusal>,
+    /// How many time-outs expire at it.
+    pub(crate) expired: u64,
+    /// The length that it brought, if it brought one.
+    pub(crate) digits: Option<usize>,
+}
+
+/// Lets an answer go, and answers what it says.
+pub(crate) fn let_go(answer: DoorAnswer) -> Said
+    ensures refusal { result.refusal ≡ refusal_in answer }
+    ensures expired { result.expired ≡ count_in answer }
+    ensures digits { result.digits ≡ length_in answer }
+{
+    Said {
+        refusal: refusal_in(&answer),
+        expired: count_in(&answer),
+        digits: length_in(&answer),
     }
 }

@@ -5,6 +5,7 @@ ghost use Rattle.st_core.specs.Run.{step_of};
 ghost use Rattle.st_answers.specs.declared.command.Command.TheVariants as command;
 ghost use Rattle.st_answers.specs.declared.entry.Entry.TheVariants.{Info};
 ghost use Rattle.st_outbox.specs.Outbox.{first_message};
+ghost use Rattle.st_scheduled.specs.ScheduledMachine.{HasTokenForWork, token_of};
 ghost use Rattle.st_scheduled.specs.Serving.{is_full};
 ghost use Rattle.st_cell.specs.Cell.{IsOpen};
 ghost use Rattle.st_cell.specs.declared.source.Source.TheVariants as source;
@@ -18,7 +19,7 @@ use crate::service::Service;
 use crate::{Door, DoorContent};
 use st_cell::{Cell, a_cell_has_a_token_for_work};
 use st_core::{Answer, Command, Entry};
-use st_events::{Message, Reason, Refusal, Tag};
+use st_events::{Message, Reason, Refusal, Tag, Token};
 use std::alloc::AllocError;
 
 /// The port of a door: the first one.
@@ -178,6 +179,15 @@ fn collect(cell: &mut Cell<Door>, tag: Tag) -> Result<DoorAnswer, AllocError>
     }
 }
 
+/// A door's token. One is outstanding where the door has work.
+fn token_in(cell: &Cell<Door>) -> Option<Token>
+    ensures token { result ≡ token_of cell.now.scheduled }
+    ensures work { HasTokenForWork cell.now.scheduled }
+{
+    a_cell_has_a_token_for_work(cell);
+    cell.token()
+}
+
 /// Serves a door that is ready, by its token.
 fn turn(cell: &mut Cell<Door>, moment: u64) -> Result<(), AllocError>
     requires ready { is_full cell.old.scheduled ≡ false }
@@ -189,8 +199,7 @@ fn turn(cell: &mut Cell<Door>, moment: u64) -> Result<(), AllocError>
     // Whatever the answer is.
     ensures ports { length cell.new.ports ≡ length cell.old.ports }
 {
-    a_cell_has_a_token_for_work(cell);
-    let Some(token) = cell.token() else {
+    let Some(token) = token_in(cell) else {
         unreachable!()
     };
     match cell.turn(token, moment) {
@@ -214,8 +223,7 @@ fn take_out(cell: &mut Cell<Door>) -> Result<Message<DoorContent>, AllocError>
     // Whatever the answer is.
     ensures ports { length cell.new.ports ≡ length cell.old.ports }
 {
-    a_cell_has_a_token_for_work(cell);
-    let Some(token) = cell.token() else {
+    let Some(token) = token_in(cell) else {
         unreachable!()
     };
     match cell.take_out(token) {

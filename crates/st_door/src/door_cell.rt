@@ -62,9 +62,9 @@ fn past_at_first(
 fn celled(alloc: Global, core: Core<Door>) -> Result<Cell<Door>, AllocError>
     ensures { IfOk result (λ cell. cell ≡ cell_at_first core) }
 {
-    match Cell::new(alloc, core) {
-        Ok((cell, _token)) => Ok(cell),
-        Err(_refused) => Err(AllocError),
+    match Cell::new(alloc, core).ok() {
+        Some((cell, _token)) => Ok(cell),
+        None => Err(AllocError),
     }
 }
 
@@ -103,8 +103,8 @@ impl DoorCell {
     pub(crate) fn new(alloc: Global, core: Core<Door>, keeps: bool) -> Result<DoorCell, AllocError>
         ensures { IfOk result (λ door. door ≡ door_at_first keeps core.machine) }
     {
-        let past = past_at_first(alloc, &core, keeps)?;
         let cell = opened(alloc, core)?;
+        let past = past_at_first(alloc, cell.core(), keeps)?;
         Ok(DoorCell { cell, past })
     }
 
@@ -132,7 +132,7 @@ impl DoorCell {
         if self.past.is_some() {
             return 0;
         }
-        let core = self.cell.core();
+        let core = self.core();
         if core.ended().is_some() {
             return MOMENT_LIMIT;
         }

@@ -1,5 +1,5 @@
 //! The doors of a script, by name, in order of registration.
-ghost use Rattle.std.specs.Prelude.{◌≡◌, ◌<◌, ◌≤◌, ◌^◌, false, [], ◌∷◌, ◌++◌, None, find, IfOk, IfErr, OnOk, OnErr, MatchResult, IfSome, IfNone, length, slice_set, slice_index_or, string_bytes};
+ghost use Rattle.std.specs.Prelude.{◌≡◌, ◌+◌, ◌<◌, ◌≤◌, ◌^◌, false, [], ◌∷◌, ◌++◌, None, find, IfOk, IfErr, OnOk, OnErr, MatchResult, IfSome, IfNone, length, slice_set, slice_index_or, string_bytes};
 ghost use Rattle.std.specs.Io.KnownBytes.{Appends};
 ghost use Rattle.st_door.specs.Doors.{NamedDoor, door_named, IsFirst, has_name, door_of, without_door, is_ready_door, is_over, kept_of, told_of, told_door, serves};
 ghost use Rattle.st_door.specs.Late.{IsQuietUntil, is_late};
@@ -100,13 +100,7 @@ impl Doors {
     {
         let place = self.entries.len();
         let number = door.core().id().serial;
-        if number < self.next {
-            return Err(AllocError);
-        }
-        let Some(next) = number.checked_add(1) else {
-            return Err(AllocError);
-        };
-        let key = String::from_str(self.alloc, name.as_str())?;
+        let (next, key) = room_for(self.alloc, self.next, name.as_str(), number)?;
         self.entries.push(self.alloc, number, name, door)?;
         if let Err(error) = self.numbers.insert(key, number) {
             self.entries.truncate(place);
@@ -268,4 +262,20 @@ impl Doors {
         let (name, door) = self.entry_at(place);
         door.write_trace(alloc, name.as_str(), writer)
     }
+}
+
+/// Makes ready to register a door of this number under a name, where numbers from `next` on are free. Answers from where on they
+/// are then, and a copy of the name.
+fn room_for(alloc: Global, next: u64, name: &str, number: u64) -> Result<(u64, String), AllocError>
+    ensures order { OnOk result (next ≤ number) }
+    ensures next { IfOk result (λ room. room.0 ≡ number + 1) }
+    ensures key { IfOk result (λ room. string_bytes room.1 ≡ name.now) }
+{
+    if number < next {
+        return Err(AllocError);
+    }
+    let Some(after) = number.checked_add(1) else {
+        return Err(AllocError);
+    };
+    Ok((after, String::from_str(alloc, name)?))
 }

@@ -10,7 +10,7 @@ ghost use Rattle.st_door.specs.ScriptFault.{IsOfInput, write_failures_after};
 ghost use Rattle.st_door.specs.Streams.{AppendsFront};
 ghost use Rattle.st_door.specs.Traces.{trace_of_door};
 
-use crate::answers::{DoorAnswer, count_in};
+use crate::answers::{DoorAnswer, let_go};
 use crate::door_cell::DoorCell;
 use crate::doors::Doors;
 use crate::service::Service;
@@ -207,7 +207,7 @@ impl LateDoors {
         let mut expired = 0;
         for place in 0..self.len() {
             let answer = self.tell_at(place, Command::Tick(moment))?;
-            expired += u128::from(count_in(&answer));
+            expired += u128::from(let_go(answer).expired);
         }
         Ok(expired)
     }
@@ -255,7 +255,8 @@ fn catch_up(doors: &mut Doors, place: usize, moment: u64) -> Result<(), AllocErr
     ensures unchanged { OnErr result (doors.new ≡ doors.old) }
 {
     if doors.is_late_at(place, moment) {
-        doors.tell_at(place, Command::Tick(moment))?;
+        let answer = doors.tell_at(place, Command::Tick(moment))?;
+        let_go(answer);
     }
     Ok(())
 }

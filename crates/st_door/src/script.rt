@@ -12,7 +12,7 @@ ghost use Rattle.st_door.specs.Script.{first_script_state, is_traced, step_of, c
 ghost use Rattle.st_door.specs.declared.effect.Effect.TheVariants.{Printed};
 ghost use Rattle.st_door.specs.declared.line.Line.TheVariants as line;
 
-use crate::answers::{DoorAnswer, length_in, refusal_in};
+use crate::answers::{DoorAnswer, let_go};
 use crate::door_cell::DoorCell;
 use crate::effect::Effect;
 use crate::free_slots::FreeSlots;
@@ -267,7 +267,7 @@ impl Script {
         ensures told { OnOk result ((d : NamedDoor) → self.new ≡ record self.old { doors = slice_set self.old.doors place (told_door (command.Collect tag) (slice_index_or self.old.doors place d)) }) }
     {
         let collected = self.tell(place, Command::Collect(tag))?;
-        Ok(length_in(&collected))
+        Ok(let_go(collected).digits)
     }
 
     /// Answers the length of the code of the door of a name.
@@ -382,7 +382,7 @@ impl Script {
         ensures told { OnOk result ((d : NamedDoor) → self.new ≡ record self.old { doors = slice_set self.old.doors place (told_door command (slice_index_or self.old.doors place d)) }) }
     {
         let answer = self.tell(place, command)?;
-        Ok(refusal_in(&answer))
+        Ok(let_go(answer).refusal)
     }
 
     /// Goes to a moment and ticks each door at it, and answers how many time-outs expire. Where any

@@ -1,8 +1,12 @@
-use Rattle.std.proofs.Common.{◌++◌, ◌∙◌, refl}
+use Rattle.std.proofs.Common.{rules, [], ◌++◌, ◌∙◌, refl}
 use Rattle.st_door.proofs.DoorLemmas.{err_always}
 use Rattle.st_door.proofs.ScriptLemmas.{front_more, output_step, faulty_step}
-use Rattle.st_door.proofs.StreamLemmas.{appends_more}
+use Rattle.st_door.proofs.StreamLemmas.{appends_more, appends_nothing}
 use Rattle.st_door.proofs.run.run_input.Goals as goal
+
+-- nothing is written yet
+pub loop-index-init : goal.loop-index-init
+loop-index-init g c = (refl, ([], appends_nothing (g.W.Sink.held c.args.writer.now), search rules), search rules)
 
 -- one line was done and written
 pub loop-index-preserved : goal.loop-index-preserved

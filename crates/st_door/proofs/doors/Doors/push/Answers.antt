@@ -33,14 +33,14 @@ invariant_of-self-2 c =
     let entries = c.self.inside.entries in
     let name : List ℕ = string_bytes c.args.name in
     let number : ℕ = c.id-number.result.serial in
-    let order : c.self.inside.next ≤ number = search rules in
+    let order : c.self.inside.next ≤ number = c.in_ok-next.ensures.order in
     let serial : number ≡ c.args.door.machine.id.serial = search rules in
     let free : number_of (string_bytes c.args.name) entries ≡ None = number-free (string_bytes c.args.name) entries (rw c.self.view_is c.requires) in
     let last : c.push.new.self ≡ entries ++ (c.id-number.result.serial, (c.args.name, c.args.door)) ∷ [] =
     c.in_ok-push.ensures.pushed in
-    let key : string_bytes c.in_ok-key.key ≡ string_bytes c.args.name = c.in_ok-key.ensures.ok ∙ c.as_str.ensures.value in
-    let counted : c.in-Some.next ≡ number + 1 = search rules in (
-      λ other. c.in_default-insert.ensures.inserted other
+    let key : string_bytes c.in_ok-next.key ≡ string_bytes c.args.name = c.in_ok-next.ensures.key ∙ c.as_str.ensures.value in
+    let counted : c.in_ok-next.next ≡ number + 1 = c.in_ok-next.ensures.next in (
+      λ other. c.in_default.ensures.inserted other
           ∙ (ap (λ (n : List ℕ). if bytes_eq n other then Some number else get_by_text c.self.inside.numbers.numbers other) key
           ∙ (ap (λ (found : Option ℕ). if bytes_eq name other then Some number else found) (c.self.invariant.0 other)
           ∙ (sym (number-last entries number c.args.name c.args.door other free) ∙ ap (number_of other) (sym last)))),

@@ -16,13 +16,13 @@ returns-in_err-answer-clause-same_labels c =
 pub loop-place-preserved : goal.loop-place-preserved
 loop-place-preserved c =
     let less : c.loop-place.place < length c.args.self.now = omega arith in
-    let count : c.from-expired.result ≡ c.count_in.result = search rules in
+    let count : c.from-expired.result ≡ c.let_go.result.expired = search rules in
     let small : c.from-expired.result < 2 ^ 64 = search rules in
     record {
       ticked = ticked-more c.args.moment c.loop-place.place c.args.self.now c.loop-place.self c.tell_at.new.self no_door c.loop-place.invariant.ticked less
           (c.in_ok-answer.ensures.told no_door);
       counted = expired-more c.args.moment c.loop-place.place c.args.self.now c.loop-place.self c.loop-place.expired c.from-expired.result no_door c.loop-place.invariant.ticked less
-          c.loop-place.invariant.counted (count ∙ (c.count_in.ensures ∙ ap count_in (c.in_ok-answer.ensures.answer no_door)));
+          c.loop-place.invariant.counted (count ∙ (c.let_go.ensures.expired ∙ ap count_in (c.in_ok-answer.ensures.answer no_door)));
       bounded = omega (arith, small, c.loop-place.invariant.bounded);
     }
 

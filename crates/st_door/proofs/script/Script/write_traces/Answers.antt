@@ -1,7 +1,8 @@
-use Rattle.std.proofs.Common.{rules, ◌≡◌, ◌+◌, List, ◌∷◌, ◌++◌, drop, get_or, refl, ap}
+use Rattle.std.proofs.Common.{rules, ◌≡◌, ◌+◌, List, ◌∷◌, ◌++◌, drop, get_or, refl, ap, ◌∙◌}
 use Rattle.st_door.specs.Doors.{NamedDoor}
 use Rattle.st_door.specs.Script.{ScriptState}
 use Rattle.st_door.specs.Traces.{trace_of_door}
+use Rattle.st_door.proofs.DoorLemmas.{err_always}
 use Rattle.st_door.proofs.IdleLemmas.{no_door}
 use Rattle.st_door.proofs.ScriptLemmas.{doors_left-cons, front_more, traces_step}
 use Rattle.st_door.proofs.StreamLemmas.{appends_more}
@@ -16,7 +17,7 @@ loop-place-preserved g c =
     let here : drop place doors ≡ door ∷ drop (place + 1) doors = doors_left-cons doors place no_door (search rules) in
     let same : c.self.inside.doors ≡ c.args.self.now.doors = ap (λ (script : ScriptState). script.doors) c.self.view_is in
     let written = rw same at (c.in_ok-write_trace_at.ensures.written no_door) in (
-      search rules,
+      c.in_ok-write_trace_at.ensures.failures ∙ c.loop-place.invariant.0,
       (
         c.loop-place.invariant.1.0 ++ trace_of_door door,
         appends_more _ _ _ _ _ c.loop-place.invariant.1.1 written,
@@ -33,6 +34,5 @@ returns-in_err-write_trace_at-clause-front g c =
     let here : drop place doors ≡ door ∷ drop (place + 1) doors = doors_left-cons doors place no_door (search rules) in
     let same : c.self.inside.doors ≡ c.args.self.now.doors = ap (λ (script : ScriptState). script.doors) c.self.view_is in
     let stopped = rw same at (c.in_err-write_trace_at.ensures.front no_door) in
-    let front = front_more _ _ _ _ (trace_of_door door) _ _ c.loop-place.invariant.1.1 stopped
-    (traces_step _ (trace_of_door door) door _ _ _ here refl c.loop-place.invariant.1.2) in
-    search rules
+    err_always _ _ (front_more _ _ _ _ (trace_of_door door) _ _ c.loop-place.invariant.1.1 stopped
+    (traces_step _ (trace_of_door door) door _ _ _ here refl c.loop-place.invariant.1.2))
