@@ -22,6 +22,22 @@ fn write<S: Debug>(
     Ok(())
 }
 
+/// Gives a machine a turn, and writes its report down.
+fn handle_one<M: Module>(
+    core: &mut Core<M>,
+    now: u64,
+    alloc: Global,
+    log: &mut String,
+) -> Result<(), Refusal>
+where
+    M::State: Debug,
+{
+    match core.turn(now)? {
+        Turned::Idle => Ok(()),
+        Turned::Reported(report) => write(now, &report, alloc, log),
+    }
+}
+
 /// Gives a machine turns until there is nothing to handle, and writes each report down.
 fn handle_all<M: Module>(
     core: &mut Core<M>,
@@ -33,10 +49,10 @@ where
     M::State: Debug,
 {
     for _ in 0..LIMIT {
-        match core.turn(now)? {
-            Turned::Idle => break,
-            Turned::Reported(report) => write(now, &report, alloc, log)?,
+        if !core.has_event() {
+            break;
         }
+        handle_one(core, now, alloc, log)?;
     }
     Ok(())
 }
@@ -74,18 +90,23 @@ where
     let_time_pass(core, alloc, log)
 }
 
-/// Ends a machine, and writes its last word down.
-fn end<M: Module>(core: &mut Core<M>, alloc: Global, log: &mut String) -> Result<(), Refusal> {
-    let word = core.stop(7)?;
+/// Writes a machine's last word down.
+fn write_word(word: u32, alloc: Global, log: &mut String) -> Result<(), Refusal> {
     log.push_str(format!(in alloc; "the last word: {word}\n")?.as_str())?;
     Ok(())
 }
 
 /// A lamp whose bulb can be turned on once: it is switched on and turns itself off, and then it stays dark.
-fn use_up(lamp: &mut Core<Lamp>, alloc: Global, log: &mut String) -> Result<(), Refusal> {
+fn use_up(
+    lamp: &mut Core<Lamp>,
+    report: &Report<Light>,
+    alloc: Global,
+    log: &mut String,
+) -> Result<(), Refusal> {
+    write(0, report, alloc, log)?;
     post_cast(lamp, Press::Switch, alloc, log)?;
     post_cast(lamp, Press::Switch, alloc, log)?;
-    end(lamp, alloc, log)
+    write_word(lamp.stop(7)?, alloc, log)
 }
 
 /// A lamp that runs, in a box, and what its start reported. `None`: it did not start.
@@ -93,17 +114,23 @@ fn started(alloc: Global) -> Result<Option<(Box<Core<Lamp>>, Report<Light>)>, Re
     let id = MachineId { slot: 0, serial: 1 };
     match Core::start(alloc, Lamp, id, &Bulb { left: 1 }, 0)? {
         Start::Running(lamp, report) => Ok(Some((Box::new(alloc, lamp)?, report))),
-        _ => Ok(None),
+        Start::Ignored => Ok(None),
+        Start::Stopped(_) => Ok(None),
     }
 }
 
-/// Starts a lamp and uses it up, and answers what was written down.
+/// Starts a lamp and uses it up.
+fn show(alloc: Global, log: &mut String) -> Result<(), Refusal> {
+    match started(alloc)? {
+        Some((mut lamp, report)) => use_up(&mut lamp, &report, alloc, log),
+        None => Ok(()),
+    }
+}
+
+/// Shows a lamp, and answers what was written down.
 fn run(alloc: Global) -> Result<String, Refusal> {
     let mut log = String::new(alloc);
-    if let Some((mut lamp, report)) = started(alloc)? {
-        write(0, &report, alloc, &mut log)?;
-        use_up(&mut lamp, alloc, &mut log)?;
-    }
+    show(alloc, &mut log)?;
     Ok(log)
 }
 

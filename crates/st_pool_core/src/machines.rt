@@ -20,6 +20,12 @@ type TakenOutOf<M> = Result<Option<Message<<M as Module>::Content>>, Refusal>;
 /// What a machine answers to a post, or why it refused.
 type PostedOf<M> = Result<Posted, Refused<<M as Module>::Content>>;
 
+/// The ids of a pool's machines, in their order.
+#[derive(Drop)]
+pub(crate) struct Ids {
+    pub(crate) all: IndexSet<MachineId>,
+}
+
 /// The machines of a pool, in the order in which they came. One is found by its id in one hashed look-up.
 #[derive(Drop)]
 pub(crate) struct Machines<M: Module> {
@@ -42,10 +48,10 @@ impl<M: Module> Machines<M> {
     /// These machines, whose ids these are, in their order. Where there is no memory, they come back.
     pub(crate) fn new(
         alloc: Global,
-        ids: IndexSet<MachineId>,
+        ids: Ids,
         cores: Vec<Core<M>>,
     ) -> Result<Machines<M>, Vec<Core<M>>>
-        requires { ids.keys ≡ map core_id cores.items }
+        requires { ids.all.keys ≡ map core_id cores.items }
         ensures machines { IfOk result (λ machines. machines ≡ map scheduled_at_first cores.items) }
 
         ensures returned { IfErr result (λ back. back ≡ cores) }
@@ -56,7 +62,7 @@ impl<M: Module> Machines<M> {
         for core in cores {
             all.push_reserved(ScheduledMachine::new(core));
         }
-        Ok(Machines { ids, all })
+        Ok(Machines { ids: ids.all, all })
     }
 
     /// The place of the machine of an id.

@@ -1,10 +1,10 @@
 //! A pool begins.
-ghost use Rattle.std.specs.Prelude.{◌≡◌, map, MatchOption, IfOk, IfErr, All};
+ghost use Rattle.std.specs.Prelude.{◌≡◌, ℕ, map, MatchOption, IfOk, IfErr, All};
 ghost use Rattle.st_pool_core.specs.Opening.{core_id, may_have, HasItsOwn, IsWhyNone, Opens};
 ghost use Rattle.st_pool_core.specs.PoolState.{OneEach};
 ghost use Rattle.st_scheduled.specs.Serving.{scheduled_at_first};
 
-use crate::machines::Machines;
+use crate::machines::{Ids, Machines};
 use crate::pool::Pool;
 use crate::run_queues::RunQueues;
 use crate::transit::Transit;
@@ -25,20 +25,51 @@ fn may_have(workers: usize) -> bool
 
 /// The ids of machines, in their order; `None` where two have one id. Each machine's outbox has its own messages alone,
 /// since it is lawful.
-fn ids_of<M: Module>(
-    cores: &[Core<M>],
-    alloc: Global,
-) -> Result<Option<IndexSet<MachineId>>, AllocError>
-    ensures { IfOk result (λ ids. MatchOption ids (OneEach (map scheduled_at_first cores.now) → ⊥) (λ ids. (ids.keys ≡ map core_id cores.now) × OneEach (map scheduled_at_first cores.now) × All HasItsOwn cores.now)) }
+fn ids_of<M: Module>(cores: &[Core<M>], alloc: Global) -> Result<Option<Ids>, AllocError>
+    ensures { IfOk result (λ ids. MatchOption ids (OneEach (map scheduled_at_first cores.now) → ⊥) (λ ids. (ids.all.keys ≡ map core_id cores.now) × OneEach (map scheduled_at_first cores.now) × All HasItsOwn cores.now)) }
 {
-    let mut ids = IndexSet::with_capacity(alloc, cores.len())?;
+    let mut ids = Ids {
+        all: IndexSet::with_capacity(alloc, cores.len())?,
+    };
     for core in cores {
         a_machine_is_lawful(core);
-        if !ids.insert(core.id())? {
+        if !ids.all.insert(core.id())? {
             return Ok(None);
         }
     }
     Ok(Some(ids))
+}
+
+/// What a pool has beside its machines: their ids, its run queues and its workers' hands.
+struct Frame<C> {
+    ids: Ids,
+    queues: RunQueues,
+    transit: Transit<C>,
+}
+
+/// What a pool of so many workers and these machines has beside them, or why there is no such pool.
+fn framed<M: Module>(
+    alloc: Global,
+    workers: usize,
+    cores: &[Core<M>],
+) -> Result<Frame<M::Content>, Refusal>
+    ensures framed { IfOk result (λ frame. (frame.ids.all.keys ≡ map core_id cores.now) × Opens workers cores.now (record { machines = map scheduled_at_first cores.now; queues = frame.queues; transit = frame.transit })) }
+
+    ensures refusals { IfErr result (λ refusal. IsWhyNone workers cores.now refusal) }
+{
+    if !may_have(workers) {
+        return Err(Refusal::NotPossible);
+    }
+    let Some(ids) = ids_of(cores, alloc)? else {
+        return Err(Refusal::NotPossible);
+    };
+    let queues = RunQueues::new(alloc, workers)?;
+    let transit = Transit::new(alloc, workers)?;
+    Ok(Frame {
+        ids,
+        queues,
+        transit,
+    })
 }
 
 impl<M: Module> Pool<M> {
@@ -53,20 +84,29 @@ impl<M: Module> Pool<M> {
         ensures refusals { IfErr result (λ refused. IsWhyNone workers cores.items refused.refusal) }
         ensures returned { IfErr result (λ refused. refused.value ≡ cores) }
     {
-        if !may_have(workers) {
-            return Err(Refused::new(Refusal::NotPossible, cores));
+        match framed(alloc, workers, &cores) {
+            Ok(frame) => Pool::filled(alloc, frame, cores),
+            Err(refusal) => Err(Refused::new(refusal, cores)),
         }
-        let ids = match ids_of(&cores, alloc) {
-            Ok(Some(ids)) => ids,
-            Ok(None) => return Err(Refused::new(Refusal::NotPossible, cores)),
-            Err(_) => return Err(Refused::new(Refusal::NoMemory, cores)),
-        };
-        let Ok(queues) = RunQueues::new(alloc, workers) else {
-            return Err(Refused::new(Refusal::NoMemory, cores));
-        };
-        let Ok(transit) = Transit::new(alloc, workers) else {
-            return Err(Refused::new(Refusal::NoMemory, cores));
-        };
+    }
+
+    /// The pool of these machines; where there is no memory, they come back.
+    fn filled(
+        alloc: Global,
+        frame: Frame<M::Content>,
+        cores: Vec<Core<M>>,
+    ) -> Result<Pool<M>, Refused<Vec<Core<M>>>>
+        requires { frame.ids.all.keys ≡ map core_id cores.items }
+        ensures opened { (workers : ℕ) → Opens workers cores.items (record { machines = map scheduled_at_first cores.items; queues = frame.queues; transit = frame.transit }) → IfOk result (λ pool. Opens workers cores.items pool) }
+
+        ensures refusals { (workers : ℕ) → IfErr result (λ refused. IsWhyNone workers cores.items refused.refusal) }
+        ensures returned { IfErr result (λ refused. refused.value ≡ cores) }
+    {
+        let Frame {
+            ids,
+            queues,
+            transit,
+        } = frame;
         match Machines::new(alloc, ids, cores) {
             Ok(machines) => Ok(Pool {
                 machines,

@@ -7,7 +7,7 @@ use Rattle.st_pool_core.proofs.opening.ids_of.Given as goal
 -- the ids so far, no two of which are one; each machine so far has its own messages
 abbrev pub invariant-loop-core : goal.invariant-loop-core
 invariant-loop-core g l = record {
-  keys : l.ids.keys ≡ map core_id (take l.core-index l.cores);
-  unique : IsUnique same_id l.ids;
+  keys : l.ids.all.keys ≡ map core_id (take l.core-index l.cores);
+  unique : IsUnique same_id l.ids.all;
   own : All HasItsOwn (take l.core-index l.cores);
 }
