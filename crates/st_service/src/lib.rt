@@ -4,6 +4,7 @@
 #![tactic(auto)]
 
 mod closing;
+mod ground;
 mod journals;
 mod link;
 mod observer;

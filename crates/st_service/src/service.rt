@@ -13,13 +13,13 @@ ghost use Rattle.st_hall.specs.Hall.{StartsSomewhere, IsNamedSomewhere, AreNames
 ghost use Rattle.st_service.specs.Spawning.{module_in, AnswersStart};
 ghost use Rattle.st_service.specs.declared.unspawned.Unspawned.TheVariants.{Closed};
 
-use crate::closing::Closing;
+use crate::ground::Ground;
 use crate::link::Link;
 use crate::served_hall::ServedHall;
 use crate::shutting::Shutting;
-use crate::{Observer, Options, ServicePort, Slices, Spawned, Unspawned};
+use crate::{Observer, Options, ServicePort, Spawned, Unspawned};
 use st_events::Token;
-use st_hall::{Hall, Machine, MachineId, Module, Refusal, Refused, Registry, Started};
+use st_hall::{Hall, Machine, MachineId, Module, Refusal, Refused, Started};
 use st_pool::Runtime;
 use st_ticker::{TickedPool, Ticker};
 use std::alloc::{AllocError, Global};
@@ -49,14 +49,6 @@ pub struct Service<M: Module, R: Runtime + Clock, O: Observer<M> + Drop> {
     pub(crate) shutting: Shutting<M::Content>,
 }
 
-/// A registry without machines. Those that are started keep a journal, or none.
-fn registry<M: Module>(alloc: Global, keeps: bool) -> Registry<M> {
-    if keeps {
-        return Registry::new(alloc);
-    }
-    Registry::unjournaled(alloc)
-}
-
 impl<M: Module + Send + Sync + 'static, R: Runtime + Clock, O> Service<M, R, O>
 where
     O: Observer<M> + Drop + Send + Sync + 'static,
@@ -82,25 +74,18 @@ where
         let Ok(start) = Instant::now(&rt) else {
             return Err(AllocError);
         };
-        let closing = Closing::new(alloc)?;
         let keeps = options.journals.are_kept() || observer.observes();
-        let hall = Arc::new(alloc, Hall::new(rt, registry(alloc, keeps)))?;
-        let ticker = Ticker::new(rt, alloc, start, &hall)?;
-        let slices = Slices::new(Arc::try_clone(&hall)?);
-        let theirs = Arc::try_clone(&hall)?;
-        let limit = options.journals.limit();
-        let served = ServedHall::new(rt, theirs, slices, observer, limit, closing.share()?);
-        let served = Arc::new(alloc, served)?;
-        let pool = TickedPool::start(rt, alloc, workers, &served, &ticker)?;
-        let scheduler = pool.pool().scheduler()?;
-        let theirs = Arc::try_clone(&served)?;
-        let link = Link::new(rt, scheduler, closing, theirs, Arc::try_clone(&ticker)?);
+        let ground = Ground::new(rt, alloc, start, keeps)?;
+        let served = ground.served(rt, alloc, observer, options.journals.limit())?;
+        let pool = TickedPool::start(rt, alloc, workers, &served, &ground.ticker)?;
+        let link = ground.link(rt, alloc, pool.pool().scheduler()?, &served)?;
+        let Ground { hall, ticker, .. } = ground;
         Ok(Service {
             rt,
             alloc,
             options,
             pool,
-            link: Arc::new(alloc, link)?,
+            link,
             ticker,
             served,
             hall,
