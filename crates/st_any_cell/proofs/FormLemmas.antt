@@ -96,12 +96,15 @@ module _ {M S D C : Type 0} (callbacks : M → Callbacks S D C) where
       went.2 ∙ (ap (λ (cell : CellState M S D C). record old { cell = kept_as old.keeps cell }) (same went.0 went.1) ∙ ap (λ (cell : CellState M S D C). record old { cell = cell }) is.kept)
 
   -- ---- a turn that is refused
+  turns_still : (cell : CellState M S D C) (token : Token) (now : ℕ) (result : Result Next (Refused Token)) (after : CellState M S D C)
+      → Turns callbacks cell token now result after → OnErr result (after ≡ cell)
+  turns_still cell token now (Ok next) after does = tt
+  turns_still cell token now (Err refused) after does = turns_refused callbacks cell after token now (Err refused) does
+
   pub turn_unchanged : (old new : AnyCellState M S D C) (token : Token) (now : ℕ) (result : Result Next (Refused Token)) → IsAnyCell callbacks old
       → Leaves old (Turns callbacks old.cell token now result) new → OnErr result (new ≡ old)
-  turn_unchanged old new token now (Ok next) is went = tt
-  turn_unchanged old new token now (Err refused) is went =
-      let same : went.0 ≡ old.cell = turns_refused callbacks old.cell went.0 token now (Err refused) went.1 in
-      went.2 ∙ (ap (λ (cell : CellState M S D C). record old { cell = kept_as old.keeps cell }) same ∙ ap (λ (cell : CellState M S D C). record old { cell = cell }) is.kept)
+  turn_unchanged old new token now result is went =
+      any_unchanged (Turns callbacks old.cell token now result) old new result (turns_still old.cell token now result) is went
 
   pub turn_returned : (old new : AnyCellState M S D C) (token : Token) (now : ℕ) (result : Result Next (Refused Token))
       → Leaves old (Turns callbacks old.cell token now result) new → IfErr result (λ refused. refused.value ≡ token)
