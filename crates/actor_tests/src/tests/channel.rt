@@ -35,6 +35,8 @@ fn a_full_channel_refuses_and_takes_again(rt: HostRuntime) {
     );
     tells(&rt, threads, &inlet, Wish::Ring);
     tower.told(&rt, 1, 0);
+    drop(inlet);
+    drop(tower);
     rt.end_with_memory();
 }
 
@@ -58,5 +60,7 @@ fn what_waits_at_the_end_is_still_there(rt: HostRuntime) {
         &Served::Ended(7, 0),
     );
     one_waits(&rt, threads, &tower.events);
+    drop(inlet);
+    drop(tower);
     rt.end_with_memory();
 }

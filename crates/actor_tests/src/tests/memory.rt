@@ -43,12 +43,9 @@ fn begins(rt: &Host<impl Abort>, alloc: Global) -> Box<Core<Bell>> {
         match Core::start(alloc, Bell, ID, &(), 0) {
             Ok(started) => return rt.boxed(alloc, running(rt, started)),
             Err(refused) => {
-                same(
-                    rt,
-                    "there was no memory",
-                    &refused.refusal,
-                    &Refusal::NoMemory,
-                );
+                let refusal = refused.refusal;
+                drop(refused);
+                same(rt, "there was no memory", &refusal, &Refusal::NoMemory);
                 rt.retry();
             }
         }
@@ -127,6 +124,9 @@ fn goes_through<R: Carried>(rt: &Host<impl Abort>, threads: R, alloc: Global) {
     let mut bell = begins(rt, alloc);
     tells_each(rt, threads, inlet);
     serves_twice(rt, threads, &mut bell, &events, &start, &mut notes);
+    drop(bell);
+    drop(events);
+    drop(notes);
 }
 
 #[test]

@@ -41,6 +41,7 @@ fn a_thread_sends_and_each_report_is_told_once_in_order(rt: HostRuntime) {
     tower.told(&rt, u64::from(MANY), 0);
     holds(&rt, "in order", tower.notes.is_in_order);
     same(&rt, "nothing waits", &tower.bell.waiting(), &0);
+    drop(tower);
     rt.end_with_memory();
 }
 
@@ -73,6 +74,7 @@ fn a_time_out_comes_by_itself(rt: HostRuntime) {
     tower.told(&rt, 2, 0);
     same(&rt, "it rang once", tower.bell.data(), &1);
     holds(&rt, "not early", tower.bell.latest() >= 20);
+    drop(tower);
     rt.end_with_memory();
 }
 
@@ -92,5 +94,7 @@ fn a_message_leaves_the_machine_also_at_its_end(rt: HostRuntime) {
     );
     tower.told(&rt, 3, 2);
     holds(&rt, "none is left", !tower.bell.has_message());
+    drop(inlet);
+    drop(tower);
     rt.end_with_memory();
 }

@@ -56,7 +56,10 @@ fn begins(rt: &impl Abort, alloc: Global) -> Core<Bell> {
 /// The bell that a start led to.
 pub fn running(rt: &impl Abort, started: Start<Bell>) -> Core<Bell> {
     match started {
-        Start::Running(bell, _report) => bell,
+        Start::Running(bell, report) => {
+            drop(report);
+            bell
+        }
         Start::Ignored => panic!(rt; "it is there"),
         Start::Stopped(_reason) => panic!(rt; "it runs"),
     }

@@ -63,6 +63,7 @@ fn start_again<M: Module<Arg = u32> + Copy + Eq + Debug>(
         return Err(refused);
     }
     same(rt, "the module comes back", &refused.value, &begin.module);
+    drop(refused);
     // A start that is refused for its moment takes no memory.
     holds(rt, "the moment is in range", begin.now < 1 << 63);
     rt.retry();
@@ -182,5 +183,6 @@ pub fn begun<M: Module<State = u32, Data = u32, Content = u32, Arg = u32> + Copy
 ) -> Core<M> {
     let (core, report) = running(rt, alloc, begin);
     is_begun(rt, &core, &report, begin);
+    drop(report);
     core
 }

@@ -40,7 +40,9 @@ fn by_single_calls<T: Machine>(
 ) -> Whole {
     let mut single = T::begun(rt, alloc, begin);
     play(rt, &mut single, rows);
-    read_all(rt, &single)
+    let whole = read_all(rt, &single);
+    drop(single);
+    whole
 }
 
 /// Does commands by one run, and looks at their answers, and that they leave what they left by single calls. Says
@@ -64,6 +66,8 @@ fn by_one_run<T: Machine>(
         let others = without_refused::<T>(rt, alloc, begin, rows, answers.as_slice());
         is_all(rt, &left, &others);
     }
+    drop(answers);
+    drop(at_once);
     found
 }
 
@@ -106,7 +110,9 @@ fn without_refused<T: Machine>(
             answers_alike(rt, &mut without, &rows[place], answer);
         }
     }
-    read_all(rt, &without)
+    let whole = read_all(rt, &without);
+    drop(without);
+    whole
 }
 
 /// Does a command that was told in a run too, where it answered so: it answers the same. Where it found no memory

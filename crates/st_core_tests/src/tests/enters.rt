@@ -258,7 +258,7 @@ fn memory_is_wanted_inside_an_enter_call(rt: HostRuntime) {
 }
 
 /// Looks that a machine has ended at its start, for the reason 4 and with the word 7.
-fn has_ended<T: Machine>(rt: &Host<impl Abort>, machine: &mut T) {
+fn has_ended<T: Machine>(rt: &Host<impl Abort>, mut machine: T) {
     static ROWS: [Row; 2] = [
         Tells(Cast(6), NotPosted(Refusal::Stopped(4), 6)),
         Tells(Turn(5), NotTurned(Refusal::Stopped(4))),
@@ -271,17 +271,19 @@ fn has_ended<T: Machine>(rt: &Host<impl Abort>, machine: &mut T) {
     same(
         rt,
         "no time-out runs",
-        &timers_of(rt, machine),
+        &timers_of(rt, &machine),
         &Few::none(),
     );
-    play(rt, machine, &ROWS);
+    play(rt, &mut machine, &ROWS);
+    drop(machine);
 }
 
 /// Looks at a start, the first enter call of which stops: there is a machine, which has ended and sent nothing.
 pub fn stops_at_its_start(rt: &Host<impl Abort>, alloc: Global, begin: &Begin<Table>) {
-    let (mut core, report) = running(rt, alloc, begin);
+    let (core, report) = running(rt, alloc, begin);
     reports(rt, &report, &started(0).entered().ended(4, 7));
-    has_ended(rt, &mut core);
+    drop(report);
+    has_ended(rt, core);
 }
 
 /// The first enter call stops: there is a machine, and it has ended.

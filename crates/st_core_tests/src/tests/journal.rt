@@ -104,35 +104,37 @@ fn run_twice<T: Joined>(
 /// Looks that two answers are those that are wanted.
 fn both_agree(
     rt: &Host<impl Abort>,
-    answers: &(AnswerOf<Table>, AnswerOf<Table>),
+    answers: (AnswerOf<Table>, AnswerOf<Table>),
     first: &Shown,
     second: &Shown,
 ) {
     agree(rt, &answers.0, first);
     agree(rt, &answers.1, second);
+    drop(answers);
 }
 
 /// Looks at the answers of two steps.
 fn steps_answer<T: Joined>(rt: &Host<impl Abort>, machine: &mut T) {
     let answers = machine.two_steps(Command::Tick(3), Command::Tick(4));
-    both_agree(rt, &answers, &Ticked(0), &Ticked(0));
+    both_agree(rt, answers, &Ticked(0), &Ticked(0));
 }
 
 /// Looks at the answers of a turn and a collect.
 fn calls_answer<T: Joined>(rt: &Host<impl Abort>, machine: &mut T) {
     let answers = machine.turn_and_collect(5, FIRST);
-    both_agree(rt, &answers, &Idle, &Gone);
+    both_agree(rt, answers, &Idle, &Gone);
 }
 
 /// Looks how many answers two runs have.
-fn are_counted(rt: &Host<impl Abort>, answers: &(AnswersOf<Table>, AnswersOf<Table>)) {
+fn are_counted(rt: &Host<impl Abort>, answers: (AnswersOf<Table>, AnswersOf<Table>)) {
     is_count(rt, "the first run has one answer", answers.0.len(), 1);
     is_count(rt, "the second run has two answers", answers.1.len(), 2);
+    drop(answers);
 }
 
 /// Looks at the answers of two runs.
 fn runs_answer<T: Joined>(rt: &Host<impl Abort>, alloc: Global, machine: &mut T) {
-    are_counted(rt, &run_twice(rt, alloc, machine));
+    are_counted(rt, run_twice(rt, alloc, machine));
     is_number(
         rt,
         "the latest moment is the last tick's",
@@ -143,7 +145,9 @@ fn runs_answer<T: Joined>(rt: &Host<impl Abort>, alloc: Global, machine: &mut T)
 
 /// Looks at the answer of a machine to a stop.
 fn stop_answers<T: Joined>(rt: &Host<impl Abort>, machine: &mut T) {
-    agree(rt, &machine.step_alone(Command::Stop(9)), &Stopped(7));
+    let answer = machine.step_alone(Command::Stop(9));
+    agree(rt, &answer, &Stopped(7));
+    drop(answer);
 }
 
 /// Looks at the answers of a machine to steps, calls and runs that are put together.
@@ -153,6 +157,7 @@ fn all_answer<T: Joined>(rt: &Host<impl Abort>, alloc: Global) {
     calls_answer(rt, &mut machine);
     runs_answer(rt, alloc, &mut machine);
     stop_answers(rt, &mut machine);
+    drop(machine);
 }
 
 /// The steps take no memory, so that none is refused.

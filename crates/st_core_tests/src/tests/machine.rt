@@ -107,7 +107,10 @@ impl Machine for Core<Table> {
     }
 
     fn call(&mut self, told: Told) -> Shown {
-        read(&call(self, told))
+        let answer = call(self, told);
+        let shown = read(&answer);
+        drop(answer);
+        shown
     }
 
     fn call_run(

@@ -80,6 +80,7 @@ fn is_first_after<T: Machine>(rt: &Host<impl Abort>, alloc: Global, rows: &[(Row
         does(rt, &mut machine, row.told(), &row.wanted());
         same(rt, "the first message", &machine.first_message(), wanted);
     }
+    drop(machine);
 }
 
 #[test]
@@ -307,6 +308,7 @@ fn is_ready_after<T: Machine>(
         let found = (seen.has_event, seen.has_message, seen.is_ready);
         same(rt, "an event, a message, either", &found, wanted);
     }
+    drop(machine);
 }
 
 /// With an event, with both, with messages alone, with none; and after the end.
@@ -347,6 +349,8 @@ fn turns_leave_messages<T: Machine>(rt: &Host<impl Abort>, alloc: Global) {
     let turns = turned(rt, &mut machine, &mut other, 0, 9);
     made(rt, turns, 1, TurnsEnd::Idle);
     sees(rt, &machine.see(), &END);
+    drop(machine);
+    drop(other);
 }
 
 #[test]
@@ -373,18 +377,21 @@ static TWO_MESSAGES: [Message<u32>; 2] = [
 ];
 
 /// Looks at a snapshot with two messages, and at one after the first was taken out.
-fn messages_follow(rt: &Host<impl Abort>, whole: &Snapshot<Table>, later: &Snapshot<Table>) {
+fn messages_follow(rt: &Host<impl Abort>, whole: Snapshot<Table>, later: Snapshot<Table>) {
     sent_is_whole(rt, &whole.outbox, &TWO_MESSAGES, 3);
     sent_is_whole(rt, &later.outbox, &TWO_MESSAGES[1..], 3);
-    holds(rt, "the later one is another", *whole != *later);
+    holds(rt, "the later one is another", whole != later);
+    drop(whole);
+    drop(later);
 }
 
 /// Looks at a snapshot of a machine that has sent two messages, and at another one after the first was taken out.
-fn snapshots_follow<T: Machine>(rt: &Host<impl Abort>, machine: &mut T, whole: &Snapshot<Table>) {
+fn snapshots_follow<T: Machine>(rt: &Host<impl Abort>, mut machine: T, whole: Snapshot<Table>) {
     static ROWS: [Row; 1] = [Takes(1, OTHER, 5)];
-    play(rt, machine, &ROWS);
-    let later = snapped(rt, machine);
-    messages_follow(rt, whole, &later);
+    play(rt, &mut machine, &ROWS);
+    let later = snapped(rt, &mut machine);
+    drop(machine);
+    messages_follow(rt, whole, later);
 }
 
 /// Has a machine send two messages, and looks at its snapshots.
@@ -393,7 +400,7 @@ fn messages_are_snapped<T: Machine>(rt: &Host<impl Abort>, alloc: Global) {
     let mut machine = T::begun(rt, alloc, &PLAIN);
     play(rt, &mut machine, &ROWS);
     let whole = snapped(rt, &mut machine);
-    snapshots_follow(rt, &mut machine, &whole);
+    snapshots_follow(rt, machine, whole);
 }
 
 #[test]

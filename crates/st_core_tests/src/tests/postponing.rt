@@ -84,6 +84,7 @@ fn stays_behind<T: Machine>(
     let mut machine = T::begun(rt, alloc, &PLAIN);
     play(rt, &mut machine, rows);
     turns_or_stays(rt, &mut machine, last, before);
+    drop(machine);
 }
 
 /// A growth of the second turn is refused: state, data and what waits are as they were, and tried again the turn

@@ -82,6 +82,7 @@ fn begins_as<T: Machine>(
 ) {
     let machine = T::begun(rt, alloc, begin);
     sees(rt, &machine.see(), wanted);
+    drop(machine);
 }
 
 /// Each call that takes memory, and among them those that take none: an idle turn, and a post for

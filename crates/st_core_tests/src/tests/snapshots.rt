@@ -158,6 +158,7 @@ fn is_whole(rt: &Host<impl Abort>, whole: &Snapshot<Table>) {
 fn another_is_equal<T: Machine>(rt: &Host<impl Abort>, machine: &mut T, whole: &Snapshot<Table>) {
     let again = snapped(rt, machine);
     holds(rt, "another snapshot is equal", *whole == again);
+    drop(again);
 }
 
 /// Stops a machine, and looks at its snapshot then.
@@ -165,13 +166,16 @@ fn end_is_another<T: Machine>(rt: &Host<impl Abort>, machine: &mut T, whole: &Sn
     does(rt, machine, Stop(9), &Stopped(7));
     let end = snapped(rt, machine);
     is_closed(rt, whole, &end);
+    drop(end);
 }
 
 /// Looks at a machine's snapshot, at another one, and at one after it is stopped.
-fn snapshots_follow<T: Machine>(rt: &Host<impl Abort>, machine: &mut T, whole: &Snapshot<Table>) {
-    is_whole(rt, whole);
-    another_is_equal(rt, machine, whole);
-    end_is_another(rt, machine, whole);
+fn snapshots_follow<T: Machine>(rt: &Host<impl Abort>, mut machine: T, whole: Snapshot<Table>) {
+    is_whole(rt, &whole);
+    another_is_equal(rt, &mut machine, &whole);
+    end_is_another(rt, &mut machine, &whole);
+    drop(machine);
+    drop(whole);
 }
 
 /// Looks at the snapshots of a machine that has done the commands of rows.
@@ -179,7 +183,7 @@ fn is_snapped<T: Machine>(rt: &Host<impl Abort>, alloc: Global, rows: &[Row]) {
     let mut machine = T::begun(rt, alloc, &PLAIN);
     play(rt, &mut machine, rows);
     let whole = snapped(rt, &mut machine);
-    snapshots_follow(rt, &mut machine, &whole);
+    snapshots_follow(rt, machine, whole);
 }
 
 /// A snapshot of a machine, another of the same, and one after it is stopped. The machine has a reply that is kept and

@@ -27,13 +27,11 @@ fn without_machine<M: Module>(
 }
 
 /// Why a start was refused. Its module comes back.
-fn refusal_of<M: Module + Eq + Debug>(
-    rt: &impl Abort,
-    refused: &Refused<M>,
-    module: &M,
-) -> Refusal {
+fn refusal_of<M: Module + Eq + Debug>(rt: &impl Abort, refused: Refused<M>, module: &M) -> Refusal {
     same(rt, "the module comes back", &refused.value, module);
-    refused.refusal
+    let refusal = refused.refusal;
+    drop(refused);
+    refusal
 }
 
 /// Looks at what comes of a start that leads to no machine: it is ignored, stops for a reason, or is refused, and then
@@ -46,7 +44,7 @@ fn comes_to<M: Module<Arg = u32> + Copy + Eq + Debug>(
 ) {
     let found = match start(rt, alloc, begin) {
         Ok(start) => Ok(got(rt, "no machine runs", without_machine(start))),
-        Err(refused) => Err(refusal_of(rt, &refused, &begin.module)),
+        Err(refused) => Err(refusal_of(rt, refused, &begin.module)),
     };
     same(rt, "what comes of the start", &found, wanted);
 }
@@ -104,6 +102,7 @@ fn refuses_posts<T: Machine>(
     let refused = NotPosted(Refusal::Exhausted, 6);
     does(rt, &mut machine, Cast(6), &refused);
     sees(rt, &machine.see(), wanted);
+    drop(machine);
 }
 
 /// A start that inserts two events needs two numbers. Its moment is looked at first.
@@ -154,6 +153,7 @@ fn runs_time_outs<T: Machine>(
     let running = timers_of(rt, &machine);
     same(rt, "the time-outs that run", &running, &Few::of(timers));
     time_outs_are_due(rt, &mut machine);
+    drop(machine);
 }
 
 /// Looks when the next time-out is due: the earliest is due first, then the next ones, and a stopped machine has none.

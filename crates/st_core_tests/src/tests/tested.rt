@@ -66,16 +66,17 @@ fn run_again<T: Machine>(
     before: &Whole,
     refused: Refused<Vec<Command<u32>>>,
 ) -> Vec<Answer<u32, u32>> {
-    let no_memory = refused.refusal == Refusal::NoMemory;
+    let Refused { refusal, value } = refused;
+    let no_memory = refusal == Refusal::NoMemory;
     holds(rt, "memory was refused", no_memory);
     is_all(rt, &read_all(rt, machine), before);
-    let are_back = are_commands(refused.value.as_slice(), rows);
+    let are_back = are_commands(value.as_slice(), rows);
     holds(rt, "the commands come back", are_back);
     rt.retry();
     got(
         rt,
         "one allocation alone is refused",
-        machine.call_run(refused.value),
+        machine.call_run(value),
     )
 }
 

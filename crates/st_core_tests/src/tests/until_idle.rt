@@ -122,6 +122,8 @@ fn turns_until_idle<T: Machine>(
     all_turn(rt, &mut machine, &mut other, posts, rows);
     does(rt, &mut machine, Stop(9), &Stopped(7));
     made(rt, machine.call_turns(22, 9), 0, TurnsEnd::Ended);
+    drop(machine);
+    drop(other);
 }
 
 #[test]

@@ -49,12 +49,15 @@ fn digits_go_to_the_end(rt: HostRuntime) {
     push(&rt, &mut list, 0, &[4]);
     push(&rt, &mut list, 9, &[4, 0]);
     has_digits(&rt, &list, &[4, 0, 9]);
+    drop(list);
     rt.end();
 }
 
 #[test]
 fn digits_are_copied(rt: HostRuntime) {
     let rt = Host::new(rt);
-    has_digits(&rt, &digits(&rt, rt.alloc(), &[1, 2]), &[1, 2]);
+    let list = digits(&rt, rt.alloc(), &[1, 2]);
+    has_digits(&rt, &list, &[1, 2]);
+    drop(list);
     rt.end();
 }

@@ -183,7 +183,10 @@ fn answer_of(rt: &Host<impl Abort>, outcome: &Handled, buttons: &[u8]) -> Answer
 fn answers(rt: &Host<impl Abort>, alloc: Global, row: Row) {
     let held = data_with(rt, alloc, row.buttons);
     let outcome = handled(rt, alloc, row.kind, &row.content, row.state, &held);
-    let answer = answer_of(rt, &outcome.expect(rt, "memory"), row.after);
+    drop(held);
+    let outcome = outcome.expect(rt, "memory");
+    let answer = answer_of(rt, &outcome, row.after);
+    drop(outcome);
     holds(rt, row.word, answer == row.answer);
 }
 
@@ -220,7 +223,9 @@ fn enters(
 ) {
     let held = data_with(rt, alloc, buttons);
     let outcome = entered(rt, alloc, old, state, &held).expect(rt, "memory");
+    drop(held);
     let answer = enter_answer_of(rt, &outcome, &[]);
+    drop(outcome);
     holds(rt, word, answer == wanted);
 }
 
@@ -247,7 +252,9 @@ fn a_door_begins_locked(rt: HostRuntime) {
     let rt = Host::new(rt);
     let code = digits(&rt, rt.alloc(), CODE);
     let begun = started(&rt, rt.alloc(), &code).expect(&rt, "memory");
+    drop(code);
     is_locked(&rt, &begun);
+    drop(begun);
     rt.end();
 }
 
@@ -511,6 +518,7 @@ fn has_last_word(
 ) {
     let held = data_with(rt, alloc, buttons);
     let last = Door.terminate(reason, state, &held);
+    drop(held);
     same(rt, "the last word", &last, &word);
 }
 
@@ -543,6 +551,9 @@ fn copies_are_equal(rt: HostRuntime) {
     has_equal_copy(&rt, rt.alloc(), DoorContent::Relay(TARGET, 3));
     let held = data_with(&rt, rt.alloc(), &[1]);
     let copy = copied_data(&rt, rt.alloc(), &held);
-    has(&rt, &copy.expect(&rt, "memory"), &[1]);
+    drop(held);
+    let copy = copy.expect(&rt, "memory");
+    has(&rt, &copy, &[1]);
+    drop(copy);
     rt.end();
 }

@@ -193,6 +193,7 @@ fn has_text(rt: &Host<impl Abort>, alloc: Global, fault: ScriptFault, text: &str
         Err(AllocError) => text_again(rt, alloc, fault),
     };
     same(rt, "the text of a fault", &printed.as_str(), &text);
+    drop(printed);
 }
 
 #[test]

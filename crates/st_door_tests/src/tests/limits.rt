@@ -91,6 +91,7 @@ fn has_a_limit(rt: &Host<impl Abort>, alloc: Global) {
     holds(rt, "there is memory", resized.is_ok());
     prints(rt, alloc, &input.as_slice()[1..], "", 0);
     is_too_long(rt, alloc, input.as_slice());
+    drop(input);
 }
 
 #[test]
@@ -214,6 +215,7 @@ fn a_button_goes_round_1000_doors(rt: HostRuntime) {
     let mut long = Long::new(rt.alloc(), 100_000, 100_000);
     add_many_relays(&mut long).expect(&rt, "memory");
     prints_all(&rt, rt.alloc(), &long, 100_000, 0);
+    drop(long);
 }
 
 #[test]
@@ -225,4 +227,5 @@ fn there_are_65536_doors_at_most(rt: HostRuntime) {
     let mut long = Long::new(rt.alloc(), 1_000_000, 3_000_000);
     add_many_doors(&mut long).expect(&rt, "memory");
     prints_all(&rt, rt.alloc(), &long, 3_000_000, 1);
+    drop(long);
 }

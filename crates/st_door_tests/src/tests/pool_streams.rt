@@ -135,6 +135,7 @@ fn over<R: Runtime, A: Ledger, B: Ledger>(
     } else {
         run_pool(threads, alloc, workers, &mut reader, &mut writer)
     };
+    drop(reader);
     (answer, writer.into_inner().held)
 }
 
@@ -189,6 +190,7 @@ fn run<R: Runtime>(
         return (answer, held);
     }
     wrote_a_front(rt, held.as_slice(), output);
+    drop(held);
     run_once(threads, rt.alloc(), script, way)
 }
 
@@ -204,5 +206,6 @@ pub fn ends<R: Runtime>(
 ) {
     let (answer, held) = run(rt, threads, script, way, output);
     same(rt, "what is written", &held.as_slice(), &output);
+    drop(held);
     same(rt, "the answer", &answer, &wanted);
 }

@@ -43,6 +43,8 @@ fn print_the_same<R: Runtime>(rt: &Host<impl Abort + AllocGlobal>, threads: R) {
         print_the_worked(rt, threads, *workers);
         prints_the_long(rt, threads, *workers, script, wanted, printed);
     }
+    drop(output);
+    drop(long);
 }
 
 #[test]

@@ -126,6 +126,7 @@ fn over<A: Ledger, B: Ledger>(
     let mut reader: Counted<Reader<'_>, A> = Counted::new(reader, a);
     let mut writer: Counted<Writer, B> = Counted::new(writer, b);
     let answer = run_script(alloc, mode, &mut reader, &mut writer);
+    drop(reader);
     (answer, writer.into_inner())
 }
 
@@ -172,6 +173,7 @@ fn run(
         return (answer, writer);
     }
     wrote_a_front(rt, &writer, output);
+    drop(writer);
     run_once(alloc, script, way)
 }
 
@@ -195,6 +197,7 @@ pub fn ends(
     same(rt, "what is written", &writer.held.as_slice(), &output);
     same(rt, "the answer", &answer, &wanted);
     comes_by_lines(rt, &writer, way);
+    drop(writer);
 }
 
 /// Sees that a run in memory came to this answer, and to this output.
@@ -242,6 +245,7 @@ pub fn ends_in_memory(
 ) {
     let done = run_there(rt, alloc, mode, script);
     came_to(rt, &done, &wanted, output);
+    drop(done);
 }
 
 /// Sees that a script prints this and has this status, also where its bytes are in memory.

@@ -2,6 +2,7 @@
 use super::host::{Host, got, holds};
 use super::pair::Pair;
 use super::plain::{OTHER, Plain};
+use super::row::Row;
 use super::twin::{snapshot_of, steps};
 use st_core::{
     Answer, Command, Core, Entry, MachineId, MachineState, Refusal, Refused, Start, Tag,
@@ -88,19 +89,25 @@ fn start(
 ) -> Result<Start<Plain>, Refused<Plain>> {
     holds(rt, "the first number is above 0", first >= 1);
     holds(rt, "the first number is below 2^63", first < 1 << 63);
-    let started = Core::start_from(alloc, Plain, id, &(), 0, first);
-    if matches!(&started, Err(refused) if refused.refusal == Refusal::NoMemory) {
-        rt.retry();
-        return Core::start_from(alloc, Plain, id, &(), 0, first);
+    let refused = match Core::start_from(alloc, Plain, id, &(), 0, first) {
+        Ok(started) => return Ok(started),
+        Err(refused) => refused,
+    };
+    if refused.refusal != Refusal::NoMemory {
+        return Err(refused);
     }
-    started
+    rt.retry();
+    Core::start_from(alloc, Plain, id, &(), 0, first)
 }
 
 /// The machine that was started.
 fn running(rt: &impl Abort, started: Start<Plain>) -> Core<Plain> {
     match started {
-        Start::Running(core, _) => core,
-        _ => panic!(rt; "there is no machine"),
+        Start::Running(core, report) => {
+            drop(report);
+            core
+        }
+        Start::Ignored | Start::Stopped(_) => panic!(rt; "there is no machine"),
     }
 }
 
@@ -115,8 +122,12 @@ fn machine_of(
     let started = got(rt, "the machine is started", start(rt, alloc, id, first));
     let mut core = running(rt, started);
     for content in contents {
-        let answer = steps(rt, &mut core, &Command::Post(Entry::Cast, *content));
-        holds(rt, "it is posted", matches!(answer, Answer::Post(Ok(_))));
+        let post = Command::Post(Entry::Cast, *content);
+        let answer = steps(rt, &mut core, &post);
+        drop(post);
+        let is_posted = matches!(&answer, Answer::Post(Ok(_)));
+        drop(answer);
+        holds(rt, "it is posted", is_posted);
     }
     core
 }
@@ -140,7 +151,9 @@ fn cell_of(
     };
     is_made_again(rt, refused.refusal);
     let mut core = refused.value;
-    let is_as_before = snapshot_of(rt, &mut core) == *base;
+    let now = snapshot_of(rt, &mut core);
+    let is_as_before = now == *base;
+    drop(now);
     holds(rt, "a refusal changes nothing", is_as_before);
     got(
         rt,
@@ -159,6 +172,7 @@ fn beside(
 ) -> Pair {
     let base = snapshot_of(rt, &mut twin);
     let (cell, token) = cell_of(rt, alloc, core, &base);
+    drop(base);
     holds(rt, "the token at first", token == wake);
     Pair { cell, twin }
 }
@@ -187,4 +201,9 @@ pub fn other_just_begun(rt: &Host<impl Abort>, alloc: Global) -> Pair {
     let twin = machine_of(rt, alloc, OTHER, 1, [].as_slice());
     let core = machine_of(rt, alloc, OTHER, 1, [].as_slice());
     beside(rt, alloc, core, twin, None)
+}
+
+/// Plays lists of rows over a cell that has just begun; its journal is cut behind each.
+pub fn plays_at_first(rt: &Host<impl Abort>, alloc: Global, lists: &[&'static [Row]]) {
+    just_begun(rt, alloc).plays_all(rt, lists);
 }

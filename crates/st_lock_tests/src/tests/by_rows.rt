@@ -1,6 +1,6 @@
 //! A machine is posted events and served, and its journal is cut.
 use super::asked::Asked;
-use super::begun::{TOKEN_1, TOKEN_2, TOKEN_5, just_begun};
+use super::begun::{TOKEN_1, TOKEN_2, TOKEN_5, plays_at_first};
 use super::did::FINISHED;
 use super::host::Host;
 use super::row::{Post, Row, Sight};
@@ -90,19 +90,21 @@ static ONE_PORT: [Row; 1] = [Row::HasPorts(1)];
 #[test]
 fn a_cell_by_rows(rt: HostRuntime) {
     let rt = Host::new(rt);
-    let mut pair = just_begun(&rt, rt.alloc());
-    pair.plays(&rt, UNTIL_A_STOP.as_slice());
-    drop(pair);
+    plays_at_first(&rt, rt.alloc(), &[UNTIL_A_STOP.as_slice()]);
     rt.end();
 }
 
 #[test]
 fn a_journal_is_cut(rt: HostRuntime) {
     let rt = Host::new(rt);
-    let mut pair = just_begun(&rt, rt.alloc());
-    pair.plays(&rt, BEFORE_A_CUT.as_slice());
-    pair.plays(&rt, AFTER_A_CUT.as_slice());
-    pair.plays(&rt, ONE_PORT.as_slice());
-    drop(pair);
+    plays_at_first(
+        &rt,
+        rt.alloc(),
+        &[
+            BEFORE_A_CUT.as_slice(),
+            AFTER_A_CUT.as_slice(),
+            ONE_PORT.as_slice(),
+        ],
+    );
     rt.end();
 }

@@ -1,6 +1,6 @@
 //! Machines end, and requests are answered and collected.
 use super::asked::Asked;
-use super::begun::{REQUEST_1, REQUEST_2, REQUEST_3, TOKEN_0, TOKEN_1, just_begun};
+use super::begun::{REQUEST_1, REQUEST_2, REQUEST_3, TOKEN_0, TOKEN_1, plays_at_first};
 use super::did::{Did, ENDED, FINISHED};
 use super::host::Host;
 use super::row::{Row, Sight};
@@ -71,10 +71,7 @@ static STOPPED: [Row; 16] = [
 #[test]
 fn requests_and_the_end(rt: HostRuntime) {
     let rt = Host::new(rt);
-    let mut pair = just_begun(&rt, rt.alloc());
-    pair.plays(&rt, REQUESTS.as_slice());
-    pair.plays(&rt, STOPPED.as_slice());
-    drop(pair);
+    plays_at_first(&rt, rt.alloc(), &[REQUESTS.as_slice(), STOPPED.as_slice()]);
     rt.end();
 }
 
@@ -105,8 +102,6 @@ static BY_A_TURN: [Row; 11] = [
 #[test]
 fn a_machine_ends_by_its_turn(rt: HostRuntime) {
     let rt = Host::new(rt);
-    let mut pair = just_begun(&rt, rt.alloc());
-    pair.plays(&rt, BY_A_TURN.as_slice());
-    drop(pair);
+    plays_at_first(&rt, rt.alloc(), &[BY_A_TURN.as_slice()]);
     rt.end();
 }

@@ -1,5 +1,5 @@
 //! Each entry of a journal, as it is written.
-use super::begun::{REQUEST_1, TOKEN_1, TOKEN_8, just_begun};
+use super::begun::{REQUEST_1, TOKEN_1, TOKEN_8, plays_at_first};
 use super::did::{Did, FINISHED, PUT_OFF};
 use super::host::Host;
 use super::row::{Row, Sight};
@@ -69,10 +69,11 @@ static TWO_PORTS_LATER: [Row; 4] = [
 #[test]
 fn two_ports_count_apart(rt: HostRuntime) {
     let rt = Host::new(rt);
-    let mut pair = just_begun(&rt, rt.alloc());
-    pair.plays(&rt, TWO_PORTS.as_slice());
-    pair.plays(&rt, TWO_PORTS_LATER.as_slice());
-    drop(pair);
+    plays_at_first(
+        &rt,
+        rt.alloc(),
+        &[TWO_PORTS.as_slice(), TWO_PORTS_LATER.as_slice()],
+    );
     rt.end();
 }
 
@@ -123,9 +124,6 @@ static EXPIRED: [Row; 5] = [
 #[test]
 fn ticks_and_turns(rt: HostRuntime) {
     let rt = Host::new(rt);
-    let mut pair = just_begun(&rt, rt.alloc());
-    pair.plays(&rt, SERVED.as_slice());
-    pair.plays(&rt, EXPIRED.as_slice());
-    drop(pair);
+    plays_at_first(&rt, rt.alloc(), &[SERVED.as_slice(), EXPIRED.as_slice()]);
     rt.end();
 }

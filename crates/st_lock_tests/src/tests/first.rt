@@ -46,9 +46,8 @@ static EVENT_FIRST: [Row; 6] = [
 #[test]
 fn an_event_comes_first(rt: HostRuntime) {
     let rt = Host::new(rt);
-    let mut pair = begun(&rt, rt.alloc(), 1, [2].as_slice(), Some(TOKEN_0));
-    pair.plays(&rt, EVENT_FIRST.as_slice());
-    drop(pair);
+    let pair = begun(&rt, rt.alloc(), 1, [2].as_slice(), Some(TOKEN_0));
+    pair.plays_all(&rt, &[EVENT_FIRST.as_slice()]);
     rt.end();
 }
 
@@ -72,9 +71,8 @@ static LAST_GIVEN: [Row; 6] = [
 #[test]
 fn the_last_number_is_given_once(rt: HostRuntime) {
     let rt = Host::new(rt);
-    let mut pair = begun(&rt, rt.alloc(), LAST, [].as_slice(), None);
-    pair.plays(&rt, LAST_GIVEN.as_slice());
-    drop(pair);
+    let pair = begun(&rt, rt.alloc(), LAST, [].as_slice(), None);
+    pair.plays_all(&rt, &[LAST_GIVEN.as_slice()]);
     rt.end();
 }
 
@@ -102,8 +100,7 @@ static NUMBERS_WANTED: [Row; 8] = [
 #[test]
 fn a_turn_without_numbers_keeps_its_token(rt: HostRuntime) {
     let rt = Host::new(rt);
-    let mut pair = begun(&rt, rt.alloc(), LAST_BUT_ONE, [].as_slice(), None);
-    pair.plays(&rt, NUMBERS_WANTED.as_slice());
-    drop(pair);
+    let pair = begun(&rt, rt.alloc(), LAST_BUT_ONE, [].as_slice(), None);
+    pair.plays_all(&rt, &[NUMBERS_WANTED.as_slice()]);
     rt.end();
 }

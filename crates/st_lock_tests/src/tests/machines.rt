@@ -8,7 +8,7 @@ use super::host::Host;
 use super::memory::EACH_CALL;
 use super::plain::OTHER;
 use super::row::Row;
-use super::shared::{fill_vacant, share};
+use super::shared::{plays_filled, plays_shared};
 use st_core::{Kind, Refusal};
 use st_events::Token;
 use st_lock::Next;
@@ -17,9 +17,7 @@ use st_lock::Next;
 fn a_machine_by_rows(rt: HostRuntime) {
     let threads = rt;
     let rt = Host::new(rt);
-    let mut machine = share(&rt, rt.alloc(), true);
-    machine.plays(&rt, &threads, UNTIL_A_STOP.as_slice());
-    drop(machine);
+    plays_shared(&rt, &threads, rt.alloc(), true, &[UNTIL_A_STOP.as_slice()]);
     rt.end();
 }
 
@@ -27,10 +25,13 @@ fn a_machine_by_rows(rt: HostRuntime) {
 fn a_machines_journal_is_cut(rt: HostRuntime) {
     let threads = rt;
     let rt = Host::new(rt);
-    let mut machine = fill_vacant(&rt, &threads, rt.alloc(), true);
-    machine.plays(&rt, &threads, BEFORE_A_CUT.as_slice());
-    machine.plays(&rt, &threads, AFTER_A_CUT.as_slice());
-    drop(machine);
+    plays_filled(
+        &rt,
+        &threads,
+        rt.alloc(),
+        true,
+        &[BEFORE_A_CUT.as_slice(), AFTER_A_CUT.as_slice()],
+    );
     rt.end();
 }
 
@@ -38,9 +39,7 @@ fn a_machines_journal_is_cut(rt: HostRuntime) {
 fn each_call_of_a_machine_is_made_again(rt: HostRuntime) {
     let threads = rt;
     let rt = Host::new(rt);
-    let mut machine = share(&rt, rt.alloc(), true);
-    machine.plays(&rt, &threads, EACH_CALL.as_slice());
-    drop(machine);
+    plays_shared(&rt, &threads, rt.alloc(), true, &[EACH_CALL.as_slice()]);
     rt.end();
 }
 
@@ -82,9 +81,7 @@ static SERVED: [Row; 17] = [
 fn a_machine_is_served(rt: HostRuntime) {
     let threads = rt;
     let rt = Host::new(rt);
-    let mut machine = share(&rt, rt.alloc(), true);
-    machine.plays(&rt, &threads, SERVED.as_slice());
-    drop(machine);
+    plays_shared(&rt, &threads, rt.alloc(), true, &[SERVED.as_slice()]);
     rt.end();
 }
 
@@ -92,9 +89,7 @@ fn a_machine_is_served(rt: HostRuntime) {
 fn a_machine_without_a_journal_by_rows(rt: HostRuntime) {
     let threads = rt;
     let rt = Host::new(rt);
-    let mut machine = fill_vacant(&rt, &threads, rt.alloc(), false);
-    machine.plays(&rt, &threads, UNTIL_A_STOP.as_slice());
-    drop(machine);
+    plays_filled(&rt, &threads, rt.alloc(), false, &[UNTIL_A_STOP.as_slice()]);
     rt.end();
 }
 
@@ -102,9 +97,7 @@ fn a_machine_without_a_journal_by_rows(rt: HostRuntime) {
 fn each_call_of_a_machine_without_a_journal_is_made_again(rt: HostRuntime) {
     let threads = rt;
     let rt = Host::new(rt);
-    let mut machine = share(&rt, rt.alloc(), false);
-    machine.plays(&rt, &threads, EACH_CALL.as_slice());
-    drop(machine);
+    plays_shared(&rt, &threads, rt.alloc(), false, &[EACH_CALL.as_slice()]);
     rt.end();
 }
 
@@ -112,8 +105,6 @@ fn each_call_of_a_machine_without_a_journal_is_made_again(rt: HostRuntime) {
 fn a_machine_without_a_journal_is_served(rt: HostRuntime) {
     let threads = rt;
     let rt = Host::new(rt);
-    let mut machine = share(&rt, rt.alloc(), false);
-    machine.plays(&rt, &threads, SERVED.as_slice());
-    drop(machine);
+    plays_shared(&rt, &threads, rt.alloc(), false, &[SERVED.as_slice()]);
     rt.end();
 }

@@ -1,14 +1,12 @@
 //! Each call where one allocation is refused: nothing that can be read changes, and it is made again.
 use super::asked::Asked;
-use super::begun::{REQUEST_1, TOKEN_1, TOKEN_5, just_begun};
+use super::begun::{REQUEST_1, TOKEN_1, TOKEN_5, plays_at_first};
 use super::did::{Did, FINISHED, SENT};
 use super::host::Host;
 use super::plain::OTHER;
 use super::row::{Row, Sight};
 use st_core::{Decision, Entry, Kind, Refusal, Time, Timer};
 use st_lock::Next;
-use std::alloc::Global;
-use std::process::Abort;
 
 /// The state time-out is set.
 const SET: Did = Did {
@@ -62,9 +60,7 @@ pub static EACH_CALL: [Row; 16] = [
 #[test]
 fn each_call_is_made_again(rt: HostRuntime) {
     let rt = Host::new(rt);
-    let mut pair = just_begun(&rt, rt.alloc());
-    pair.plays(&rt, EACH_CALL.as_slice());
-    drop(pair);
+    plays_at_first(&rt, rt.alloc(), &[EACH_CALL.as_slice()]);
     rt.end();
 }
 
@@ -88,21 +84,12 @@ static POSTED: [Row; 4] = [
     Row::Rests(TOKEN_1, 0),
 ];
 
-/// Plays lists of rows over a cell that has just begun; its journal is cut behind each.
-fn plays(rt: &Host<impl Abort>, alloc: Global, lists: &[&'static [Row]]) {
-    let mut pair = just_begun(rt, alloc);
-    for rows in lists {
-        pair.plays(rt, rows);
-    }
-    drop(pair);
-}
-
 /// A stop finds its place in a cell that has just begun, after a cut, and behind a post.
 #[test]
 fn a_stop_takes_no_memory(rt: HostRuntime) {
     let rt = Host::new(rt);
-    plays(&rt, rt.alloc(), &[AT_ONCE.as_slice()]);
-    plays(&rt, rt.alloc(), &[ONE_PORT.as_slice(), STOP.as_slice()]);
-    plays(&rt, rt.alloc(), &[POSTED.as_slice()]);
+    plays_at_first(&rt, rt.alloc(), &[AT_ONCE.as_slice()]);
+    plays_at_first(&rt, rt.alloc(), &[ONE_PORT.as_slice(), STOP.as_slice()]);
+    plays_at_first(&rt, rt.alloc(), &[POSTED.as_slice()]);
     rt.end();
 }

@@ -1,6 +1,6 @@
 //! Messages are sent, taken out and delivered.
 use super::asked::Asked;
-use super::begun::{TOKEN_1, TOKEN_2, just_begun};
+use super::begun::{TOKEN_1, TOKEN_2, plays_at_first};
 use super::did::{FINISHED, SENT, SENT_TWO};
 use super::ended::TOO_LATE;
 use super::host::Host;
@@ -42,9 +42,7 @@ static TAKEN_OUT: [Row; 14] = [
 #[test]
 fn a_message_is_taken_out(rt: HostRuntime) {
     let rt = Host::new(rt);
-    let mut pair = just_begun(&rt, rt.alloc());
-    pair.plays(&rt, TAKEN_OUT.as_slice());
-    drop(pair);
+    plays_at_first(&rt, rt.alloc(), &[TAKEN_OUT.as_slice()]);
     rt.end();
 }
 
@@ -69,9 +67,7 @@ static AFTER_THE_END: [Row; 14] = [
 #[test]
 fn messages_outlast_the_end(rt: HostRuntime) {
     let rt = Host::new(rt);
-    let mut pair = just_begun(&rt, rt.alloc());
-    pair.plays(&rt, AFTER_THE_END.as_slice());
-    drop(pair);
+    plays_at_first(&rt, rt.alloc(), &[AFTER_THE_END.as_slice()]);
     rt.end();
 }
 
@@ -99,9 +95,7 @@ static DELIVERED: [Row; 8] = [
 #[test]
 fn a_message_is_delivered(rt: HostRuntime) {
     let rt = Host::new(rt);
-    let mut pair = just_begun(&rt, rt.alloc());
-    pair.plays(&rt, DELIVERED.as_slice());
-    drop(pair);
+    plays_at_first(&rt, rt.alloc(), &[DELIVERED.as_slice()]);
     rt.end();
 }
 
@@ -123,9 +117,10 @@ static AFTER_A_CUT: [Row; 4] = [
 #[test]
 fn a_cut_loses_no_message(rt: HostRuntime) {
     let rt = Host::new(rt);
-    let mut pair = just_begun(&rt, rt.alloc());
-    pair.plays(&rt, BEFORE_A_CUT.as_slice());
-    pair.plays(&rt, AFTER_A_CUT.as_slice());
-    drop(pair);
+    plays_at_first(
+        &rt,
+        rt.alloc(),
+        &[BEFORE_A_CUT.as_slice(), AFTER_A_CUT.as_slice()],
+    );
     rt.end();
 }

@@ -19,4 +19,12 @@ impl Pair {
     pub fn plays(&mut self, rt: &Host<impl Abort>, rows: &[Row]) {
         plays(rt, &mut self.cell, &mut self.twin, rows);
     }
+
+    /// Plays lists of rows, one after another. Nothing is played over the cell behind them.
+    pub fn plays_all(mut self, rt: &Host<impl Abort>, lists: &[&'static [Row]]) {
+        for rows in lists {
+            self.plays(rt, rows);
+        }
+        drop(self);
+    }
 }

@@ -1,5 +1,5 @@
 //! A module whose contents each ask for something else.
-ghost use Rattle.std.specs.Prelude.{◌≡◌, ◌==◌, if◌then◌else◌, ℕ, true, false, None, [], ◌∷◌, refl};
+ghost use Rattle.std.specs.Prelude.{◌≡◌, ◌==◌, if◌then◌else◌, ℕ, true, false, None, [], ◌∷◌, refl, IfOk};
 ghost use Rattle.std.proofs.Common.{rules};
 ghost use Rattle.st_events.specs.declared.action.Action.TheVariants.{NextEvent, Postpone, Reply, Send, Set};
 ghost use Rattle.st_events.specs.declared.enter_outcome.EnterOutcome.TheVariants as enter_outcome;
@@ -18,6 +18,29 @@ use std::alloc::{AllocError, Global};
 
 /// The machine to which messages are sent.
 pub const OTHER: MachineId = MachineId { slot: 1, serial: 2 };
+
+/// Keeps both, and does one action.
+fn does(alloc: Global, action: Action<u32>) -> Result<Outcome<u32, u32, u32>, AllocError>
+    ensures { IfOk result (λ outcome. outcome ≡ KeepStateAndData (action ∷ [])) }
+{
+    let mut actions = Actions::new(alloc);
+    actions.push(action)?;
+    Ok(Outcome::KeepStateAndData(actions))
+}
+
+/// Keeps both, and does two actions.
+fn does_both(
+    alloc: Global,
+    first: Action<u32>,
+    second: Action<u32>,
+) -> Result<Outcome<u32, u32, u32>, AllocError>
+    ensures { IfOk result (λ outcome. outcome ≡ KeepStateAndData (first ∷ second ∷ [])) }
+{
+    let mut actions = Actions::new(alloc);
+    actions.push(first)?;
+    actions.push(second)?;
+    Ok(Outcome::KeepStateAndData(actions))
+}
 
 /// States, data and contents are numbers. The state is 0 and the data 7, and `terminate` answers the data.
 ///
@@ -83,33 +106,29 @@ impl Module for Plain {
         _state: u32,
         _held: &u32,
     ) -> Result<Outcome<u32, u32, u32>, AllocError> {
-        let mut actions = Actions::new(alloc);
         match *content {
-            1 => return Ok(Outcome::Stop(9, None)),
-            2 => actions.push(Action::NextEvent(Kind::Internal, 0))?,
-            3 => actions.push(Action::Set(Timer::State, Time::After(5), 0))?,
-            4 => actions.push(Action::Postpone(true))?,
-            5 => {
-                actions.push(Action::NextEvent(Kind::Internal, 0))?;
-                actions.push(Action::Set(Timer::State, Time::After(5), 0))?;
-            }
-            6 => {
-                if let Kind::Call(tag) = kind {
-                    actions.push(Action::Reply(tag, 50))?;
-                }
-            }
-            7 => {
-                actions.push(Action::NextEvent(Kind::Internal, 0))?;
-                actions.push(Action::NextEvent(Kind::Internal, 0))?;
-            }
-            10 => actions.push(Action::Send(OTHER, 3))?,
-            11 => {
-                actions.push(Action::Send(OTHER, 3))?;
-                actions.push(Action::Send(OTHER, 4))?;
-            }
-            _ => {}
+            1 => Ok(Outcome::Stop(9, None)),
+            2 => does(alloc, Action::NextEvent(Kind::Internal, 0)),
+            3 => does(alloc, Action::Set(Timer::State, Time::After(5), 0)),
+            4 => does(alloc, Action::Postpone(true)),
+            5 => does_both(
+                alloc,
+                Action::NextEvent(Kind::Internal, 0),
+                Action::Set(Timer::State, Time::After(5), 0),
+            ),
+            6 => match kind {
+                Kind::Call(tag) => does(alloc, Action::Reply(tag, 50)),
+                _ => Ok(Outcome::KeepStateAndData(Actions::new(alloc))),
+            },
+            7 => does_both(
+                alloc,
+                Action::NextEvent(Kind::Internal, 0),
+                Action::NextEvent(Kind::Internal, 0),
+            ),
+            10 => does(alloc, Action::Send(OTHER, 3)),
+            11 => does_both(alloc, Action::Send(OTHER, 3), Action::Send(OTHER, 4)),
+            _ => Ok(Outcome::KeepStateAndData(Actions::new(alloc))),
         }
-        Ok(Outcome::KeepStateAndData(actions))
     }
 
     fn enters(&self) -> bool {

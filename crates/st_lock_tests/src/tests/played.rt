@@ -1,5 +1,5 @@
 //! Rows one after another: where a call finds no memory, the cell is looked at, and the call is made again.
-use super::asked::{Given, refused};
+use super::asked::{Answered, Given, refused};
 use super::begun::ID;
 use super::did::reports;
 use super::host::{Host, holds};
@@ -41,13 +41,21 @@ fn is_there(rt: &impl Abort, row: usize, entry: Option<&JournalEntry<u32, u32>>,
     }
 }
 
+/// Looks that the next entry is the one that is wanted of a row, if one is.
+fn stands(rt: &impl Abort, row: usize, entry: Option<&JournalEntry<u32, u32>>, line: Option<Line>) {
+    if let Some(line) = line {
+        is_there(rt, row, entry, &line);
+        drop(line);
+    }
+}
+
 /// Looks that a journal has the entries of the first rows, so many, and no other.
 pub fn are_lines(rt: &impl Abort, entries: &[JournalEntry<u32, u32>], rows: &[Row], done: usize) {
     let mut left = entries.iter();
     for (place, row) in rows.iter().take(done).enumerate() {
-        if let Some(line) = row.line() {
-            is_there(rt, place, left.next(), &line);
-        }
+        let line = row.line();
+        let entry = if line.is_some() { left.next() } else { None };
+        stands(rt, place, entry, line);
     }
     holds(rt, "there is no entry more", left.next().is_none());
 }
@@ -75,12 +83,16 @@ fn is_kept<T: Kept>(rt: &impl Abort, cell: &T, past: &Past<'_>) {
 pub fn is_given_back(rt: &impl Abort, place: usize, row: &Row, given: &Given) {
     shows(rt, place, "it takes no memory", row.takes_memory());
     let wanted = refused(row.asked(), Refusal::NoMemory);
-    shows(rt, place, "what it was given comes back", given.is(&wanted));
+    let is_back = given.is(&wanted);
+    drop(wanted);
+    shows(rt, place, "what it was given comes back", is_back);
 }
 
 /// Looks that a refusal changed nothing that can be read.
 fn is_unchanged<T: Kept>(rt: &Host<impl Abort>, cell: &T, past: &Past<'_>, before: &Whole) {
-    let is_as_before = read_all(rt, cell) == *before;
+    let now = read_all(rt, cell);
+    let is_as_before = now == *before;
+    drop(now);
     shows(rt, past.done, "a refusal changes nothing", is_as_before);
     is_kept(rt, cell, past);
 }
@@ -93,10 +105,12 @@ fn tell<T: Kept>(rt: &Host<impl Abort>, cell: &mut T, row: &Row, past: &Past<'_>
     if given.refusal().is_some() {
         is_unchanged(rt, cell, past, &before);
     }
+    drop(before);
     if given.refusal() != Some(Refusal::NoMemory) {
         return given;
     }
     is_given_back(rt, past.done, row, &given);
+    drop(given);
     rt.retry();
     cell.ask(row.asked())
 }
@@ -146,6 +160,13 @@ fn is_copy<T: Kept>(
     shows(rt, row, "the whole journal", is_whole);
 }
 
+/// Looks that what a call came to is the answer that is wanted of its row.
+pub fn is_answer(rt: &impl Abort, place: usize, given: &Given, wanted: Answered) {
+    let is_wanted = given.is(&wanted);
+    drop(wanted);
+    shows(rt, place, "the answer", is_wanted);
+}
+
 /// Looks that what a call came to is what is wanted of its row.
 fn agrees<T: Kept>(rt: &impl Abort, place: usize, cell: &T, given: &Given, row: &Row) {
     match (given, row) {
@@ -153,7 +174,7 @@ fn agrees<T: Kept>(rt: &impl Abort, place: usize, cell: &T, given: &Given, row: 
         (Given::Journal(journal), Row::Copies(label, from)) => {
             is_copy(rt, place, cell, journal, label, *from);
         }
-        _ => shows(rt, place, "the answer", given.is(&row.answer())),
+        _ => is_answer(rt, place, given, row.answer()),
     }
 }
 
@@ -161,6 +182,7 @@ fn agrees<T: Kept>(rt: &impl Abort, place: usize, cell: &T, given: &Given, row: 
 fn does<T: Kept>(rt: &Host<impl Abort>, cell: &mut T, row: &Row, past: &Past<'_>) {
     let given = tell(rt, cell, row, past);
     agrees(rt, past.done, cell, &given, row);
+    drop(given);
 }
 
 /// The journal is told to the twin, which answers what the journal says, and cut. The base is what the twin is then,
@@ -175,6 +197,7 @@ fn cuts<T: Kept, U: Twin>(rt: &Host<impl Abort>, cell: &mut T, twin: &mut U, pas
     holds(rt, "the journal is empty behind a cut", is_empty);
     let is_twin = *cell.read_base() == base;
     holds(rt, "the base is the twin behind a cut", is_twin);
+    drop(base);
 }
 
 /// Makes calls one after another of a cell whose journal is empty, and looks at their answers, and at the whole journal
@@ -198,4 +221,5 @@ pub fn plays<T: Kept, U: Twin>(rt: &Host<impl Abort>, cell: &mut T, twin: &mut U
     };
     is_kept(rt, cell, &past);
     cuts(rt, cell, twin, &past);
+    drop(base);
 }

@@ -97,6 +97,7 @@ type Row = (Change, Replayed, u32);
 /// The entries of the day of a cell, changed.
 fn changed<T: Teller>(rt: &Host<impl Abort>, mut cell: T, change: Change) -> Vec<Line> {
     let mut entries = journal_of(rt, &mut cell, DAY.as_slice()).into_vec();
+    drop(cell);
     apply(&mut entries, change);
     entries
 }
@@ -109,13 +110,17 @@ fn ended<P: Player>(
     entries: &[Line],
 ) -> (Replayed, u32) {
     let ended = replayed(rt, alloc, &mut player, entries);
-    (ended, player.state())
+    let state = player.state();
+    drop(player);
+    (ended, state)
 }
 
 /// Replays the day with a change: how that ends, and the state in which it leaves the machine.
 fn ends(rt: &Host<impl Abort>, alloc: Global, change: Change) -> (Replayed, u32) {
     let entries = changed(rt, cell(rt, alloc), change);
-    ended(rt, alloc, machine(rt, alloc), entries.as_slice())
+    let found = ended(rt, alloc, machine(rt, alloc), entries.as_slice());
+    drop(entries);
+    found
 }
 
 /// The replays of the day, changed as each row says, end as it says.
@@ -203,9 +208,14 @@ fn parts_end<T: Teller, P: Player>(
     let (morning, evening) = DAY.split_at(7);
     let first = journal_of(rt, &mut cell, morning);
     let second = journal_of(rt, &mut cell, evening);
+    drop(cell);
     part_ends(rt, alloc, &mut player, &first, (Replayed::Same, 1));
+    drop(first);
     part_ends(rt, alloc, &mut player, &second, (Replayed::Same, 1));
+    drop(player);
     part_ends(rt, alloc, &mut other, &second, (Replayed::Differs(0), 0));
+    drop(other);
+    drop(second);
 }
 
 #[test]

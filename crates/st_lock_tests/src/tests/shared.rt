@@ -6,7 +6,7 @@ use super::asked::{Answered, Asked, Given, copied, looked, served};
 use super::begun::{ID, is_made_again, machine};
 use super::host::{Host, got, holds};
 use super::plain::Plain;
-use super::played::{are_lines, is_given_back, is_labelled, is_sight};
+use super::played::{are_lines, is_answer, is_given_back, is_labelled, is_sight};
 use super::row::{Row, Sight};
 use super::shows::shows;
 use st_lock::{
@@ -135,12 +135,7 @@ fn put(
 }
 
 /// A machine that has just started, and fills a vacant one. It keeps its journal, or keeps none.
-pub fn fill_vacant(
-    rt: &Host<impl Abort>,
-    threads: &impl Wait,
-    alloc: Global,
-    keeps: bool,
-) -> Shared {
+fn fill_vacant(rt: &Host<impl Abort>, threads: &impl Wait, alloc: Global, keeps: bool) -> Shared {
     let core = machine(rt, alloc, 1, [].as_slice());
     let (machine, token) = put(rt, threads, alloc, core, keeps);
     holds(rt, "it has no work", token == None);
@@ -314,6 +309,33 @@ fn is_kept(rt: &Host<impl Abort>, threads: &impl Wait, shared: &Shared, rows: &[
     drop(journal);
 }
 
+/// Looks that what a call of a machine came to that keeps its journal is what is wanted of a row, behind so many others.
+fn agrees_kept(rt: &impl Abort, given: &Given, row: &Row, rows: &[Row], done: usize) {
+    match (given, row) {
+        (Given::Look(look), Row::Looks(_, sight)) => is_sight(rt, done, look, sight),
+        (Given::Journal(journal), Row::Copies(label, from)) => {
+            is_labelled(rt, done, journal, label, *from);
+            are_lines(rt, journal.entries.as_slice(), rows, done);
+        }
+        _ => is_answer(rt, done, given, row.answer()),
+    }
+}
+
+/// The same of a machine that keeps no journal: its base is the machine as it is, and a look has no numbers.
+fn agrees_unkept(rt: &impl Abort, given: &Given, row: &Row, rows: &[Row], done: usize) {
+    match (given, row) {
+        (Given::Look(look), Row::Looks(_, sight)) => {
+            let numbers: &[u64] = &[];
+            is_sight(rt, done, look, &Sight { numbers, ..*sight });
+        }
+        (Given::Journal(journal), Row::Copies(label, _)) => {
+            is_labelled(rt, done, journal, label, journal.from);
+            are_lines(rt, journal.entries.as_slice(), rows, 0);
+        }
+        _ => is_answer(rt, done, given, row.answer()),
+    }
+}
+
 impl Shared {
     /// Looks that a refusal changed nothing that can be read, behind the rows that were done.
     fn is_unchanged(
@@ -324,7 +346,9 @@ impl Shared {
         done: usize,
         before: &Reading,
     ) {
-        let is_as_before = read(rt, threads, self) == *before;
+        let now = read(rt, threads, self);
+        let is_as_before = now == *before;
+        drop(now);
         shows(rt, done, "a refusal changes nothing", is_as_before);
         is_kept(rt, threads, self, rows, done);
     }
@@ -344,10 +368,12 @@ impl Shared {
         if given.refusal().is_some() {
             self.is_unchanged(rt, threads, rows, done, &before);
         }
+        drop(before);
         if given.refusal() != Some(Refusal::NoMemory) {
             return given;
         }
         is_given_back(rt, done, row, &given);
+        drop(given);
         rt.retry();
         self.ask(threads, row.asked())
     }
@@ -358,33 +384,51 @@ impl Shared {
         for (done, row) in rows.iter().enumerate() {
             let given = self.tell(rt, threads, row, rows, done);
             self.agrees(rt, &given, row, rows, done);
+            drop(given);
         }
         is_kept(rt, threads, self, rows, rows.len());
         let given = self.tell(rt, threads, &Row::Cuts, rows, rows.len());
         self.agrees(rt, &given, &Row::Cuts, rows, rows.len());
+        drop(given);
         is_kept(rt, threads, self, rows, 0);
     }
 
-    /// Looks that what a call came to is what is wanted of a row, behind so many others. Where no journal is kept, its base is
-    /// the machine as it is, and a look has no numbers.
+    /// Plays lists of rows, one after another. No call of the machine is made here behind them.
+    fn plays_all(mut self, rt: &Host<impl Abort>, threads: &impl Wait, lists: &[&'static [Row]]) {
+        for rows in lists {
+            self.plays(rt, threads, rows);
+        }
+        drop(self);
+    }
+
+    /// Looks that what a call came to is what is wanted of a row, behind so many others.
     fn agrees(&self, rt: &impl Abort, given: &Given, row: &Row, rows: &[Row], done: usize) {
-        match (given, row) {
-            (Given::Look(look), Row::Looks(_, sight)) if self.keeps => {
-                is_sight(rt, done, look, sight);
-            }
-            (Given::Look(look), Row::Looks(_, sight)) => {
-                let numbers: &[u64] = &[];
-                is_sight(rt, done, look, &Sight { numbers, ..*sight });
-            }
-            (Given::Journal(journal), Row::Copies(label, from)) if self.keeps => {
-                is_labelled(rt, done, journal, label, *from);
-                are_lines(rt, journal.entries.as_slice(), rows, done);
-            }
-            (Given::Journal(journal), Row::Copies(label, _)) => {
-                is_labelled(rt, done, journal, label, journal.from);
-                are_lines(rt, journal.entries.as_slice(), rows, 0);
-            }
-            _ => shows(rt, done, "the answer", given.is(&row.answer())),
+        if self.keeps {
+            agrees_kept(rt, given, row, rows, done);
+        } else {
+            agrees_unkept(rt, given, row, rows, done);
         }
     }
+}
+
+/// Plays lists of rows over a machine that has just started. It keeps its journal, or keeps none.
+pub fn plays_shared(
+    rt: &Host<impl Abort>,
+    threads: &impl Wait,
+    alloc: Global,
+    keeps: bool,
+    lists: &[&'static [Row]],
+) {
+    share(rt, alloc, keeps).plays_all(rt, threads, lists);
+}
+
+/// Plays lists of rows over a machine that has just started, and fills a vacant one.
+pub fn plays_filled(
+    rt: &Host<impl Abort>,
+    threads: &impl Wait,
+    alloc: Global,
+    keeps: bool,
+    lists: &[&'static [Row]],
+) {
+    fill_vacant(rt, threads, alloc, keeps).plays_all(rt, threads, lists);
 }

@@ -49,7 +49,7 @@ fn taken(rt: &Host<impl Abort>, cell: &mut Cell<Plain>, count: usize) -> Taken {
 }
 
 /// Looks that a journal begins at a moment, and has the entries of these numbers.
-fn is(rt: &impl Abort, journal: &Taken, from: u64, numbers: &[u64]) {
+fn is(rt: &impl Abort, journal: Taken, from: u64, numbers: &[u64]) {
     holds(rt, "its id", journal.id == ID);
     holds(rt, "its label", journal.label.as_str() == "front");
     same(rt, "where it begins", &journal.from, &from);
@@ -58,6 +58,7 @@ fn is(rt: &impl Abort, journal: &Taken, from: u64, numbers: &[u64]) {
         let entry = journal.entries.get(place).expect(rt, "there is an entry");
         same(rt, "the number of an entry", &entry.number, number);
     }
+    drop(journal);
 }
 
 #[test]
@@ -66,13 +67,13 @@ fn a_cell_hands_its_journal_out(rt: HostRuntime) {
     let mut cell = cell(&rt, rt.alloc());
     tick(&rt, &mut cell, 3);
     tick(&rt, &mut cell, 5);
-    is(&rt, &taken(&rt, &mut cell, 2), 0, [1, 2].as_slice());
+    is(&rt, taken(&rt, &mut cell, 2), 0, [1, 2].as_slice());
     holds(&rt, "it is cut", cell.entries().is_empty());
     holds(&rt, "the count stays", cell.count() == 2);
     holds(&rt, "the base is the present", cell.base().latest == 5);
     tick(&rt, &mut cell, 8);
-    is(&rt, &taken(&rt, &mut cell, 1), 5, [3].as_slice());
-    is(&rt, &taken(&rt, &mut cell, 0), 8, [].as_slice());
+    is(&rt, taken(&rt, &mut cell, 1), 5, [3].as_slice());
+    is(&rt, taken(&rt, &mut cell, 0), 8, [].as_slice());
     drop(cell);
     rt.end();
 }
@@ -123,12 +124,13 @@ static TURNED: [Row; 3] = [
 ];
 
 /// A machine is read at first, and while an event waits.
-fn is_read(rt: &Host<impl Abort>, threads: &impl Wait, shared: &mut Shared) {
+fn is_read(rt: &Host<impl Abort>, threads: &impl Wait, mut shared: Shared) {
     let first = read(shared.machine(), threads);
     holds(rt, "at first", first == (0, 0, None, None, false));
     shared.plays(rt, threads, POSTED.as_slice());
     let posted = read(shared.machine(), threads);
     holds(rt, "an event waits", posted == (0, 1, None, None, true));
+    drop(shared);
 }
 
 /// A machine is read once it has handled an event, and once it is stopped.
@@ -144,8 +146,8 @@ fn is_stopped(rt: &Host<impl Abort>, threads: &impl Wait, shared: &mut Shared) {
 
 /// A machine that was stopped hands its journal out, and what came in since.
 fn hands_out(rt: &Host<impl Abort>, threads: &impl Wait, machine: &Machine<Plain>) {
-    is(rt, &handed_out(rt, machine, threads), 3, [3].as_slice());
-    is(rt, &handed_out(rt, machine, threads), 3, [].as_slice());
+    is(rt, handed_out(rt, machine, threads), 3, [3].as_slice());
+    is(rt, handed_out(rt, machine, threads), 3, [].as_slice());
     let again = machine.stop(threads, 1);
     holds(rt, "it ends once", again == Err(Refusal::Stopped(9)));
 }
@@ -154,7 +156,7 @@ fn hands_out(rt: &Host<impl Abort>, threads: &impl Wait, machine: &Machine<Plain
 fn a_machine_is_read_and_hands_its_journal_out(rt: HostRuntime) {
     let threads = rt;
     let rt = Host::new(rt);
-    is_read(&rt, &threads, &mut share(&rt, rt.alloc(), true));
+    is_read(&rt, &threads, share(&rt, rt.alloc(), true));
     let mut shared = share(&rt, rt.alloc(), true);
     is_stopped(&rt, &threads, &mut shared);
     hands_out(&rt, &threads, shared.machine());

@@ -1,7 +1,7 @@
 //! The trace of a cell, and of one whose journal was cut.
 ghost use Rattle.std.specs.Prelude.{codes};
 
-use super::asked::{Answered, Asked};
+use super::asked::{Answered, Asked, Given};
 use super::begun::{TOKEN_5, is_made_again, just_begun};
 use super::by_rows::BEFORE_A_CUT;
 use super::host::{Host, got, holds, same};
@@ -33,15 +33,24 @@ machine 0 1 front
 summary posts 1 turns 1 finished 1 put_off 0
 ";
 
-/// Makes a call of a cell, and looks at its answer. Where there is no memory, it is made again.
-pub fn answers(rt: &Host<impl Abort>, cell: &mut Cell<Plain>, asked: Asked, wanted: Answered) {
+/// Makes a call of a cell. Where there is no memory, it is made again.
+fn asks(rt: &Host<impl Abort>, cell: &mut Cell<Plain>, asked: Asked) -> Given {
     let given = cell.ask(asked);
     if given.refusal() != Some(Refusal::NoMemory) {
-        holds(rt, "the answer", given.is(&wanted));
-        return;
+        return given;
     }
+    drop(given);
     is_made_again(rt, Refusal::NoMemory);
-    holds(rt, "the answer", cell.ask(asked).is(&wanted));
+    cell.ask(asked)
+}
+
+/// Makes a call of a cell, and looks at its answer. Where there is no memory, it is made again.
+pub fn answers(rt: &Host<impl Abort>, cell: &mut Cell<Plain>, asked: Asked, wanted: Answered) {
+    let given = asks(rt, cell, asked);
+    let is_wanted = given.is(&wanted);
+    drop(given);
+    drop(wanted);
+    holds(rt, "the answer", is_wanted);
 }
 
 /// The journal. Where there is no memory, it is copied again.
@@ -72,7 +81,9 @@ fn text(rt: &Host<impl Abort>, alloc: Global, journal: &Journal<u32, u32>) -> Ve
 pub fn prints(rt: &Host<impl Abort>, alloc: Global, cell: &Cell<Plain>, label: &str, wanted: &str) {
     let journal = journal(rt, cell, label);
     let text = text(rt, alloc, &journal);
+    drop(journal);
     same(rt, "the trace", &text.as_slice(), &wanted.as_bytes());
+    drop(text);
 }
 
 #[test]

@@ -58,6 +58,7 @@ pub fn steps<U: Twin>(
     if !found_no_memory(&answer) {
         return answer;
     }
+    drop(answer);
     rt.retry();
     twin.do_step(copy_of(command))
 }
@@ -77,7 +78,9 @@ pub fn snapshot_of<U: Twin>(rt: &Host<impl Abort>, twin: &mut U) -> MachineState
 /// Does the commands of a journal, and looks that each is answered as the journal says.
 pub fn replays<U: Twin>(rt: &Host<impl Abort>, twin: &mut U, entries: &[JournalEntry<u32, u32>]) {
     for entry in entries {
-        let is_told = steps(rt, twin, &entry.command) == entry.answer;
+        let answer = steps(rt, twin, &entry.command);
+        let is_told = answer == entry.answer;
+        drop(answer);
         holds(rt, "the twin answers as the journal says", is_told);
     }
 }

@@ -415,8 +415,20 @@ fn asks(rt: &impl Abort, planned: &Planned<u64>, wanted: &Wanted) {
     sends(rt, planned, wanted.sends);
 }
 
+/// The same of a plan that nothing else is done with.
+fn just_asks(rt: &impl Abort, planned: Planned<u64>, wanted: &Wanted) {
+    asks(rt, &planned, wanted);
+    drop(planned);
+}
+
+/// Looks that this is asked of timers by a plan that nothing else is done with.
+fn just_sets(rt: &impl Abort, planned: Planned<u64>, wanted: &[(Timer, Decision, u64)]) {
+    settings(rt, &planned, wanted);
+    drop(planned);
+}
+
 /// Looks that the settings of these capital letters at these places are asked for, and no others.
-fn places(rt: &impl Abort, planned: &Planned<u64>, wanted: &[(char, u64)]) {
+fn places(rt: &impl Abort, planned: Planned<u64>, wanted: &[(char, u64)]) {
     is_count(
         rt,
         "how many settings",
@@ -430,12 +442,14 @@ fn places(rt: &impl Abort, planned: &Planned<u64>, wanted: &[(char, u64)]) {
         holds(rt, "its time", found == Decision::Set(Time::After(4)));
         holds(rt, "its place", held == *place);
     }
+    drop(planned);
 }
 
 /// Looks whether the event is postponed, at what letters ask for.
 fn postpones(rt: &Host<impl Abort>, alloc: Global, letters: &[char], wanted: bool) {
-    let found = planned(rt, alloc, letters).postpone;
-    same(rt, "it is postponed", &found, &wanted);
+    let found = planned(rt, alloc, letters);
+    same(rt, "it is postponed", &found.postpone, &wanted);
+    drop(found);
 }
 
 /// Replies and inserts keep their order, and inserts may be taken from the back.
@@ -457,12 +471,13 @@ fn an_order_is_kept(rt: &Host<impl Abort>, alloc: Global) {
     holds(rt, "the content of the last", last.content == 30);
     static LEFT: [(Kind, u64); 2] = [(Kind::Internal, 30), (Kind::Timeout(Timer::State), 40)];
     inserts(rt, &seven, &LEFT);
+    drop(seven);
 }
 
 #[test]
 fn each_call_answers(rt: HostRuntime) {
     let rt = Host::new(rt);
-    asks(&rt, &planned(&rt, rt.alloc(), &[]), &NOTHING);
+    just_asks(&rt, planned(&rt, rt.alloc(), &[]), &NOTHING);
     // The last postpone decides.
     postpones(&rt, rt.alloc(), &['p'], true);
     postpones(&rt, rt.alloc(), &['p', 'k'], false);
@@ -473,7 +488,7 @@ fn each_call_answers(rt: HostRuntime) {
         ..NOTHING
     };
     let both = planned(&rt, rt.alloc(), &['s', 't', 'r', 'i']);
-    asks(&rt, &both, &BOTH);
+    just_asks(&rt, both, &BOTH);
     an_order_is_kept(&rt, rt.alloc());
     rt.end();
 }
@@ -486,7 +501,7 @@ fn the_last_setting_of_each_timer_decides(rt: HostRuntime) {
         (Timer::Named(1), Decision::Set(Time::After(1)), 50),
         (Timer::Named(2), Decision::Set(Time::After(2)), 60),
     ];
-    settings(&rt, &both, &BOTH);
+    just_sets(&rt, both, &BOTH);
 
     // It stands where the last one stood, also where it stops the timer.
     let again = planned(&rt, rt.alloc(), &['1', '2', '9']);
@@ -494,7 +509,7 @@ fn the_last_setting_of_each_timer_decides(rt: HostRuntime) {
         (Timer::Named(2), Decision::Set(Time::After(2)), 60),
         (Timer::Named(1), Decision::Set(Time::After(9)), 70),
     ];
-    settings(&rt, &again, &AGAIN);
+    just_sets(&rt, again, &AGAIN);
     let stopped = planned(&rt, rt.alloc(), &['9', 'e', '0', 'x', 'p', 'e']);
     static STOPPED: Wanted<'static> = Wanted {
         postpone: true,
@@ -505,7 +520,7 @@ fn the_last_setting_of_each_timer_decides(rt: HostRuntime) {
         ],
         ..NOTHING
     };
-    asks(&rt, &stopped, &STOPPED);
+    just_asks(&rt, stopped, &STOPPED);
     rt.end();
 }
 
@@ -524,14 +539,14 @@ fn refused_memory_changes_nothing(rt: HostRuntime) {
         ],
         sends: &[(NEAR, 130)],
     };
-    asks(&rt, &ten, &TEN);
+    just_asks(&rt, ten, &TEN);
     rt.end();
 }
 
 #[test]
 fn an_enter_call_replies_and_sets_timers(rt: HostRuntime) {
     let rt = Host::new(rt);
-    asks(&rt, &entered(&rt, rt.alloc(), &[]), &NOTHING);
+    just_asks(&rt, entered(&rt, rt.alloc(), &[]), &NOTHING);
 
     let four = entered(&rt, rt.alloc(), &['x', 'h', 'r', 'e']);
     static FOUR: Wanted<'static> = Wanted {
@@ -542,7 +557,7 @@ fn an_enter_call_replies_and_sets_timers(rt: HostRuntime) {
         ],
         ..NOTHING
     };
-    asks(&rt, &four, &FOUR);
+    just_asks(&rt, four, &FOUR);
 
     // Of a timer's settings the last decides, and stands where it stood.
     let six = entered(&rt, rt.alloc(), &['s', '1', 'h', 'r', '2', '9']);
@@ -554,7 +569,7 @@ fn an_enter_call_replies_and_sets_timers(rt: HostRuntime) {
         ],
         ..NOTHING
     };
-    asks(&rt, &six, &SIX);
+    just_asks(&rt, six, &SIX);
     rt.end();
 }
 
@@ -567,7 +582,9 @@ fn event_joined(
 ) -> Planned<u64> {
     let copies = event_and_enter(rt, alloc, event, enter);
     let plans = event_and_enter(rt, alloc, event, enter);
-    joined(rt, alloc, plans, &copies)
+    let both = joined(rt, alloc, plans, &copies);
+    drop(copies);
+    both
 }
 
 /// What the letters of two events ask for together.
@@ -579,7 +596,9 @@ fn events_joined(
 ) -> Planned<u64> {
     let copies = two_events(rt, alloc, first, second);
     let plans = two_events(rt, alloc, first, second);
-    joined(rt, alloc, plans, &copies)
+    let both = joined(rt, alloc, plans, &copies);
+    drop(copies);
+    both
 }
 
 #[test]
@@ -597,7 +616,7 @@ fn an_enter_calls_settings_replace_the_events(rt: HostRuntime) {
         ],
         ..NOTHING
     };
-    asks(&rt, &both, &BOTH);
+    just_asks(&rt, both, &BOTH);
 
     // The first list alone decides whether the event is postponed.
     let kept = events_joined(&rt, rt.alloc(), &['i', 'k'], &['p', 't']);
@@ -605,7 +624,7 @@ fn an_enter_calls_settings_replace_the_events(rt: HostRuntime) {
         inserts: &[(Kind::Internal, 30), (Kind::Timeout(Timer::State), 40)],
         ..NOTHING
     };
-    asks(&rt, &kept, &KEPT);
+    just_asks(&rt, kept, &KEPT);
     rt.end();
 }
 
@@ -639,7 +658,7 @@ fn a_refused_join_changes_nothing(rt: HostRuntime) {
         ],
         sends: &[(FAR, 140), (NEAR, 130)],
     };
-    asks(&rt, &both, &BOTH);
+    just_asks(&rt, both, &BOTH);
     rt.end();
 }
 
@@ -654,8 +673,8 @@ fn asked_by(
         settings: wanted,
         ..NOTHING
     };
-    asks(rt, &planned(rt, alloc, letters), &wanted);
-    asks(rt, &entered(rt, alloc, letters), &wanted);
+    just_asks(rt, planned(rt, alloc, letters), &wanted);
+    just_asks(rt, entered(rt, alloc, letters), &wanted);
 }
 
 /// What is asked of a timer, without the content, and the content.
@@ -700,7 +719,7 @@ fn what_is_sent_keeps_its_order(rt: HostRuntime) {
         sends: &[(NEAR, 130), (FAR, 140), (NEAR, 130)],
         ..NOTHING
     };
-    asks(&rt, &five, &FIVE);
+    just_asks(&rt, five, &FIVE);
     rt.end();
 }
 
@@ -718,7 +737,7 @@ fn what_an_enter_call_asks_of_a_timer_decides(rt: HostRuntime) {
         sends: &[(NEAR, 130), (FAR, 140)],
         ..NOTHING
     };
-    asks(&rt, &both, &BOTH);
+    just_asks(&rt, both, &BOTH);
 
     // A second list sends behind the first.
     let sent = events_joined(&rt, rt.alloc(), &['n', 'u'], &['m', '1', 'n']);
@@ -727,7 +746,7 @@ fn what_an_enter_call_asks_of_a_timer_decides(rt: HostRuntime) {
         sends: &[(FAR, 140), (NEAR, 130), (FAR, 140)],
         ..NOTHING
     };
-    asks(&rt, &sent, &SENT);
+    just_asks(&rt, sent, &SENT);
     rt.end();
 }
 
@@ -749,8 +768,8 @@ fn the_last_setting_decides_also_in_long_lists(rt: HostRuntime) {
         ('A', 38),
         ('E', 39),
     ];
-    places(&rt, &planned(&rt, rt.alloc(), &FORTY), &LASTS);
-    places(&rt, &entered(&rt, rt.alloc(), &FORTY), &LASTS);
+    places(&rt, planned(&rt, rt.alloc(), &FORTY), &LASTS);
+    places(&rt, entered(&rt, rt.alloc(), &FORTY), &LASTS);
     rt.end();
 }
 
@@ -780,6 +799,6 @@ fn the_last_setting_decides_also_in_long_plans(rt: HostRuntime) {
         ('M', 10),
         ('N', 11),
     ];
-    places(&rt, &both, &LASTS);
+    places(&rt, both, &LASTS);
     rt.end();
 }

@@ -114,6 +114,9 @@ fn two_threads_count_and_each_claims_what_it_reached(rt: HostRuntime) {
     holds(&rt, "it reached what it counted", reached >= 100);
     let count = count_now(&threads, &lock, &mut second, reached);
     is_number(&rt, "what both counted", count, 200);
+    drop(first);
+    drop(second);
+    drop(lock);
     rt.end();
 }
 
@@ -160,5 +163,7 @@ fn one_thread_waits_for_what_another_counts(rt: HostRuntime) {
         || count_and_tell(&threads, &lock, &counted, holder, 3),
     );
     is_number(&rt, "what was waited for", count, 3);
+    drop(counted);
+    drop(lock);
     rt.end();
 }

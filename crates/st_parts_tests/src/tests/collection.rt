@@ -22,6 +22,12 @@ fn list(rt: &Host<impl Abort>, collection: &Letters) -> Vec<(Tag, char)> {
     got(rt, "the list finds memory", list)
 }
 
+/// What is listed is the tag of this number and this label.
+fn is_listed(rt: &Host<impl Abort>, listed: &(Tag, char), number: u64, label: char) {
+    holds(rt, "the tag", listed.0 == tag(number));
+    holds(rt, "its label", listed.1 == label);
+}
+
 /// The collection has the requests of these numbers, with these labels, in this order.
 fn shows(rt: &Host<impl Abort>, collection: &Letters, wanted: &[(u64, char)]) {
     let list = list(rt, collection);
@@ -30,9 +36,9 @@ fn shows(rt: &Host<impl Abort>, collection: &Letters, wanted: &[(u64, char)]) {
     let is_empty = collection.is_empty() == wanted.is_empty();
     holds(rt, "none only of none", is_empty);
     for (shown, (number, label)) in list.iter().zip(wanted) {
-        holds(rt, "the tag", shown.0 == tag(*number));
-        holds(rt, "its label", shown.1 == *label);
+        is_listed(rt, shown, *number, *label);
     }
+    drop(list);
 }
 
 /// Adds a request. Where there is no memory, it comes back, the collection is as it was, and it is added again.
@@ -65,6 +71,7 @@ fn requests_are_taken_out(rt: HostRuntime) {
     same(&rt, "the second", &collection.get(1).tag(), &tag(2));
     same(&rt, "its label", &collection.take(1), &'b');
     shows(&rt, &collection, &[(1, 'a'), (3, 'c')]);
+    drop(collection);
     rt.end();
 }
 
@@ -76,5 +83,6 @@ fn a_tag_that_is_there_keeps_its_place(rt: HostRuntime) {
     add(&rt, &mut collection, 2, 'b', &[(1, 'a')]);
     add(&rt, &mut collection, 1, 'c', &[(1, 'a'), (2, 'b')]);
     shows(&rt, &collection, &[(1, 'c'), (2, 'b')]);
+    drop(collection);
     rt.end();
 }

@@ -26,6 +26,7 @@ fn an_id_is_given_once(rt: HostRuntime) {
     a_directory_is_in_order(&directory);
     a_gone_id_stays_gone(&directory);
     crosses_threads(&directory);
+    drop(directory);
     rt.end();
 }
 
@@ -34,6 +35,7 @@ fn names_have_1_to_64_bytes(rt: HostRuntime) {
     let rt = Host::new(rt);
     let mut directory = Directory::new(rt.alloc());
     tell_all(&rt, &mut directory, NAMES_HAVE_1_TO_64_BYTES.as_slice());
+    drop(directory);
     rt.end();
 }
 
@@ -47,6 +49,7 @@ fn names_stand_in_order_of_registration(rt: HostRuntime) {
     ids_are(&rt, rt.alloc(), &directory, BY_SLOT.as_slice());
     tell_all(&rt, &mut directory, THE_FIRST_NAME_GOES.as_slice());
     names_are(&rt, &directory, FRONT_IS_LAST.as_slice());
+    drop(directory);
     rt.end();
 }
 
@@ -57,6 +60,7 @@ fn a_full_directory_takes_no_more(rt: HostRuntime) {
     fill(&rt, &mut directory, MOST);
     tell_all(&rt, &mut directory, A_FULL_DIRECTORY.as_slice());
     is_count(&rt, "how many there are", directory.len(), MOST);
+    drop(directory);
     rt.end();
 }
 
@@ -67,6 +71,7 @@ fn names_of_one_hash_are_found(rt: HostRuntime) {
     let mut directory = Directory::new(rt.alloc());
     names_of_one_hash(&rt, &mut directory, MOST);
     is_count(&rt, "how many there are", directory.len(), MOST);
+    drop(directory);
     rt.end_with_memory();
 }
 
@@ -78,5 +83,6 @@ fn a_crowd_of_names_stays_in_order(rt: HostRuntime) {
     holds(&rt, "they are a crowd", found > 300);
     is_count(&rt, "how many there are", directory.len(), found);
     names_rise(&rt, &directory);
+    drop(directory);
     rt.end();
 }

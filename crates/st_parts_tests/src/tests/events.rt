@@ -53,7 +53,9 @@ fn written(rt: &Host<impl Abort>, alloc: Global, value: &impl Display) -> String
 
 /// Looks at a text that is written.
 fn is_written(rt: &Host<impl Abort>, alloc: Global, value: &impl Display, wanted: &str) {
-    is_text(rt, "the text", written(rt, alloc, value).as_str(), wanted);
+    let text = written(rt, alloc, value);
+    is_text(rt, "the text", text.as_str(), wanted);
+    drop(text);
 }
 
 /// Looks at what a list is shown as. Where memory was refused, it is written again.
@@ -65,6 +67,7 @@ fn is_shown(rt: &Host<impl Abort>, alloc: Global, list: &impl Debug, wanted: &st
     }
     let text = got(rt, "one allocation alone is refused", text);
     is_text(rt, "what is shown", text.as_str(), wanted);
+    drop(text);
 }
 
 /// A list in the making, reserved for so many numbers. Where memory was refused, it is asked for again.
@@ -120,6 +123,8 @@ fn gives(rt: &impl Abort, list: SmallList<u64>, elements: &[u64]) {
         is_there(rt, "what is taken", left.next(), *element);
     }
     holds(rt, "none is left", left.next() == None);
+    drop(left);
+    drop(places);
 }
 
 /// Looks that a list has the replies to the requests 0, 1, .., and no others.
@@ -159,8 +164,10 @@ fn a_builder_answers(rt: &Host<impl Abort>, alloc: Global) {
     let pair_of_numbers = builder.finish();
     has(rt, &pair_of_numbers, &[3, 1]);
     // The second is let go with its place.
-    let first = pair_of_numbers.into_places().take_each().next();
+    let mut places = pair_of_numbers.into_places();
+    let first = places.take_each().next();
     is_there(rt, "the first", first, 3);
+    drop(places);
 }
 
 /// A vector becomes a plain list, and is it again.
@@ -173,7 +180,11 @@ fn a_plain_list_answers(rt: &Host<impl Abort>, alloc: Global) {
     holds(rt, "lists of the same are equal", two == other);
     holds(rt, "others are not", two != none);
     is_shown(rt, alloc, &two, "[8, 9]");
-    are(rt, "two", two.into_vec().as_slice(), [8, 9].as_slice());
+    let numbers = two.into_vec();
+    are(rt, "two", numbers.as_slice(), [8, 9].as_slice());
+    drop(numbers);
+    drop(other);
+    drop(none);
 }
 
 /// Adds a number. A push that finds no memory leaves the list, and is made again.
@@ -207,6 +218,7 @@ fn a_plain_list_grows(rt: &Host<impl Abort>, alloc: Global) {
     is_count(rt, "how many", list.len(), 3);
     same(rt, "the last", &list.get(2), &Some(&7));
     holds(rt, "none behind the last", list.get(3) == None);
+    drop(list);
 }
 
 /// A copy of a text. Where memory was refused, it is made again.
@@ -225,6 +237,7 @@ fn a_plain_text_answers(rt: &Host<impl Abort>, alloc: Global) {
     is_text(rt, "the text", text.as_str(), "door");
     let again = PlainText::from(text.into_string());
     is_text(rt, "the text again", again.as_str(), "door");
+    drop(again);
 }
 
 #[test]
@@ -306,6 +319,8 @@ fn a_refused_push_changes_nothing(rt: HostRuntime) {
         holds(&rt, "in order", is_reply(&action, request));
     }
     holds(&rt, "none is left", left.next().is_none());
+    drop(left);
+    drop(places);
     rt.end();
 }
 
@@ -319,6 +334,8 @@ fn memory_is_reserved_before_the_elements_come(rt: HostRuntime) {
     builder.push(6);
     builder.push(5);
     builder.push(4);
-    has(&rt, &builder.finish(), &[9, 8, 7, 6, 5, 4]);
+    let list = builder.finish();
+    has(&rt, &list, &[9, 8, 7, 6, 5, 4]);
+    drop(list);
     rt.end();
 }

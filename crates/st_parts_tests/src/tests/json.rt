@@ -61,18 +61,22 @@ fn prints(rt: &Host<impl Abort>, alloc: Global, number: u64, row: Row, text: &st
     let line = line_of(rt, alloc, &entry);
     let wanted = Some((&b'\n', text.as_bytes()));
     same(rt, "the line", &line.as_bytes().split_last(), &wanted);
+    drop(line);
     entry
 }
 
 /// A text reads as the JSON of the entry.
-fn reads_back(rt: &Host<impl Abort>, alloc: Global, entry: &Line, text: &str) {
+fn reads_back(rt: &Host<impl Abort>, alloc: Global, entry: Line, text: &str) {
     let value = got(
         rt,
         "it has a value",
-        entry_json(alloc, &Names, &Numbers, entry),
+        entry_json(alloc, &Names, &Numbers, &entry),
     );
+    drop(entry);
     let read = got(rt, "it is JSON", Value::from_str(alloc, text));
     same(rt, "the value", &read, &value);
+    drop(read);
+    drop(value);
 }
 
 /// The machine that sent a message.
@@ -157,7 +161,7 @@ static ROWS: [Numbered; 12] = [
 fn each_prints(rt: &Host<impl Abort>, alloc: Global, rows: &[Numbered]) {
     for (number, row, text) in rows {
         let entry = prints(rt, alloc, *number, *row, text);
-        reads_back(rt, alloc, &entry, text);
+        reads_back(rt, alloc, entry, text);
     }
 }
 

@@ -132,6 +132,7 @@ fn an_owner_takes_what_it_put(rt: HostRuntime) {
     put_local(&rt, &mut lane, 1, 3);
     take_local(&rt, &mut lane, 1, 3);
     is_none(&rt, lane.take_local());
+    drop(lane);
     rt.end();
 }
 
@@ -153,6 +154,7 @@ fn another_thread_steals_in_order(rt: HostRuntime) {
     };
     two_are_taken(&rt, child.join(&threads));
     is_none(&rt, lane.take_local());
+    drop(lane);
     rt.end();
 }
 
@@ -179,6 +181,7 @@ fn another_thread_takes_from_the_shared_queue_in_order(rt: HostRuntime) {
         }
     };
     two_are_taken(&rt, child.join(&threads));
+    drop(inlet);
     rt.end();
 }
 
@@ -205,6 +208,8 @@ fn each_worker_robs_those_after_it_first(rt: HostRuntime) {
     put_shared(&rt, &wait, &mut inlet, 3, 4);
     takes_all(&rt, &wait, &mut all[1]);
     is_none(&rt, all[0].shared.take_shared(&wait));
+    drop(all);
+    drop(inlet);
     rt.end();
 }
 
@@ -216,6 +221,22 @@ fn two_take_local(rt: &Host<impl Abort>, lane: &mut Lane, thief: &mut Thief) {
     is_none(rt, lane.take_local());
 }
 
+/// Two workers take what is put on the lane of the first and on the shared queue, in order.
+fn two_take(
+    rt: &Host<impl Abort>,
+    wait: &impl Wait,
+    inlet: &mut Inlet,
+    first: &mut Seats,
+    second: &mut Seats,
+) {
+    holds(rt, "one thief", second.thieves.len() == 1);
+    two_take_local(rt, &mut first.lane, &mut second.thieves[0]);
+    put_shared(rt, wait, inlet, 0, 200);
+    take_shared(rt, wait, &mut first.shared, 0, 100);
+    take_shared(rt, wait, &mut second.shared, 100, 200);
+    is_none(rt, second.shared.take_shared(wait));
+}
+
 #[test]
 fn a_refused_put_leaves_nothing(rt: HostRuntime) {
     let wait = rt;
@@ -225,11 +246,8 @@ fn a_refused_put_leaves_nothing(rt: HostRuntime) {
     let [first, second] = all.as_mut_slice() else {
         panic!(&rt; "there are two workers")
     };
-    holds(&rt, "one thief", second.thieves.len() == 1);
-    two_take_local(&rt, &mut first.lane, &mut second.thieves[0]);
-    put_shared(&rt, &wait, &mut inlet, 0, 200);
-    take_shared(&rt, &wait, &mut first.shared, 0, 100);
-    take_shared(&rt, &wait, &mut second.shared, 100, 200);
-    is_none(&rt, second.shared.take_shared(&wait));
+    two_take(&rt, &wait, &mut inlet, first, second);
+    drop(all);
+    drop(inlet);
     rt.end();
 }

@@ -111,5 +111,7 @@ sequenceDiagram
     caller-xm: stop 7, word 3
 ";
     same(&rt, "the text", &text.as_str(), &wanted);
+    drop(text);
+    drop(journal);
     rt.end();
 }

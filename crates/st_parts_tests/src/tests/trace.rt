@@ -116,6 +116,9 @@ fn prints(
     same(rt, "the text", &text.as_slice(), &wanted.as_bytes());
     let lines = lines_of(rt, alloc, &journal);
     same(rt, "the lines", &lines.as_slice(), &wanted.as_bytes());
+    drop(lines);
+    drop(text);
+    drop(journal);
 }
 
 /// A turn of a locked door at the moment 0, that finished its event and set a timer.

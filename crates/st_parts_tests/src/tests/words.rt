@@ -84,6 +84,7 @@ fn other_words_are_at_fault(rt: HostRuntime) {
         same(&rt, "the status", &error.exit_code(), &2);
         let has_memory = error.kind() != ErrorKind::OutOfMemory;
         holds(&rt, "no memory is wanted", has_memory);
+        drop(error);
     }
     rt.end_with_memory();
 }
@@ -104,6 +105,8 @@ fn help_is_asked_for(rt: HostRuntime) {
         same(&rt, "why", &error.kind(), &ErrorKind::DisplayHelp);
         let text = got(&rt, "memory", error.to_string(rt.alloc()));
         holds(&rt, "the help says it", text.contains(*told));
+        drop(text);
+        drop(error);
     }
     rt.end_with_memory();
 }

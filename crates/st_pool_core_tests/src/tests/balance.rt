@@ -204,6 +204,7 @@ fn is_balanced<T: Pooled>(rt: &Host<impl Abort>, alloc: Global, pool: &T, id: Ma
     let seen = pool.see(id).expect(rt, "there is such a machine");
     let is_fit = !seen.is_ready | token.is_some();
     holds(rt, "it has a token where it has work", is_fit);
+    drop(found);
 }
 
 /// The machines of the pool.
@@ -247,6 +248,7 @@ fn goes<T: Pooled>(pool: &mut T, step: Step<u32>, counts: &mut Counts) {
     counts.turns = counts.turns.saturating_add(turned);
     let delivered = u64::from(delivers & !is_refused(&answer));
     counts.deliveries = counts.deliveries.saturating_add(delivered);
+    drop(answer);
 }
 
 /// Looks that all machines are in balance.
@@ -270,6 +272,7 @@ fn stays_balanced<T: Pooled>(rt: &Host<impl Abort>, alloc: Global, mut pool: T) 
     }
     holds(rt, "there are 20 turns", counts.turns >= 20);
     holds(rt, "and 3 deliveries", counts.deliveries >= 3);
+    drop(pool);
 }
 
 #[test]

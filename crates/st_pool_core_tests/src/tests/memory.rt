@@ -82,6 +82,7 @@ fn one_by_one<T: Pooled>(rt: &Host<impl Abort>, mut pool: T, wanted: &[Wanted]) 
     does_all(rt, &mut pool, wanted);
     have_callers(rt, &pool, EXPIRED);
     has_lane(rt, &pool, 2, LATER);
+    drop(pool);
 }
 
 /// Does the steps as one list.

@@ -96,6 +96,7 @@ fn one_by_one<T: Pooled>(rt: &Host<impl Abort>, mut pool: T, wanted: &[Wanted]) 
     let seen = pool.see(SECOND).expect(rt, "the target is there");
     let counted = seen.count == Some(2);
     holds(rt, "the target's post and its stop", counted);
+    drop(pool);
 }
 
 /// Does the steps of the two messages as one list.
@@ -146,6 +147,7 @@ fn carries_alone<T: Pooled>(rt: &Host<impl Abort>, mut pool: T) {
     carries(rt, &pool, Some((1, 10)));
     does_all(rt, &mut pool, ONE_DELIVERED.as_slice());
     carries(rt, &pool, None);
+    drop(pool);
 }
 
 #[test]
@@ -307,6 +309,7 @@ fn wakes<T: Pooled>(rt: &Host<impl Abort>, mut pool: T) {
     does_all(rt, &mut pool, DELIVERED.as_slice());
     have_callers(rt, &pool, WOKEN);
     does_all(rt, &mut pool, SERVED.as_slice());
+    drop(pool);
 }
 
 #[test]

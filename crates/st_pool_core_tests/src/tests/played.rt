@@ -43,8 +43,9 @@ fn are_refused<T: Pooled>(
     wanted: &[Wanted],
 ) {
     is_made_again(rt, refused.refusal);
-    let is_as_before = read_all(rt, pool) == *before;
-    holds(rt, "a refusal changes nothing", is_as_before);
+    let after = read_all(rt, pool);
+    holds(rt, "a refusal changes nothing", after == *before);
+    drop(after);
     are_steps(rt, refused.value.as_slice(), wanted);
 }
 
@@ -58,9 +59,13 @@ fn play<T: Pooled>(
 ) -> Vec<StepAnswer<u32, u32>> {
     let before = read_all(rt, pool);
     match pool.do_all(steps_of(rt, alloc, wanted)) {
-        Ok(answers) => answers,
+        Ok(answers) => {
+            drop(before);
+            answers
+        }
         Err(refused) => {
             are_refused(rt, pool, &before, &refused, wanted);
+            drop(before);
             let again = pool.do_all(refused.value);
             got(rt, "one allocation alone is refused", again)
         }
@@ -77,6 +82,7 @@ fn answers_alone<T: Pooled>(
 ) {
     let alone = tell(rt, row, without, step);
     shows(rt, row, "it answers the same alone", alone == *answer);
+    drop(alone);
 }
 
 /// Does the steps of a list but one that found no memory, each by itself, and looks that they answer the same.
@@ -118,8 +124,18 @@ fn agree(rt: &impl Abort, answers: &[StepAnswer<u32, u32>], wanted: &[Wanted]) {
 
 /// Looks that all that can be read of two pools is the same.
 fn are_alike<T: Pooled>(rt: &Host<impl Abort>, pool: &T, without: &T) {
-    let is_alike = read_all(rt, pool) == read_all(rt, without);
-    holds(rt, "all is as by the others alone", is_alike);
+    let one = read_all(rt, pool);
+    let other = read_all(rt, without);
+    holds(rt, "all is as by the others alone", one == other);
+    drop(one);
+    drop(other);
+}
+
+/// Does steps as one list, and looks at their answers.
+fn plays_again<T: Pooled>(rt: &Host<impl Abort>, alloc: Global, pool: &mut T, wanted: &[Wanted]) {
+    let answers = play_all(rt, alloc, pool, wanted);
+    agree(rt, answers.as_slice(), wanted);
+    drop(answers);
 }
 
 /// Does steps as one list, and looks at their answers. Where one of them found no memory, all is as by the others
@@ -131,9 +147,12 @@ pub fn plays<T: Pooled>(rt: &Host<impl Abort>, alloc: Global, pools: (T, T, T), 
         does_without(rt, &mut without, wanted, answers.as_slice());
         are_alike(rt, &pool, &without);
         rt.retry();
-        let answers = play_all(rt, alloc, &mut again, wanted);
-        agree(rt, answers.as_slice(), wanted);
+        plays_again(rt, alloc, &mut again, wanted);
     } else {
         agree(rt, answers.as_slice(), wanted);
     }
+    drop(answers);
+    drop(pool);
+    drop(without);
+    drop(again);
 }

@@ -5,7 +5,7 @@ use super::plain::{FIFTH, FIRST, Plain, SECOND};
 use super::pooled::Pooled;
 use super::shown::{Shown, refusing};
 use super::shows::shows;
-use super::told::{CAST, TOKEN, content_in, copy_of, does};
+use super::told::{CAST, TOKEN, content_in, copy_of, does, is_as_before};
 use super::whole::read_all;
 use st_core::{Core, Entry, MOMENT_LIMIT, MachineId, Refusal, Refused, Tag};
 use st_events::Token;
@@ -74,6 +74,8 @@ fn is_refused<T: Pooled>(
     let wanted = refusing(refusal, content_in(step));
     let answer = pool.do_step(copy_of(step));
     shows(rt, row, "why it is refused", answer == wanted);
+    drop(answer);
+    drop(wanted);
 }
 
 /// Does steps that are refused for these reasons. The content that a step holds comes back, and nothing changes. None
@@ -82,9 +84,10 @@ fn all_refused<T: Pooled>(rt: &Host<impl Abort>, mut pool: T, steps: &[(Step<u32
     let before = read_all(rt, &pool);
     for (row, (step, refusal)) in steps.iter().enumerate() {
         is_refused(rt, row, &mut pool, step, *refusal);
-        let is_as_before = read_all(rt, &pool) == before;
-        shows(rt, row, "a refusal changes nothing", is_as_before);
+        is_as_before(rt, row, &pool, &before);
     }
+    drop(before);
+    drop(pool);
 }
 
 /// A request of a machine that is not there.
@@ -208,6 +211,7 @@ fn not_opened(rt: &Host<impl Abort>, alloc: Global, workers: usize, ids: &[Machi
     let is_wanted = last.refusal == Refusal::NotPossible;
     holds(rt, "the pool is not possible", is_wanted);
     are_of(rt, last.value.as_slice(), ids);
+    drop(last);
 }
 
 /// Pools of no worker, of too many, and of two machines with one id.

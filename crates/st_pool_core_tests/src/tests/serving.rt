@@ -51,6 +51,7 @@ fn two(rt: &Host<impl Abort + AllocGlobal>) -> PoolWorld<Plain> {
 fn one_by_one<T: Pooled>(rt: &Host<impl Abort>, mut pool: T, wanted: &[Wanted]) {
     does_all(rt, &mut pool, wanted);
     have_callers(rt, &pool, LATER);
+    drop(pool);
 }
 
 /// Does the steps as one list.
@@ -99,6 +100,7 @@ fn goes_round<T: Pooled>(rt: &Host<impl Abort>, mut pool: T) {
     does_all(rt, &mut pool, STOLEN.as_slice());
     let is_retired = pool.token_of(FIRST) == None;
     holds(rt, "its token is retired", is_retired);
+    drop(pool);
 }
 
 #[test]

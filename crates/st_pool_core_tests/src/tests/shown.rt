@@ -118,7 +118,10 @@ fn lists(rt: &impl Abort, row: usize, report: &Report<u32>, count: u64) {
 /// Looks that an answer is the one that is wanted of a row.
 pub fn agrees(rt: &impl Abort, row: usize, answer: &StepAnswer<u32, u32>, wanted: &Shown) {
     match answer_of(wanted) {
-        Some(other) => shows(rt, row, "the answer", *answer == other),
+        Some(other) => {
+            shows(rt, row, "the answer", *answer == other);
+            drop(other);
+        }
         None => match answer {
             StepAnswer::Turned(report) => turned(rt, row, report, wanted),
             _ => shows(rt, row, "a turn with a report", false),

@@ -67,12 +67,14 @@ pub fn found_no_memory(answer: &StepAnswer<u32, u32>) -> bool {
 pub fn comes_back(rt: &impl Abort, row: usize, step: &Step<u32>, answer: &StepAnswer<u32, u32>) {
     let refused = refusing(Refusal::NoMemory, content_in(step));
     shows(rt, row, "its content comes back", *answer == refused);
+    drop(refused);
 }
 
 /// Looks that nothing that can be read of a pool has changed.
-fn is_as_before<T: Pooled>(rt: &Host<impl Abort>, row: usize, pool: &T, before: &Whole) {
-    let is_as_before = read_all(rt, pool) == *before;
-    shows(rt, row, "a refusal changes nothing", is_as_before);
+pub fn is_as_before<T: Pooled>(rt: &Host<impl Abort>, row: usize, pool: &T, before: &Whole) {
+    let after = read_all(rt, pool);
+    shows(rt, row, "a refusal changes nothing", after == *before);
+    drop(after);
 }
 
 /// Where a step has found no memory, nothing that can be read has changed, the content came back, and the same step is
@@ -83,13 +85,16 @@ fn again<T: Pooled>(
     pool: &mut T,
     step: &Step<u32>,
     before: &Whole,
-    answer: &mut StepAnswer<u32, u32>,
-) {
-    if found_no_memory(answer) {
-        comes_back(rt, row, step, answer);
+    answer: StepAnswer<u32, u32>,
+) -> StepAnswer<u32, u32> {
+    if found_no_memory(&answer) {
+        comes_back(rt, row, step, &answer);
+        drop(answer);
         is_as_before(rt, row, pool, before);
         rt.retry();
-        *answer = pool.do_step(copy_of(step));
+        pool.do_step(copy_of(step))
+    } else {
+        answer
     }
 }
 
@@ -102,8 +107,9 @@ pub fn tell<T: Pooled>(
     step: &Step<u32>,
 ) -> StepAnswer<u32, u32> {
     let before = read_all(rt, pool);
-    let mut answer = pool.do_step(copy_of(step));
-    again(rt, row, pool, step, &before, &mut answer);
+    let answer = pool.do_step(copy_of(step));
+    let answer = again(rt, row, pool, step, &before, answer);
+    drop(before);
     answer
 }
 
@@ -117,6 +123,7 @@ pub fn does<T: Pooled>(
 ) {
     let answer = tell(rt, row, pool, step);
     agrees(rt, row, &answer, wanted);
+    drop(answer);
 }
 
 /// Looks at the first machine's count, and at the first two hands.
@@ -139,10 +146,12 @@ pub fn does_all<T: Pooled>(rt: &Host<impl Abort>, pool: &mut T, wanted: &[Wanted
 /// Does steps in a pool, and lets it go.
 pub fn does_one_list<T: Pooled>(rt: &Host<impl Abort>, mut pool: T, wanted: &[Wanted]) {
     does_all(rt, &mut pool, wanted);
+    drop(pool);
 }
 
 /// Does steps in a pool, and then others, and lets it go.
 pub fn does_both<T: Pooled>(rt: &Host<impl Abort>, mut pool: T, first: &[Wanted], then: &[Wanted]) {
     does_all(rt, &mut pool, first);
     does_all(rt, &mut pool, then);
+    drop(pool);
 }

@@ -48,6 +48,7 @@ pub fn have_callers<T: Pooled>(rt: &Host<impl Abort>, pool: &T, token: Token) {
     let tokens = callers(rt, pool);
     let is_alone = tokens.as_slice() == [token].as_slice();
     holds(rt, "callers have this token", is_alone);
+    drop(tokens);
 }
 
 /// Looks that a lane has this token, and no other.
@@ -55,6 +56,7 @@ pub fn has_lane<T: Pooled>(rt: &Host<impl Abort>, pool: &T, number: usize, token
     let tokens = lane(rt, pool, number).expect(rt, "there is such a lane");
     let is_alone = tokens.as_slice() == [token].as_slice();
     holds(rt, "the lane has this token", is_alone);
+    drop(tokens);
 }
 
 /// What can be read of a machine.

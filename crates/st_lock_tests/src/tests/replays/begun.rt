@@ -29,8 +29,11 @@ fn started(rt: &Host<impl Abort>, alloc: Global) -> Start<Plain> {
 /// A machine that has just started.
 pub fn machine(rt: &Host<impl Abort>, alloc: Global) -> Core<Plain> {
     match started(rt, alloc) {
-        Start::Running(core, _report) => core,
-        _ => panic!(rt; "there is no machine"),
+        Start::Running(core, report) => {
+            drop(report);
+            core
+        }
+        Start::Ignored | Start::Stopped(_) => panic!(rt; "there is no machine"),
     }
 }
 

@@ -40,15 +40,25 @@ fn with_state(answer: &mut Answer<u32, u32>, state: u32) {
     }
 }
 
+/// An entry has another answer.
+fn with_answer(line: &mut Line, answer: Answer<u32, u32>) {
+    line.answer = answer;
+}
+
+/// An entry has another command.
+fn with_command(line: &mut Line, command: Command<u32>) {
+    line.command = command;
+}
+
 /// One entry is changed.
 fn change_one(line: &mut Line, what: Change) {
     match what {
-        Change::Number(_, number) => line.answer = Answer::Post(Ok(number)),
-        Change::Expired(_, expired) => line.answer = Answer::Tick(Ok(expired)),
+        Change::Number(_, number) => with_answer(line, Answer::Post(Ok(number))),
+        Change::Expired(_, expired) => with_answer(line, Answer::Tick(Ok(expired))),
         Change::After(_, state) => with_state(&mut line.answer, state),
-        Change::Content(_, content) => line.command = Command::Post(Entry::Cast, content),
+        Change::Content(_, content) => with_command(line, Command::Post(Entry::Cast, content)),
         Change::NoMemory(_) => {
-            line.answer = Answer::Post(Err(Refused::new(Refusal::NoMemory, 2)));
+            with_answer(line, Answer::Post(Err(Refused::new(Refusal::NoMemory, 2))));
         }
         _ => {}
     }

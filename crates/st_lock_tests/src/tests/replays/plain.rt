@@ -1,5 +1,5 @@
 //! A module whose contents each ask for something else.
-ghost use Rattle.std.specs.Prelude.{◌≡◌, ◌==◌, if◌then◌else◌, ℕ, true, false, None, [], ◌∷◌, refl};
+ghost use Rattle.std.specs.Prelude.{◌≡◌, ◌==◌, if◌then◌else◌, ℕ, true, false, None, [], ◌∷◌, refl, IfOk};
 ghost use Rattle.std.proofs.Common.{rules};
 ghost use Rattle.st_events.specs.declared.action.Action.TheVariants.{Reply, Send, Set};
 ghost use Rattle.st_events.specs.declared.enter_outcome.EnterOutcome.TheVariants as enter_outcome;
@@ -18,6 +18,15 @@ use std::alloc::{AllocError, Global};
 
 /// The machine to which messages are sent.
 const OTHER: MachineId = MachineId { slot: 1, serial: 2 };
+
+/// Keeps both, and does one action.
+fn does(alloc: Global, action: Action<u32>) -> Result<Outcome<u32, u32, u32>, AllocError>
+    ensures { IfOk result (λ outcome. outcome ≡ KeepStateAndData (action ∷ [])) }
+{
+    let mut actions = Actions::new(alloc);
+    actions.push(action)?;
+    Ok(Outcome::KeepStateAndData(actions))
+}
 
 /// States, data and contents are numbers. The state is 0 and the data 7, and `terminate` answers the data.
 ///
@@ -73,19 +82,16 @@ impl Module for Plain {
         _state: u32,
         held: &u32,
     ) -> Result<Outcome<u32, u32, u32>, AllocError> {
-        let mut actions = Actions::new(alloc);
         match *content {
-            1 => return Ok(Outcome::NextState(1, *held, actions)),
-            2 => {
-                if let Kind::Call(tag) = kind {
-                    actions.push(Action::Reply(tag, 50))?;
-                }
-            }
-            3 => actions.push(Action::Set(Timer::State, Time::After(5), 0))?,
-            4 => actions.push(Action::Send(OTHER, 8))?,
-            _ => {}
+            1 => Ok(Outcome::NextState(1, *held, Actions::new(alloc))),
+            2 => match kind {
+                Kind::Call(tag) => does(alloc, Action::Reply(tag, 50)),
+                _ => Ok(Outcome::KeepStateAndData(Actions::new(alloc))),
+            },
+            3 => does(alloc, Action::Set(Timer::State, Time::After(5), 0)),
+            4 => does(alloc, Action::Send(OTHER, 8)),
+            _ => Ok(Outcome::KeepStateAndData(Actions::new(alloc))),
         }
-        Ok(Outcome::KeepStateAndData(actions))
     }
 
     fn enters(&self) -> bool {

@@ -115,9 +115,12 @@ pub fn drop_place(rt: &Host<impl Abort>, directory: &mut Directory<u32>, name: &
     let before = read(directory);
     let admitted = directory.admits(Some(name)).is_ok();
     holds(rt, "it may come in", admitted);
-    if let Err(refusal) = directory.prepare(Some(name)) {
-        holds(rt, "memory is wanted", refusal == Refusal::NoMemory);
-        rt.retry();
+    match directory.prepare(Some(name)) {
+        Ok(place) => drop(place),
+        Err(refusal) => {
+            holds(rt, "memory is wanted", refusal == Refusal::NoMemory);
+            rt.retry();
+        }
     }
     let after = read(directory) == before;
     holds(rt, "a place changes nothing", after);
@@ -131,12 +134,17 @@ pub fn fill(rt: &Host<impl Abort>, directory: &mut Directory<u32>, count: usize)
     }
 }
 
+/// Looks at a name and the id that it names.
+fn name_is(rt: &Host<impl Abort>, name: &str, id: &MachineId, wanted: &(&str, MachineId)) {
+    same(rt, "the name", &name, &wanted.0);
+    same(rt, "its id", id, &wanted.1);
+}
+
 /// Looks at the names, in order of registration.
 pub fn names_are(rt: &Host<impl Abort>, directory: &Directory<u32>, wanted: &[(&str, MachineId)]) {
     is_count(rt, "how many names", directory.names().len(), wanted.len());
-    for ((name, id), (wanted_name, wanted_id)) in directory.names().zip(wanted) {
-        same(rt, "the name", &name.as_str(), wanted_name);
-        same(rt, "its id", id, wanted_id);
+    for ((name, id), wanted) in directory.names().zip(wanted) {
+        name_is(rt, name.as_str(), id, wanted);
     }
 }
 
@@ -156,6 +164,7 @@ pub fn ids_are(
         }
     };
     holds(rt, "the ids", ids.as_slice() == wanted);
+    drop(ids);
 }
 
 /// Looks that the names stand in order of registration: each has a later serial than the one before it.
