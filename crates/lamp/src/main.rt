@@ -34,7 +34,11 @@ where
 {
     match core.turn(now)? {
         Turned::Idle => Ok(()),
-        Turned::Reported(report) => write(now, &report, alloc, log),
+        Turned::Reported(report) => {
+            let written = write(now, &report, alloc, log);
+            drop(report);
+            written
+        }
     }
 }
 
@@ -122,7 +126,12 @@ fn started(alloc: Global) -> Result<Option<(Box<Core<Lamp>>, Report<Light>)>, Re
 /// Starts a lamp and uses it up.
 fn show(alloc: Global, log: &mut String) -> Result<(), Refusal> {
     match started(alloc)? {
-        Some((mut lamp, report)) => use_up(&mut lamp, &report, alloc, log),
+        Some((mut lamp, report)) => {
+            let used = use_up(&mut lamp, &report, alloc, log);
+            drop(report);
+            drop(lamp);
+            used
+        }
         None => Ok(()),
     }
 }

@@ -8,7 +8,7 @@ use crate::log::add;
 use crate::start::started;
 use crate::time::{LIMIT, due, tick};
 use lift_module::{Cabin, Content, Door};
-use machine::{post, stop, work};
+use machine::{post, settle, stop};
 use st_core::{Core, Entry, MachineId, Module, Refusal};
 use std::alloc::Global;
 use step::{Step, step_of};
@@ -100,15 +100,7 @@ impl Lift {
 
     /// Lets the machines take turns until both are idle, and carries their messages.
     fn settle(&mut self, log: &mut String) -> Result<(), Refusal> {
-        let alloc = self.alloc;
-        for _ in 0..LIMIT {
-            if !self.cabin.has_event() && !self.door.has_event() {
-                break;
-            }
-            work(&mut self.cabin, &mut self.door, "cabin", alloc, log)?;
-            work(&mut self.door, &mut self.cabin, "door", alloc, log)?;
-        }
-        Ok(())
+        settle(&mut self.cabin, &mut self.door, self.alloc, log)
     }
 
     /// Does what a line brings about, and writes it down.

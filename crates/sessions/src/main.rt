@@ -42,7 +42,9 @@ fn hand_on(rt: &HostRuntime, alloc: Global, session: &mut Session) -> Result<(),
 /// Serves each line. No session was begun before the first.
 fn serve(rt: &HostRuntime, alloc: Global) -> Result<(), Fault> {
     let mut session = Session::Absent;
-    hand_on(rt, alloc, &mut session)
+    let served = hand_on(rt, alloc, &mut session);
+    drop(session);
+    served
 }
 
 fn main(rt: HostRuntime) -> ExitCode {

@@ -17,7 +17,10 @@ pub fn started<M: Module>(
     moment: u64,
 ) -> Result<Option<Box<Core<M>>>, Refusal> {
     match Core::start(alloc, module, id, arg, moment)? {
-        Start::Running(core, _report) => boxed(alloc, core),
+        Start::Running(core, report) => {
+            drop(report);
+            boxed(alloc, core)
+        }
         Start::Ignored => Ok(None),
         Start::Stopped(_) => Ok(None),
     }

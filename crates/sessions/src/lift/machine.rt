@@ -2,7 +2,6 @@
 
 use crate::log::add;
 use crate::time::LIMIT;
-use lift_module::Content;
 use st_core::{Collected, Core, Done, Entry, Module, Refusal, Report, Turned};
 use std::alloc::{AllocError, Global};
 use std::fmt::Debug;
@@ -55,29 +54,43 @@ fn tell_asked<S>(
     Ok(())
 }
 
+/// Writes down the reply to a call.
+fn tell_reply<C: Debug + Drop>(
+    now: u64,
+    call: u64,
+    content: C,
+    name: &str,
+    alloc: Global,
+    log: &mut String,
+) -> Result<(), AllocError> {
+    add(
+        log,
+        format!(in alloc; "{now} {name} answers call {call}: {content:?}\n"),
+    )
+}
+
 /// Takes the replies of a turn, and writes them down.
-fn tell_replies<M: Module<Content = Content>>(
+fn tell_replies<M: Module>(
     core: &mut Core<M>,
     report: &Report<M::State>,
     name: &str,
     alloc: Global,
     log: &mut String,
-) -> Result<(), AllocError> {
+) -> Result<(), AllocError>
+where
+    M::Content: Debug,
+{
     let now = core.latest();
     for tag in report.replied.as_slice() {
         if let Collected::Reply(content) = core.collect(*tag) {
-            let call = tag.request;
-            add(
-                log,
-                format!(in alloc; "{now} {name} answers call {call}: {content:?}\n"),
-            )?;
+            tell_reply(now, tag.request, content, name, alloc, log)?;
         }
     }
     Ok(())
 }
 
 /// Writes down what a turn did.
-fn tell_turn<M: Module<Content = Content>>(
+fn tell_turn<M: Module>(
     core: &mut Core<M>,
     report: &Report<M::State>,
     name: &str,
@@ -86,6 +99,7 @@ fn tell_turn<M: Module<Content = Content>>(
 ) -> Result<(), Refusal>
 where
     M::State: Debug,
+    M::Content: Debug,
 {
     let now = core.latest();
     tell_course(report, now, name, alloc, log)?;
@@ -95,7 +109,7 @@ where
 }
 
 /// Lets a machine handle the next event, and writes down what it did.
-fn turn<M: Module<Content = Content>>(
+fn turn<M: Module>(
     core: &mut Core<M>,
     name: &str,
     alloc: Global,
@@ -103,18 +117,23 @@ fn turn<M: Module<Content = Content>>(
 ) -> Result<(), Refusal>
 where
     M::State: Debug,
+    M::Content: Debug,
 {
     match core.turn(core.latest())? {
-        Turned::Reported(report) => tell_turn(core, &report, name, alloc, log),
+        Turned::Reported(report) => {
+            let told = tell_turn(core, &report, name, alloc, log);
+            drop(report);
+            told
+        }
         Turned::Idle => Ok(()),
     }
 }
 
 /// Hands an event to a machine that has not ended, and answers its number.
-pub fn post<M: Module<Content = Content>>(
+pub fn post<M: Module>(
     core: &mut Core<M>,
     entry: Entry,
-    content: Content,
+    content: M::Content,
 ) -> Result<Option<u64>, Refusal> {
     if core.ended().is_some() {
         return Ok(None);
@@ -122,28 +141,41 @@ pub fn post<M: Module<Content = Content>>(
     Ok(Some(core.post(entry, content)?))
 }
 
+/// Writes down what a machine sends.
+fn tell_sent<C: Debug>(
+    now: u64,
+    content: &C,
+    name: &str,
+    alloc: Global,
+    log: &mut String,
+) -> Result<(), AllocError> {
+    add(log, format!(in alloc; "{now} {name} sends {content:?}\n"))
+}
+
 /// Carries the messages of one machine to another, and writes them down.
-fn carry<A: Module<Content = Content>, B: Module<Content = Content>>(
+fn carry<A: Module, B: Module<Content = A::Content>>(
     from: &mut Core<A>,
     to: &mut Core<B>,
     name: &str,
     alloc: Global,
     log: &mut String,
-) -> Result<(), Refusal> {
+) -> Result<(), Refusal>
+where
+    A::Content: Debug,
+{
     let now = from.latest();
     for _ in 0..LIMIT {
         let Some(message) = from.take_out() else {
             break;
         };
-        let content = message.content;
-        add(log, format!(in alloc; "{now} {name} sends {content:?}\n"))?;
-        post(to, Entry::Info, content)?;
+        tell_sent(now, &message.content, name, alloc, log)?;
+        post(to, Entry::Info, message.content)?;
     }
     Ok(())
 }
 
 /// Lets a machine handle the next event, carries its messages to another, and writes it down.
-pub fn work<A: Module<Content = Content>, B: Module<Content = Content>>(
+fn work<A: Module, B: Module<Content = A::Content>>(
     core: &mut Core<A>,
     other: &mut Core<B>,
     name: &str,
@@ -152,9 +184,32 @@ pub fn work<A: Module<Content = Content>, B: Module<Content = Content>>(
 ) -> Result<(), Refusal>
 where
     A::State: Debug,
+    A::Content: Debug,
 {
     turn(core, name, alloc, log)?;
     carry(core, other, name, alloc, log)
+}
+
+/// Lets two machines take turns until both are idle, and carries their messages.
+pub fn settle<A: Module, B: Module<Content = A::Content>>(
+    cabin: &mut Core<A>,
+    door: &mut Core<B>,
+    alloc: Global,
+    log: &mut String,
+) -> Result<(), Refusal>
+where
+    A::State: Debug,
+    A::Content: Debug,
+    B::State: Debug,
+{
+    for _ in 0..LIMIT {
+        if !cabin.has_event() && !door.has_event() {
+            break;
+        }
+        work(cabin, door, "cabin", alloc, log)?;
+        work(door, cabin, "door", alloc, log)?;
+    }
+    Ok(())
 }
 
 /// Writes down the last word of a machine that is stopped.

@@ -55,7 +55,11 @@ fn tell_turn<M: Textual>(
 fn handle<M: Textual>(core: &mut Core<M>, alloc: Global, log: &mut String) -> Result<(), Refusal> {
     let now = core.latest();
     match core.turn(now)? {
-        Turned::Reported(report) => tell_turn(core, &report, alloc, log),
+        Turned::Reported(report) => {
+            let told = tell_turn(core, &report, alloc, log);
+            drop(report);
+            told
+        }
         Turned::Idle => Ok(()),
     }
 }
