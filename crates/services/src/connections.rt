@@ -6,6 +6,7 @@ use st_service::{
     Called, Journals, MachineId, Nobody, Options, RequestId, Runtime, Service, ServicePort, Spawned,
 };
 use std::alloc::{AllocError, Global};
+use std::collections::VecDeque;
 use std::rt::Clock;
 
 /// So many connections are in the pool.
@@ -28,7 +29,7 @@ type Pool<R> = Service<Connection, R, Nobody>;
 #[derive(Drop)]
 struct Wanted<R: Runtime + Clock> {
     port: ServicePort<Connection, R, Nobody>,
-    requests: Vec<(u32, RequestId<Connection>)>,
+    requests: VecDeque<(u32, RequestId<Connection>)>,
 }
 
 /// Starts a connection. `None` where it is refused.
@@ -44,26 +45,49 @@ fn start<R: Runtime + Clock>(
     }
 }
 
-/// Asks for a connection in the name of each client. `None` where that is refused.
-fn ask<R: Runtime + Clock>(
-    port: &mut ServicePort<Connection, R, Nobody>,
-    alloc: Global,
-) -> Option<Vec<(u32, RequestId<Connection>)>> {
-    let mut requests = Vec::new(alloc);
-    for client in CLIENTS {
-        let request = port.send_request(Content::CheckOut(client)).ok()?;
-        requests.push((client, request)).ok()?;
+impl<R: Runtime + Clock> Wanted<R> {
+    /// Asks for the connection in the name of a client, and says whether that was accepted.
+    fn ask(&mut self, client: u32) -> bool {
+        match self.port.send_request(Content::CheckOut(client)) {
+            Ok(request) => self.requests.push_back((client, request)).is_ok(),
+            Err(_) => false,
+        }
     }
-    Some(requests)
+
+    /// Asks for it in the name of each client, and says whether all was accepted.
+    fn ask_all(&mut self) -> bool {
+        for client in CLIENTS {
+            if !self.ask(client) {
+                return false;
+            }
+        }
+        true
+    }
+
+    /// Says that the connection's socket is open: no owner is there to be told to open it. Answers whether that was accepted.
+    fn connect(&mut self) -> bool {
+        self.port.info(Content::Connected).is_ok()
+    }
+
+    /// Gives the connection back for a client. Where that is refused, the connection takes itself back when the lease is
+    /// over.
+    fn give_back(&mut self, client: u32) {
+        let _ = self.port.cast(Content::CheckIn(client));
+    }
 }
 
-/// Starts a connection, asks for it in the name of each client, and says that its socket is open: no owner is there to be
-/// told to open it. `None` where it is refused.
+/// Starts a connection, asks for it in the name of each client, and says that its socket is open. `None` where it is
+/// refused.
 fn want<R: Runtime + Clock>(pool: &Pool<R>, alloc: Global, number: u32) -> Option<Wanted<R>> {
-    let mut port = start(pool, number)?;
-    let requests = ask(&mut port, alloc)?;
-    port.info(Content::Connected).ok()?;
-    Some(Wanted { port, requests })
+    let mut wanted = Wanted {
+        port: start(pool, number)?,
+        requests: VecDeque::new(alloc),
+    };
+    if wanted.ask_all() && wanted.connect() {
+        return Some(wanted);
+    }
+    drop(wanted);
+    None
 }
 
 /// Waits until a client has had its answer, and says whether it has the connection.
@@ -71,21 +95,18 @@ fn has_it<R: Runtime + Clock>(rt: &R, request: RequestId<Connection>) -> bool {
     matches!(receive(rt, request), Called::Reply(Content::CheckedOut(_)))
 }
 
-/// Gives the connection back for a client. Where that is refused, the connection takes itself back when the lease is over.
-fn give_back<R: Runtime + Clock>(port: &mut ServicePort<Connection, R, Nobody>, client: u32) {
-    let _ = port.cast(Content::CheckIn(client));
-}
-
 /// Waits until each client has had the connection and has given it back, and answers how many had it.
-fn lend<R: Runtime + Clock>(rt: &R, wanted: Wanted<R>) -> u64 {
-    let Wanted { mut port, requests } = wanted;
+fn lend<R: Runtime + Clock>(rt: &R, mut wanted: Wanted<R>) -> u64 {
     let mut lent: u64 = 0;
-    for (client, request) in requests {
-        if has_it(rt, request) {
-            lent = lent.saturating_add(1);
-            give_back(&mut port, client);
+    for _ in 0..wanted.requests.len() {
+        if let Some((client, request)) = wanted.requests.pop_front() {
+            if has_it(rt, request) {
+                lent = lent.saturating_add(1);
+                wanted.give_back(client);
+            }
         }
     }
+    drop(wanted);
     lent
 }
 
@@ -104,11 +125,18 @@ fn lend_all<R: Runtime + Clock>(rt: &R, pool: &Pool<R>, alloc: Global) -> Result
     Ok(lent)
 }
 
+/// Shuts the pool down, and answers how many connections were stopped.
+fn stop<R: Runtime + Clock>(mut pool: Pool<R>) -> Result<u64, AllocError> {
+    let end = pool.shut_down(7);
+    drop(pool);
+    Ok(end?.stopped)
+}
+
 /// Opens the pool and lends its connections, and says how often one was lent, and how many were stopped.
 pub fn run<R: Runtime + Clock>(rt: R, alloc: Global) -> Result<String, AllocError> {
-    let mut pool = Service::start(rt, alloc, 4, OPTIONS, Nobody)?;
+    let pool = Service::start(rt, alloc, 4, OPTIONS, Nobody)?;
     let lent = lend_all(&rt, &pool, alloc);
-    let end = pool.shut_down(7)?;
+    let stopped = stop(pool)?;
     let lent = lent?;
-    Ok(format!(in alloc; "lent {lent} stopped {}\n", end.stopped)?)
+    Ok(format!(in alloc; "lent {lent} stopped {stopped}\n")?)
 }

@@ -33,12 +33,19 @@ fn light<R: Runtime + Clock>(lamps: &Lamps<R>) {
     }
 }
 
+/// Shuts the service down, and answers how many lamps were stopped.
+fn stop<R: Runtime + Clock>(mut lamps: Lamps<R>) -> Result<u64, AllocError> {
+    let end = lamps.shut_down(7);
+    drop(lamps);
+    Ok(end?.stopped)
+}
+
 /// Lights ten lamps, and says how many were lit and stopped.
 pub fn run<R: Runtime + Clock>(rt: R, alloc: Global) -> Result<String, AllocError> {
     let lit = Arc::new(alloc, AtomicU64::new(0))?;
-    let mut lamps = Service::start(rt, alloc, 4, OPTIONS, counts(&lit)?)?;
+    let lamps = Service::start(rt, alloc, 4, OPTIONS, counts(&lit)?)?;
     light(&lamps);
-    let end = lamps.shut_down(7)?;
+    let stopped = stop(lamps)?;
     let lit = lit.load(Ordering::SeqCst);
-    Ok(format!(in alloc; "lit {lit} stopped {}\n", end.stopped)?)
+    Ok(format!(in alloc; "lit {lit} stopped {stopped}\n")?)
 }
