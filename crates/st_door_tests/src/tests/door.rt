@@ -183,10 +183,7 @@ fn answer_of(rt: &Host<impl Abort>, outcome: &Handled, buttons: &[u8]) -> Answer
 fn answers(rt: &Host<impl Abort>, alloc: Global, row: Row) {
     let held = data_with(rt, alloc, row.buttons);
     let outcome = handled(rt, alloc, row.kind, &row.content, row.state, &held);
-    drop(held);
-    let outcome = outcome.expect(rt, "memory");
-    let answer = answer_of(rt, &outcome, row.after);
-    drop(outcome);
+    let answer = answer_of(rt, &outcome.expect(rt, "memory"), row.after);
     holds(rt, row.word, answer == row.answer);
 }
 
@@ -223,9 +220,7 @@ fn enters(
 ) {
     let held = data_with(rt, alloc, buttons);
     let outcome = entered(rt, alloc, old, state, &held).expect(rt, "memory");
-    drop(held);
     let answer = enter_answer_of(rt, &outcome, &[]);
-    drop(outcome);
     holds(rt, word, answer == wanted);
 }
 
