@@ -77,9 +77,7 @@ fn opened<R: Wait + Drop>(
     id: MachineId,
 ) -> Port<Plain> {
     let machine = hall.machine(id).expect(rt, "it is there");
-    let port = Machine::port(&machine, threads).expect(rt, "a port");
-    drop(machine);
-    port
+    Machine::port(&machine, threads).expect(rt, "a port")
 }
 
 /// A port of the machine of an id.

@@ -47,9 +47,6 @@ impl Caller {
     pub fn length(mut self, threads: &impl Wait) -> Result<usize, Option<u32>> {
         let content = DoorContent::CodeLength;
         let called = call(threads, &mut self.port, &*self.tray, content);
-        drop(self);
-        let came = came_to(&called);
-        drop(called);
-        came
+        came_to(&called)
     }
 }

@@ -39,9 +39,7 @@ fn last_turn(rt: &impl Abort, threads: &impl Wait, machine: &Machine<Plain>) -> 
     let journal = got(rt, "there is memory", machine.journal(threads, "plain"));
     let last = journal.entries.as_slice().last();
     let last = last.expect(rt, "it was served");
-    let last = turn_of(last).expect(rt, "the last command was a turn with an event");
-    drop(journal);
-    last
+    turn_of(last).expect(rt, "the last command was a turn with an event")
 }
 
 /// Looks at a machine that was posted one event: what is seen is what the last turn reported, which handled this event.
@@ -59,9 +57,7 @@ fn seen_after(rt: &impl Abort, threads: &impl Wait, port: &mut Port<Plain>, even
     holds(rt, "what the last turn reported", reported == last);
     holds(rt, "the data", look.held == 7);
     holds(rt, "one is mine", look.mine == 1);
-    let waiting = look.waiting;
-    drop(look);
-    waiting
+    look.waiting
 }
 
 /// The first turn handled the event that was posted, and inserted one.
@@ -98,9 +94,7 @@ fn a_look_shows_what_the_last_turn_reported(rt: HostRuntime) {
     let threads = rt;
     let rt = Host::with_memory(rt);
     let hall = hall(&rt, threads);
-    let mark = mark(&rt, true);
-    let id = start(&rt, &hall, &mark, None);
-    drop(mark);
+    let id = start(&rt, &hall, &mark(&rt, true), None);
     let mut port = port(&rt, &threads, &hall, id);
     let (number, token) = posts(&rt, &threads, &mut port);
     first_is_seen(&rt, &threads, &hall, &mut port, number, token);

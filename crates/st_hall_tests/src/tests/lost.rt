@@ -60,7 +60,6 @@ fn casts_one<R: Wait + Drop>(
     let token = posts_number(rt, threads, port, 1);
     sends_one(rt, hall, token, &mut hand);
     rests(rt, hall, token, &mut hand, woken);
-    drop(hand);
 }
 
 /// The machine of a token has its last turn once it was found, and no other by that token.
@@ -71,8 +70,6 @@ fn has_its_last<R: Wait + Drop>(rt: &impl Abort, hall: &RingHall<R>, token: Toke
     holds(rt, "it rests", found.turn(token, 5, &mut hand) == None);
     hand.woken = None;
     let refusal = found.serve(token, 5, &mut hand).refusal;
-    drop(found);
-    drop(hand);
     holds(rt, "it has rested", refusal == Some(Refusal::NotQueued));
 }
 
@@ -80,7 +77,6 @@ fn has_its_last<R: Wait + Drop>(rt: &impl Abort, hall: &RingHall<R>, token: Toke
 fn has_two<R: Wait + Drop>(rt: &impl Abort, hall: &RingHall<R>, token: Token) {
     let mut hand = Hand::new();
     let first = hall.turn(token, 5, &mut hand);
-    drop(hand);
     holds(rt, "one more waits", first == Some(token));
     has_its_last(rt, hall, token);
 }
@@ -100,7 +96,6 @@ fn sends_two<R: Wait + Drop>(
     };
     casts_one(rt, threads, hall, &mut port, Some(token));
     casts_one(rt, threads, hall, &mut port, None);
-    drop(port);
     has_two(rt, hall, token);
 }
 
@@ -135,7 +130,6 @@ fn sends_astray<R: Wait + Drop>(
 ) {
     let mut port = ring_port(rt, threads, hall, astray);
     casts_one(rt, threads, hall, &mut port, None);
-    drop(port);
     are_lost(rt, hall, 0, 1);
 }
 
@@ -143,7 +137,6 @@ fn sends_astray<R: Wait + Drop>(
 fn ends<R: Wait + Drop>(rt: &impl Abort, threads: &impl Wait, hall: &RingHall<R>, id: MachineId) {
     let machine = hall.machine(id).expect(rt, "it is there");
     holds(rt, "it ends", machine.stop(threads, 3) == Ok(7));
-    drop(machine);
 }
 
 /// Removes the machine of an id, and looks what comes of it.
@@ -171,7 +164,6 @@ fn sends_to_one_that_ends<R: Wait + Drop>(
     are_lost(rt, hall, 1, 1);
     removes(rt, hall, target, "it is removed", Ok(()));
     casts_one(rt, threads, hall, &mut port, None);
-    drop(port);
     are_lost(rt, hall, 1, 2);
 }
 
@@ -192,8 +184,7 @@ fn messages_to_machines_that_are_gone_are_counted(rt: HostRuntime) {
 /// Takes a message out of a machine.
 fn takes_out(rt: &impl Abort, threads: &impl Wait, machine: &Machine<Ring>, token: Token) {
     let taken = machine.take_out(threads, token);
-    let is_taken = matches!(&taken, Ok(Some(_)));
-    drop(taken);
+    let is_taken = matches!(taken, Ok(Some(_)));
     holds(rt, "it is taken out", is_taken);
 }
 
@@ -222,9 +213,7 @@ fn leaves_one<R: Wait + Drop>(
     port: &mut Port<Ring>,
 ) -> Token {
     let token = posts_number(rt, threads, port, 1);
-    let mut hand = Hand::new();
-    let turned = hall.turn(token, 5, &mut hand);
-    drop(hand);
+    let turned = hall.turn(token, 5, &mut Hand::new());
     holds(rt, "its message is left", turned == Some(token));
     token
 }

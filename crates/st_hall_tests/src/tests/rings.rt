@@ -34,9 +34,7 @@ pub fn opened<R: Wait + Drop>(
     id: MachineId,
 ) -> Port<Ring> {
     let machine = hall.machine(id).expect(rt, "it is there");
-    let port = Machine::port(&machine, threads).expect(rt, "a port");
-    drop(machine);
-    port
+    Machine::port(&machine, threads).expect(rt, "a port")
 }
 
 /// A port of a machine.
@@ -140,7 +138,6 @@ impl Told {
         for entry in journal.entries.as_slice() {
             self.count(entry);
         }
-        drop(journal);
     }
 }
 

@@ -24,9 +24,7 @@ type Seen = (usize, u64);
 
 /// What is seen by a look.
 fn seen_by(look: Look<DoorState, DoorData>) -> Seen {
-    let seen = (look.waiting, look.entries);
-    drop(look);
-    seen
+    (look.waiting, look.entries)
 }
 
 /// What is seen of a door that is looked at again for want of memory.

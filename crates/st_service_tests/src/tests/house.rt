@@ -120,11 +120,7 @@ impl<R: Threads> House<R> {
     /// How many events wait at a clerk.
     pub fn waiting(&self, threads: R, id: MachineId) -> Result<usize, Refusal> {
         match self.service.machine(id) {
-            Ok(machine) => {
-                let waiting = machine.waiting(&threads);
-                drop(machine);
-                Ok(waiting)
-            }
+            Ok(machine) => Ok(machine.waiting(&threads)),
             Err(refusal) => Err(refusal),
         }
     }
