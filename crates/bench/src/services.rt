@@ -61,6 +61,23 @@ fn calls<R: Runtime + Clock>(port: &mut Ports<R>) -> Result<u64, Refusal> {
     }
 }
 
+/// Casts so many times, and then calls once. Answers 1 where a reply came.
+fn cast_and_call<R: Runtime + Clock>(port: &mut Ports<R>, count: u32) -> Result<u64, Refusal> {
+    for _ in 0..count {
+        casts(port, Work::Keep)?;
+    }
+    calls(port)
+}
+
+/// Calls so many times, and answers how many replies came.
+fn call_each<R: Runtime + Clock>(port: &mut Ports<R>, count: u32) -> Result<u64, Refusal> {
+    let mut replies = 0u64;
+    for _ in 0..count {
+        replies = replies.saturating_add(calls(port)?);
+    }
+    Ok(replies)
+}
+
 /// Casts so many times to a machine that one worker serves, and then calls it. Answers whether it replied.
 pub fn cast_to_service<R: Runtime + Clock>(
     rt: R,
@@ -70,10 +87,10 @@ pub fn cast_to_service<R: Runtime + Clock>(
 ) -> Result<u64, Refusal> {
     let services = service(rt, alloc, 1, entries)?;
     let mut port = spawned(&services)?;
-    for _ in 0..count {
-        casts(&mut port, Work::Keep)?;
-    }
-    calls(&mut port)
+    let replied = cast_and_call(&mut port, count);
+    drop(port);
+    drop(services);
+    replied
 }
 
 /// Calls so many times a machine that one worker serves, and answers how many replies came.
@@ -85,9 +102,56 @@ pub fn call_to_service<R: Runtime + Clock>(
 ) -> Result<u64, Refusal> {
     let services = service(rt, alloc, 1, entries)?;
     let mut port = spawned(&services)?;
+    let replied = call_each(&mut port, count);
+    drop(port);
+    drop(services);
+    replied
+}
+
+/// Starts so many machines, and answers their ports.
+fn ports_of<R: Runtime + Clock>(
+    alloc: Global,
+    services: &Services<R>,
+    many: u32,
+) -> Result<Vec<Ports<R>>, Refusal> {
+    let mut ports = Vec::new(alloc);
+    for _ in 0..many {
+        ports.push(spawned(services)?)?;
+    }
+    Ok(ports)
+}
+
+/// Casts once through each port: its machine is to insert so many events.
+fn insert_each<R: Runtime + Clock>(ports: &mut Vec<Ports<R>>, count: u32) -> Result<(), Refusal> {
+    for port in ports.iter_mut() {
+        casts(port, Work::InsertMany(count))?;
+    }
+    Ok(())
+}
+
+/// Calls once through the last port, and lets it go. Answers 1 where a reply came.
+fn call_last<R: Runtime + Clock>(ports: &mut Vec<Ports<R>>) -> Result<u64, Refusal> {
+    match ports.pop() {
+        Some(mut port) => {
+            let replied = calls(&mut port);
+            drop(port);
+            replied
+        }
+        None => Ok(0),
+    }
+}
+
+/// Has each of so many machines insert so many events, and then calls each. Answers how many replies came.
+fn insert_and_call<R: Runtime + Clock>(
+    ports: &mut Vec<Ports<R>>,
+    count: u32,
+    many: u32,
+) -> Result<u64, Refusal> {
+    insert_each(ports, count)?;
+    // From the last on, which is served last: so the caller sleeps before one reply and not before each.
     let mut replies = 0u64;
-    for _ in 0..count {
-        replies = replies.saturating_add(calls(&mut port)?);
+    for _ in 0..many {
+        replies = replies.saturating_add(call_last(ports)?);
     }
     Ok(replies)
 }
@@ -104,19 +168,9 @@ pub fn insert_in_service<R: Runtime + Clock>(
     requires { (1 ≤ workers) × (workers ≤ 16) }
 {
     let services = service(rt, alloc, workers, 0)?;
-    let mut ports = Vec::new(alloc);
-    for _ in 0..many {
-        ports.push(spawned(&services)?)?;
-    }
-    for port in ports.iter_mut() {
-        casts(port, Work::InsertMany(count))?;
-    }
-    // From the last on, which is served last: so the caller sleeps before one reply and not before each.
-    let mut replies = 0u64;
-    for _ in 0..many {
-        if let Some(mut port) = ports.pop() {
-            replies = replies.saturating_add(calls(&mut port)?);
-        }
-    }
-    Ok(replies)
+    let mut ports = ports_of(alloc, &services, many)?;
+    let replied = insert_and_call(&mut ports, count, many);
+    drop(ports);
+    drop(services);
+    replied
 }

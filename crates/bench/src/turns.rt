@@ -110,13 +110,31 @@ impl<R: Runtime> TurnedByWorker<R> {
     }
 }
 
+/// A worker makes so many turns of a machine of a hall with so many running time-outs, behind a gate.
+fn served<R: Runtime, G: Gate>(
+    rt: R,
+    alloc: Global,
+    hall: &Arc<Hall<Load, R>>,
+    gate: &G,
+    count: u32,
+    timers: u32,
+) -> Result<u64, Refusal> {
+    match turned(rt, alloc, hall)? {
+        Some(mut turned) => {
+            let served = turned.turn_each(gate, count, timers);
+            drop(turned);
+            served
+        }
+        None => Ok(0),
+    }
+}
+
 /// A worker makes so many turns of a machine with so many running time-outs, behind a gate at which nobody waits.
 pub fn turns<R: Runtime>(rt: R, alloc: Global, count: u32, timers: u32) -> Result<u64, Refusal> {
     let hall = empty(rt, alloc)?;
-    match turned(rt, alloc, &hall)? {
-        Some(mut turned) => turned.turn_each(&Silent, count, timers),
-        None => Ok(0),
-    }
+    let served = served(rt, alloc, &hall, &Silent, count, timers);
+    drop(hall);
+    served
 }
 
 /// The same, with a ticker as the gate.
@@ -131,8 +149,8 @@ pub fn ticked_turns<R: Runtime + Clock>(
         return Ok(0);
     };
     let ticker: Arc<LoadTicker<R>> = Ticker::new(rt, alloc, start, &hall)?;
-    match turned(rt, alloc, &hall)? {
-        Some(mut turned) => turned.turn_each(&*ticker, count, timers),
-        None => Ok(0),
-    }
+    let served = served(rt, alloc, &hall, &*ticker, count, timers);
+    drop(ticker);
+    drop(hall);
+    served
 }

@@ -96,15 +96,17 @@ fn kept_unscheduled(
 fn came_to(
     rt: &Host<impl Abort>,
     threads: &impl Wait,
-    called: &Called<Door>,
+    called: Called<Door>,
 ) -> Collected<DoorContent> {
-    match called {
+    let came = match &called {
         Called::Reply(content) => Collected::Reply(*content),
         Called::Stopped(reason) => Collected::Stopped(*reason),
         Called::Gone => Collected::Gone,
         Called::Uncollected(id, refusal) => kept_uncollected(rt, threads, id, *refusal),
         Called::Unscheduled(id, left) => kept_unscheduled(rt, threads, id, *left),
-    }
+    };
+    drop(called);
+    came
 }
 
 /// A call found no memory: nothing was posted, and it is called again. What that came to.
@@ -119,7 +121,7 @@ fn calls_again(
     holds(rt, "nothing was posted", port.count() == 0);
     let again = call(threads, port, wake, refused.value);
     let called = got(rt, "one allocation alone is refused", again);
-    came_to(rt, threads, &called)
+    came_to(rt, threads, called)
 }
 
 /// Calls for the length of the code. Where there is no memory, nothing was posted, and it is called again.
@@ -130,7 +132,7 @@ fn calls(
     wake: &AtOnce,
 ) -> Collected<DoorContent> {
     match call(threads, port, wake, DoorContent::CodeLength) {
-        Ok(called) => came_to(rt, threads, &called),
+        Ok(called) => came_to(rt, threads, called),
         Err(refused) => calls_again(rt, threads, port, wake, refused),
     }
 }
@@ -147,6 +149,9 @@ fn comes_to(
     let mut port = rt.boxed(rt.alloc(), port);
     let wake = at_once(rt, &port, is_greedy);
     let came = calls(rt, threads, &mut port, &wake);
+    drop(wake);
+    drop(port);
+    drop(doors);
     holds(rt, "what the call comes to", came == wanted);
 }
 

@@ -77,7 +77,9 @@ fn opened<R: Wait + Drop>(
     id: MachineId,
 ) -> Port<Plain> {
     let machine = hall.machine(id).expect(rt, "it is there");
-    Machine::port(&machine, threads).expect(rt, "a port")
+    let port = Machine::port(&machine, threads).expect(rt, "a port");
+    drop(machine);
+    port
 }
 
 /// A port of the machine of an id.

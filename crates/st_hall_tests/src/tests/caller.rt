@@ -47,6 +47,9 @@ impl Caller {
     pub fn length(mut self, threads: &impl Wait) -> Result<usize, Option<u32>> {
         let content = DoorContent::CodeLength;
         let called = call(threads, &mut self.port, &*self.tray, content);
-        came_to(&called)
+        drop(self);
+        let came = came_to(&called);
+        drop(called);
+        came
     }
 }

@@ -44,7 +44,9 @@ fn pool<R: Runtime>(
 /// A gate that is open.
 fn gate(rt: &Host<impl Abort + AllocGlobal>) -> Arc<Turnstile> {
     let mark = mark(rt, true);
-    Turnstile::new(rt.alloc(), &mark, false).expect(rt, "a gate")
+    let gate = Turnstile::new(rt.alloc(), &mark, false).expect(rt, "a gate");
+    drop(mark);
+    gate
 }
 
 /// Starts machines that send to the machine of the slot 0, and a port of each.
@@ -94,6 +96,7 @@ fn counts_all_in_order(
     for entry in journal.entries.as_slice() {
         counts_in_order(rt, seen, entry);
     }
+    drop(journal);
 }
 
 /// The messages that came to a machine, each sender's in order: so many of each.
@@ -108,6 +111,7 @@ fn come_in_order(
     for slot in 1..seen.len() {
         same(rt, "its messages", &seen[slot], &each);
     }
+    drop(seen);
 }
 
 /// Casts a number through each of some ports, so often.
@@ -125,6 +129,7 @@ fn casts_through_each<R: Runtime>(
             casts_number(rt, &threads, port, &scheduler, number);
         }
     }
+    drop(scheduler);
 }
 
 /// The machine of the slot 0 gets all messages of its senders.
@@ -137,6 +142,7 @@ fn gets_all<R: Wait + Drop>(
     come_in_order(rt, threads, &*target, MESSAGES);
     let mut told = Told::new();
     told.count_all(rt, threads, &*target);
+    drop(target);
     same(rt, "all were delivered", &told.delivered, &1_000);
 }
 
@@ -150,6 +156,7 @@ fn is_over<R: Runtime>(rt: &impl Abort, pool: &mut Pool<R, u32>) {
     let end = got(rt, "there is memory", pool.close());
     holds(rt, "no token is left", end.left.is_empty());
     holds(rt, "no message is carried", end.carried.is_empty());
+    drop(end);
 }
 
 /// A hundred machines send to one.
@@ -164,6 +171,10 @@ fn send_to_one<R: Runtime>(rt: &Host<impl Abort + AllocGlobal>, threads: R) {
     gets_all(rt, &threads, &*hall);
     none_is_lost(rt, &*hall);
     is_over(rt, &mut pool);
+    drop(pool);
+    drop(gate);
+    drop(hall);
+    drop(ports);
 }
 
 #[test]
@@ -185,6 +196,7 @@ fn casts_to_the_first<R: Runtime>(
     if let Some(port) = ports.first_mut() {
         casts_number(rt, &threads, port, &scheduler, 10_000);
     }
+    drop(scheduler);
 }
 
 /// All messages of a ring were sent, taken out and delivered.
@@ -209,6 +221,10 @@ fn goes_round<R: Runtime>(rt: &Host<impl Abort + AllocGlobal>, threads: R, worke
     went_round(rt, &threads, &ports);
     none_is_lost(rt, &*hall);
     is_over(rt, &mut pool);
+    drop(pool);
+    drop(gate);
+    drop(hall);
+    drop(ports);
 }
 
 #[test]
@@ -256,6 +272,7 @@ fn left_with<R: Wait + Drop>(
         }
         messages = messages.saturating_add(1);
     }
+    drop(machine);
     messages
 }
 
@@ -319,6 +336,11 @@ fn is_closed_early<R: Runtime>(rt: &Host<impl Abort + AllocGlobal>, threads: R) 
     let end = got(rt, "there is memory", pool.close());
     are_all_there(rt, &threads, &*hall, &ports, &end);
     none_is_lost(rt, &*hall);
+    drop(end);
+    drop(pool);
+    drop(gate);
+    drop(hall);
+    drop(ports);
 }
 
 #[test]

@@ -54,6 +54,7 @@ fn is_at_rest(rt: &impl Abort, threads: &impl Wait, port: &mut Port<Plain>, entr
     let look = got(rt, "there is memory", port.look(threads));
     holds(rt, "it has no work", look.waiting == 0);
     holds(rt, "its entries", look.entries == entries);
+    drop(look);
 }
 
 /// Looks that the machines of some ports rest that have made so many entries each, kept or not.
@@ -74,6 +75,7 @@ fn is_mine(rt: &impl Abort, threads: &impl Wait, port: &mut Port<Plain>, posts: 
     holds(rt, "the posts of the port", port.count() == posts);
     holds(rt, "they are mine", look.mine == posts);
     let numbers = look.numbers.as_slice().len() as u64;
+    drop(look);
     let kept = if keeps { posts } else { 0 };
     holds(rt, "their numbers are mine", numbers == kept);
 }

@@ -46,10 +46,12 @@ fn opened<R: Wait + Drop>(
     id: MachineId,
 ) -> Port<Ring> {
     let machine = hall.machine(id).expect(rt, "it is there");
-    match Machine::port(&machine, threads) {
+    let port = match Machine::port(&machine, threads) {
         Ok(port) => port,
         Err(_) => port_again(rt, threads, &machine),
-    }
+    };
+    drop(machine);
+    port
 }
 
 /// A port of a machine.
@@ -161,6 +163,7 @@ fn wakes<R: Wait + Drop>(
 ) {
     let mut port = port(rt, threads, hall, sender);
     let token = posted(rt, threads, &mut port);
+    drop(port);
     let woken = serves_to_rest(rt, hall, token, hand);
     holds(rt, "its target is woken", woken == Some(wanted));
     holds(rt, "nothing is carried", hand.message.is_none());

@@ -132,5 +132,7 @@ pub fn port(
 pub fn only_port(rt: &Host<impl Abort>, threads: &impl Wait, doors: &mut Doors) -> Port<Door> {
     starts(rt, threads, doors, None, id(0, 1));
     let machine = got(rt, "the machine is there", doors.registry.machine(id(0, 1)));
-    port(rt, threads, &machine)
+    let port = port(rt, threads, &machine);
+    drop(machine);
+    port
 }

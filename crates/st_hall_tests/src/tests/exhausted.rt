@@ -56,6 +56,7 @@ fn sole<R: Runtime>(
 fn posted(rt: &impl Abort, threads: &impl Wait, machine: &Arc<Machine<Plain>>) -> Token {
     let mut port = Machine::port(machine, threads).expect(rt, "a port");
     let (_, token) = posts(rt, threads, &mut port);
+    drop(port);
     token
 }
 
@@ -77,6 +78,7 @@ fn is_over<R: Runtime>(rt: &impl Abort, pool: &mut Pool<R, u32>) {
     let end = got(rt, "there is memory", pool.close());
     holds(rt, "it went round", end.turns > 1_000);
     holds(rt, "no token is left", end.left.is_empty());
+    drop(end);
 }
 
 /// Two workers serve a machine in vain by its token, until it is stopped.
@@ -93,6 +95,8 @@ fn serves_in_vain<R: Runtime>(
     holds(rt, "it is scheduled", pool.schedule(token) == Ok(()));
     goes_round(rt, threads, &pool, &**gate, &**machine);
     is_over(rt, &mut pool);
+    drop(pool);
+    drop(sole);
 }
 
 #[test]

@@ -16,20 +16,26 @@ pub fn turns<R: Wait + Drop>(
     word: &str,
     wanted: Option<Token>,
 ) {
-    let turned = hall.turn(token, 5, &mut Hand::new());
+    let mut hand = Hand::new();
+    let turned = hall.turn(token, 5, &mut hand);
+    drop(hand);
     holds(rt, word, turned == wanted);
 }
 
 /// A turn at a moment that is too late leaves the token outstanding.
 fn is_too_late<R: Wait + Drop>(rt: &impl Abort, hall: &Hall<Plain, R>, token: Token) {
-    let late = hall.serve(token, 1 << 63, &mut Hand::new());
+    let mut hand = Hand::new();
+    let late = hall.serve(token, 1 << 63, &mut hand);
+    drop(hand);
     holds(rt, "it is too late for a turn", late.token == Some(token));
     holds(rt, "it says so", late.refusal == Some(Refusal::Moment));
 }
 
 /// A token that was retired serves nothing.
 fn is_retired<R: Wait + Drop>(rt: &impl Abort, hall: &Hall<Plain, R>, token: Token) {
-    let third = hall.serve(token, 5, &mut Hand::new());
+    let mut hand = Hand::new();
+    let third = hall.serve(token, 5, &mut hand);
+    drop(hand);
     holds(rt, "the token was retired", third.token == None);
     let is_told = third.refusal == Some(Refusal::NotQueued);
     holds(rt, "it says so too", is_told);
@@ -53,6 +59,7 @@ fn stop<R: Wait + Drop>(
     let machine = hall.machine(id).expect(rt, "it is there");
     holds(rt, "its id", machine.id() == id);
     holds(rt, "the last word", machine.stop(threads, 3) == Ok(7));
+    drop(machine);
 }
 
 /// Removes the machine of an id, and looks what comes of it.
@@ -96,7 +103,9 @@ fn is_found<R: Wait + Drop>(
     hall: &Hall<Plain, R>,
 ) -> MachineId {
     holds(rt, "it is empty at first", hall.is_empty());
-    let id = start(rt, hall, &mark(rt, true), Some("front"));
+    let mark = mark(rt, true);
+    let id = start(rt, hall, &mark, Some("front"));
+    drop(mark);
     holds(rt, "it is found", hall.whereis("front") == Ok(id));
     holds(rt, "it is the only one", hall.len() == 1);
     id
@@ -116,6 +125,7 @@ fn is_served_and_removed<R: Wait + Drop>(
     holds(rt, "the tokens differ", second != first);
     is_removed(rt, threads, hall, id, "front");
     turns(rt, hall, second, "its token rests", None);
+    drop(port);
 }
 
 #[test]
@@ -142,6 +152,7 @@ fn start_three<R: Wait + Drop>(rt: &Host<impl Abort + AllocGlobal>, hall: &Hall<
     for name in ["front", "back", "side"] {
         start(rt, hall, &mark, Some(name));
     }
+    drop(mark);
 }
 
 /// Lets the second name go, which can be done once.
@@ -159,6 +170,7 @@ fn are_left<R: Wait + Drop>(rt: &Host<impl Abort + AllocGlobal>, hall: &Hall<Pla
     holds(rt, "two names are left", names.len() == 2);
     is_named(rt, &names[0], "front", id(0, 1));
     is_named(rt, &names[1], "side", id(2, 3));
+    drop(names);
 }
 
 #[test]
@@ -178,8 +190,10 @@ fn names_stand_in_order(rt: HostRuntime) {
 fn is_full<R: Wait + Drop>(rt: &impl Abort, hall: &Hall<Plain, R>, mark: &Arc<Mark>) {
     let plain = Plain::new(mark).expect(rt, "an owner");
     let refused = hall.start(None, plain, &(), 0).err();
-    let refusal = refused.expect(rt, "it is refused").refusal;
-    holds(rt, "there is no place", refusal == Refusal::Full);
+    let refused = refused.expect(rt, "it is refused");
+    let is_full = refused.refusal == Refusal::Full;
+    drop(refused);
+    holds(rt, "there is no place", is_full);
 }
 
 /// Removes a machine of a full hall, whose place the next one takes.

@@ -39,7 +39,9 @@ fn last_turn(rt: &impl Abort, threads: &impl Wait, machine: &Machine<Plain>) -> 
     let journal = got(rt, "there is memory", machine.journal(threads, "plain"));
     let last = journal.entries.as_slice().last();
     let last = last.expect(rt, "it was served");
-    turn_of(last).expect(rt, "the last command was a turn with an event")
+    let last = turn_of(last).expect(rt, "the last command was a turn with an event");
+    drop(journal);
+    last
 }
 
 /// Looks at a machine that was posted one event: what is seen is what the last turn reported, which handled this event.
@@ -57,7 +59,9 @@ fn seen_after(rt: &impl Abort, threads: &impl Wait, port: &mut Port<Plain>, even
     holds(rt, "what the last turn reported", reported == last);
     holds(rt, "the data", look.held == 7);
     holds(rt, "one is mine", look.mine == 1);
-    look.waiting
+    let waiting = look.waiting;
+    drop(look);
+    waiting
 }
 
 /// The first turn handled the event that was posted, and inserted one.
@@ -94,7 +98,9 @@ fn a_look_shows_what_the_last_turn_reported(rt: HostRuntime) {
     let threads = rt;
     let rt = Host::with_memory(rt);
     let hall = hall(&rt, threads);
-    let id = start(&rt, &hall, &mark(&rt, true), None);
+    let mark = mark(&rt, true);
+    let id = start(&rt, &hall, &mark, None);
+    drop(mark);
     let mut port = port(&rt, &threads, &hall, id);
     let (number, token) = posts(&rt, &threads, &mut port);
     first_is_seen(&rt, &threads, &hall, &mut port, number, token);

@@ -60,6 +60,7 @@ fn casts_one<R: Wait + Drop>(
     let token = posts_number(rt, threads, port, 1);
     sends_one(rt, hall, token, &mut hand);
     rests(rt, hall, token, &mut hand, woken);
+    drop(hand);
 }
 
 /// The machine of a token has its last turn once it was found, and no other by that token.
@@ -70,6 +71,8 @@ fn has_its_last<R: Wait + Drop>(rt: &impl Abort, hall: &RingHall<R>, token: Toke
     holds(rt, "it rests", found.turn(token, 5, &mut hand) == None);
     hand.woken = None;
     let refusal = found.serve(token, 5, &mut hand).refusal;
+    drop(found);
+    drop(hand);
     holds(rt, "it has rested", refusal == Some(Refusal::NotQueued));
 }
 
@@ -77,6 +80,7 @@ fn has_its_last<R: Wait + Drop>(rt: &impl Abort, hall: &RingHall<R>, token: Toke
 fn has_two<R: Wait + Drop>(rt: &impl Abort, hall: &RingHall<R>, token: Token) {
     let mut hand = Hand::new();
     let first = hall.turn(token, 5, &mut hand);
+    drop(hand);
     holds(rt, "one more waits", first == Some(token));
     has_its_last(rt, hall, token);
 }
@@ -96,6 +100,7 @@ fn sends_two<R: Wait + Drop>(
     };
     casts_one(rt, threads, hall, &mut port, Some(token));
     casts_one(rt, threads, hall, &mut port, None);
+    drop(port);
     has_two(rt, hall, token);
 }
 
@@ -130,6 +135,7 @@ fn sends_astray<R: Wait + Drop>(
 ) {
     let mut port = ring_port(rt, threads, hall, astray);
     casts_one(rt, threads, hall, &mut port, None);
+    drop(port);
     are_lost(rt, hall, 0, 1);
 }
 
@@ -137,6 +143,7 @@ fn sends_astray<R: Wait + Drop>(
 fn ends<R: Wait + Drop>(rt: &impl Abort, threads: &impl Wait, hall: &RingHall<R>, id: MachineId) {
     let machine = hall.machine(id).expect(rt, "it is there");
     holds(rt, "it ends", machine.stop(threads, 3) == Ok(7));
+    drop(machine);
 }
 
 /// Removes the machine of an id, and looks what comes of it.
@@ -164,6 +171,7 @@ fn sends_to_one_that_ends<R: Wait + Drop>(
     are_lost(rt, hall, 1, 1);
     removes(rt, hall, target, "it is removed", Ok(()));
     casts_one(rt, threads, hall, &mut port, None);
+    drop(port);
     are_lost(rt, hall, 1, 2);
 }
 
@@ -184,7 +192,8 @@ fn messages_to_machines_that_are_gone_are_counted(rt: HostRuntime) {
 /// Takes a message out of a machine.
 fn takes_out(rt: &impl Abort, threads: &impl Wait, machine: &Machine<Ring>, token: Token) {
     let taken = machine.take_out(threads, token);
-    let is_taken = matches!(taken, Ok(Some(_)));
+    let is_taken = matches!(&taken, Ok(Some(_)));
+    drop(taken);
     holds(rt, "it is taken out", is_taken);
 }
 
@@ -213,7 +222,9 @@ fn leaves_one<R: Wait + Drop>(
     port: &mut Port<Ring>,
 ) -> Token {
     let token = posts_number(rt, threads, port, 1);
-    let turned = hall.turn(token, 5, &mut Hand::new());
+    let mut hand = Hand::new();
+    let turned = hall.turn(token, 5, &mut hand);
+    drop(hand);
     holds(rt, "its message is left", turned == Some(token));
     token
 }

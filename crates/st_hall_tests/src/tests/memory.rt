@@ -91,7 +91,9 @@ fn ids<R: Wait + Drop>(
 
 /// Starts the first machine of a hall under a name.
 fn starts<R: Wait + Drop>(rt: &Host<impl Abort + AllocGlobal>, hall: &Hall<Plain, R>) {
-    let plain = Plain::new(&mark(rt, rt.alloc())).expect(rt, "an owner takes no memory");
+    let mark = mark(rt, rt.alloc());
+    let plain = Plain::new(&mark).expect(rt, "an owner takes no memory");
+    drop(mark);
     let started = start(rt, hall, plain, "front");
     let id = id(0, 1);
     let wanted = Some(Started::Running { id, wake: None });
@@ -105,12 +107,14 @@ fn has_its_name<R: Wait + Drop>(rt: &Host<impl Abort + AllocGlobal>, hall: &Hall
     let (name, named) = &names[0];
     holds(rt, "its name", name.as_str() == "front");
     holds(rt, "its machine", *named == id(0, 1));
+    drop(names);
 }
 
 /// Looks that the id of a hall's first machine is the only one.
 fn has_its_id<R: Wait + Drop>(rt: &Host<impl Abort + AllocGlobal>, hall: &Hall<Plain, R>) {
     let ids = ids(rt, hall, rt.alloc());
     holds(rt, "its id", ids.as_slice() == [id(0, 1)].as_slice());
+    drop(ids);
 }
 
 #[test]

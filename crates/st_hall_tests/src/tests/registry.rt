@@ -93,6 +93,7 @@ fn is_anew(rt: &impl Abort, threads: &impl Wait, doors: &mut Doors) {
     is_let_go(rt, doors);
     let second = got(rt, "it is still there", doors.registry.machine(id(0, 2)));
     holds(rt, "the second one's id", second.id() == id(0, 2));
+    drop(second);
 }
 
 /// Starts the first door of a registry, whose name is taken then, and removes it.

@@ -34,7 +34,9 @@ pub fn opened<R: Wait + Drop>(
     id: MachineId,
 ) -> Port<Ring> {
     let machine = hall.machine(id).expect(rt, "it is there");
-    Machine::port(&machine, threads).expect(rt, "a port")
+    let port = Machine::port(&machine, threads).expect(rt, "a port");
+    drop(machine);
+    port
 }
 
 /// A port of a machine.
@@ -138,6 +140,7 @@ impl Told {
         for entry in journal.entries.as_slice() {
             self.count(entry);
         }
+        drop(journal);
     }
 }
 

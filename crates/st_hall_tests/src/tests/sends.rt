@@ -24,7 +24,9 @@ type Seen = (usize, u64);
 
 /// What is seen by a look.
 fn seen_by(look: Look<DoorState, DoorData>) -> Seen {
-    (look.waiting, look.entries)
+    let seen = (look.waiting, look.entries);
+    drop(look);
+    seen
 }
 
 /// What is seen of a door that is looked at again for want of memory.

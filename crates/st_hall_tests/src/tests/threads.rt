@@ -43,7 +43,9 @@ fn two_call<R: Runtime>(
 /// Whether two calls were answered, each by one turn.
 fn are_answered(rt: &impl Abort, threads: &impl Wait, ours: &mut Caller) -> bool {
     let look = got(rt, "a look", ours.port.look(threads));
-    look.waiting == 0 && look.entries >= 4
+    let are_answered = look.waiting == 0 && look.entries >= 4;
+    drop(look);
+    are_answered
 }
 
 /// Serves a door once, and says whether two calls were answered, each by one turn.
@@ -109,7 +111,9 @@ fn a_call_ends_with_its_machine(rt: HostRuntime) {
 /// How many calls were posted, and wait.
 fn waiting(rt: &impl Abort, threads: &impl Wait, ours: &mut Caller) -> usize {
     let look = got(rt, "a look", ours.port.look(threads));
-    look.waiting
+    let waiting = look.waiting;
+    drop(look);
+    waiting
 }
 
 /// Waits until two calls were posted. That their threads wait for a reply then, nobody else can see.

@@ -22,7 +22,9 @@ fn door(
     let its = id(slot, (slot as u64).saturating_add(1));
     starts(rt, threads, doors, Some(name), its);
     let machine = got(rt, "the machine is there", doors.registry.machine(its));
-    rt.boxed(rt.alloc(), port(rt, threads, &machine))
+    let port = port(rt, threads, &machine);
+    drop(machine);
+    rt.boxed(rt.alloc(), port)
 }
 
 /// Asks a door for the length of its code, whose token comes back, and adds the request. Its tag.
@@ -47,6 +49,7 @@ fn gathers(
 fn are_listed(rt: &impl Abort, gathered: &Gathered, wanted: [(Tag, char); 2]) {
     let list = got(rt, "there is memory", gathered.to_list());
     holds(rt, "both are listed", list.as_slice() == wanted.as_slice());
+    drop(list);
 }
 
 /// Looks what comes of asking about the requests.
@@ -101,6 +104,11 @@ fn asks_two(rt: &Host<impl Abort + AllocGlobal>, threads: &impl Wait) {
     let mut gathered = rt.boxed(rt.alloc(), Collection::new(rt.alloc()));
     let second = gathers_two(rt, threads, &mut front, &mut back, &tray, &mut gathered);
     answers_the_second(rt, threads, &back, second, &mut gathered);
+    drop(gathered);
+    drop(tray);
+    drop(back);
+    drop(front);
+    drop(doors);
 }
 
 #[test]

@@ -35,6 +35,7 @@ fn casts_all<R: Runtime>(
     for _ in 0..work.rounds {
         casts_each(rt, &threads, ports, &scheduler, work.contents);
     }
+    drop(scheduler);
 }
 
 /// Closes a pool whose workers made so many turns, and have no token left.
@@ -42,6 +43,7 @@ fn is_closed<R: Runtime>(rt: &impl Abort, pool: &mut Pool<R, u32>, turns: u64) {
     let end = got(rt, "there is memory", pool.close());
     holds(rt, "so many turns", end.turns == turns);
     holds(rt, "no token is left", end.left.is_empty());
+    drop(end);
 }
 
 /// So many workers serve the machines of a hall, and have no token left at last.
@@ -62,7 +64,9 @@ fn serves<R: Runtime>(
     pool.drain();
     are_at_rest(rt, &threads, &mut ports, work.entries);
     is_closed(rt, &mut pool, work.turns);
+    drop(pool);
     casts_twice_more(rt, &threads, &mut ports, u64::from(work.rounds), work.keeps);
+    drop(ports);
 }
 
 /// So many workers serve a hall's machines, behind a gate that is shut or not. How often somebody waited in vain for the
@@ -80,5 +84,9 @@ pub fn waits<R: Runtime>(
     let gate = Turnstile::new(rt.alloc(), &mark, is_shut).expect(rt, "a gate");
     let hall = filled(rt, threads, &mark, work.machines, work.keeps);
     serves(rt, threads, workers, &hall, &gate, work);
-    mark.gave_up()
+    drop(hall);
+    drop(gate);
+    let gave_up = mark.gave_up();
+    drop(mark);
+    gave_up
 }

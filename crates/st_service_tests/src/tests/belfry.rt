@@ -119,6 +119,7 @@ impl<R: Threads> Belfry<R> {
     fn posts(&self, rt: &impl Abort, machine: &Arc<Machine<Bell>>, order: Order) -> Option<Token> {
         let mut port = Machine::port(machine, &self.threads).expect(rt, "a port");
         let posted = port.post(&self.threads, Entry::Cast, order);
+        drop(port);
         got(rt, "it is posted", posted).wake
     }
 

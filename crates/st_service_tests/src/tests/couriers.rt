@@ -52,6 +52,8 @@ fn goes_round<R: Threads>(rt: &Host<impl Abort + AllocGlobal>, threads: R, worke
     waits(rt, threads, &desks, 10_001);
     leaves(rt, &mut office, 0, 0);
     have_come(rt, threads, &desks, 10_001);
+    drop(desks);
+    drop(office);
 }
 
 #[test]
@@ -118,6 +120,7 @@ fn is_told_in_order<R: Threads>(rt: &impl Abort, desk: &mut Desk<R>) {
     let look = got(rt, "there is memory", desk.look());
     same(rt, "so many", &look.state, &NUMBERS);
     same(rt, "in order", &look.held, &in_order());
+    drop(look);
 }
 
 /// To each of some couriers the numbers came in order.
@@ -136,6 +139,9 @@ fn send_in_order<R: Threads>(rt: &Host<impl Abort + AllocGlobal>, threads: R, jo
     are_told_in_order(rt, &mut targets);
     // What each of those sent on went to nobody, at the latest while the service was shut down.
     leaves(rt, &mut office, 0, 2_000);
+    drop(senders);
+    drop(targets);
+    drop(office);
 }
 
 #[test]
@@ -161,6 +167,8 @@ fn is_shut_down_early<R: Threads>(rt: &Host<impl Abort + AllocGlobal>, threads: 
     casts_each(rt, &mut desks, 1_000_000_000);
     waits(rt, threads, &desks, 5_000);
     leaves(rt, &mut office, 16, 0);
+    drop(desks);
+    drop(office);
 }
 
 #[test]

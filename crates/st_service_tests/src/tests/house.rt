@@ -120,7 +120,11 @@ impl<R: Threads> House<R> {
     /// How many events wait at a clerk.
     pub fn waiting(&self, threads: R, id: MachineId) -> Result<usize, Refusal> {
         match self.service.machine(id) {
-            Ok(machine) => Ok(machine.waiting(&threads)),
+            Ok(machine) => {
+                let waiting = machine.waiting(&threads);
+                drop(machine);
+                Ok(waiting)
+            }
             Err(refusal) => Err(refusal),
         }
     }

@@ -86,6 +86,7 @@ fn rings<R: Threads>(
     // A quarter of them ring 50 milliseconds after they were told.
     belfry.is_not_early(rt, start, 49);
     pool.pool().drain();
+    drop(scheduler);
 }
 
 /// A pool ends: so many ticks were made, and no token is left.
@@ -96,6 +97,7 @@ fn ends(rt: &impl Abort, end: TickedPoolEnd<Order>) {
         "no token is left",
         end.left == None && end.pool.left.is_empty(),
     );
+    drop(end);
 }
 
 /// A hundred bells tell each other when to ring.
@@ -107,6 +109,9 @@ fn rings_a_hundred<R: Threads>(rt: &Host<impl Abort + AllocGlobal>, threads: R) 
     ends(rt, got(rt, "there is memory", pool.close()));
     ring_each(rt, &belfry, bells.as_slice());
     come_each(rt, &belfry, bells.as_slice());
+    drop(pool);
+    drop(bells);
+    drop(belfry);
 }
 
 #[test]

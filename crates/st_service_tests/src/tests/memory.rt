@@ -163,8 +163,9 @@ fn works<R: Threads>(rt: &Host<impl Abort>, threads: R, alloc: Global, house: &m
     tells(rt, &mut hatch, Order::Add(4));
     tells(rt, &mut hatch, Order::Later(1));
     comes_to(rt, threads, &mut hatch, 5);
-    let _end = shuts(rt, house);
+    drop(shuts(rt, house));
     let ended = hatch.ended(threads);
+    drop(hatch);
     holds(rt, "it ends", ended == Some((7, 5)));
 }
 
@@ -174,6 +175,8 @@ fn goes_through<R: Threads>(rt: &Host<impl Abort>, threads: R, alloc: Global) {
     let mut house = starts(rt, threads, alloc, &tally);
     works(rt, threads, alloc, &mut house);
     told_each(rt, &tally);
+    drop(house);
+    drop(tally);
 }
 
 #[test]

@@ -131,4 +131,5 @@ pub fn leaves<R: Threads>(rt: &impl Abort, office: &mut Office<R>, left: u64, mi
     };
     same(rt, "what is lost", &end.undelivered, &undelivered);
     holds(rt, "each is stopped", end.unstopped == 0);
+    drop(end);
 }

@@ -31,6 +31,7 @@ fn keeps<R: Threads>(rt: &impl Abort, hatch: &mut Hatch<R>, fewest: usize, most:
         look.mine == 14 && hatch.count() == 14,
     );
     let numbers = look.numbers.len();
+    drop(look);
     fewest <= numbers && numbers <= most
 }
 
@@ -74,11 +75,15 @@ fn is_told_and_asked<R: Threads>(
     };
     let mut house = opens(rt, threads, options, Counting::nobody());
     let (id, mut hatch) = hires(rt, &house, Some("anna"), ALONE);
-    let _request = adds(rt, &mut hatch);
+    let request = adds(rt, &mut hatch);
     is_kept(rt, threads, &mut hatch, fewest, most);
     is_known(rt, &house, id);
     let end = got(rt, "there is memory", house.shut_down(7));
     holds(rt, "one was stopped", end.stopped == 1 && end.events == 0);
+    drop(end);
+    drop(request);
+    drop(hatch);
+    drop(house);
 }
 
 #[test]
@@ -124,6 +129,9 @@ fn makes_his_turns<R: Threads>(rt: &Host<impl Abort + AllocGlobal>, threads: R) 
     }
     let end = got(rt, "there is memory", house.shut_down(7));
     same(rt, "no worker had a turn", &end.turns, &0);
+    drop(end);
+    drop(hatch);
+    drop(house);
 }
 
 #[test]
@@ -149,13 +157,13 @@ fn leaves_a_turn<R: Threads>(rt: &Host<impl Abort + AllocGlobal>, threads: R) {
     let house = opens(rt, threads, OPTIONS, Counting::nobody());
     let (id, mut hatch) = hires(rt, &house, None, ALONE);
     let taken = got(rt, "he is asked", hatch.call(Order::Take(5)));
-    holds(
-        rt,
-        "the sum before",
-        matches!(taken, Said::Reply(Order::Sum(0))),
-    );
+    let is_nothing = matches!(&taken, Said::Reply(Order::Sum(0)));
+    drop(taken);
+    holds(rt, "the sum before", is_nothing);
     is_served(rt, threads, &house, id);
     same(rt, "it was added", &asks(rt, &mut hatch), &5);
+    drop(hatch);
+    drop(house);
 }
 
 #[test]
@@ -172,6 +180,8 @@ fn lets_time_pass<R: Threads>(rt: &Host<impl Abort + AllocGlobal>, threads: R) {
     let (_, mut hatch) = hires(rt, &house, None, ALONE);
     tells(rt, &mut hatch, Order::Later(2));
     sums(rt, threads, &mut hatch, 1);
+    drop(hatch);
+    drop(house);
 }
 
 #[test]
@@ -190,7 +200,10 @@ fn refuses_a_fourth<R: Threads>(rt: &impl Abort, hatch: &mut Hatch<R>) {
         tells(rt, hatch, Order::Add(5));
     }
     is_busy(rt, hatch.cast(Order::Add(6)), Order::Add(6));
-    holds(rt, "nor is he asked", hatch.call(Order::Ask).is_err());
+    let asked = hatch.call(Order::Ask);
+    let is_refused = asked.is_err();
+    drop(asked);
+    holds(rt, "nor is he asked", is_refused);
     same(rt, "nothing was posted", &hatch.count(), &5);
 }
 
@@ -215,6 +228,9 @@ fn is_busy_for_a_while<R: Threads>(rt: &Host<impl Abort + AllocGlobal>, threads:
     tells(rt, &mut other, Order::Tell(shut));
     is_served(rt, threads, &house, shut);
     takes_again(rt, &mut hatch);
+    drop(other);
+    drop(hatch);
+    drop(house);
 }
 
 #[test]

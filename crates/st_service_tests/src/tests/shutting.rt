@@ -33,13 +33,12 @@ fn has_ended<R: Threads>(rt: &impl Abort, threads: R, hatch: &mut Hatch<R>) {
 /// A service that was shut down starts nobody, and has nobody to stop.
 fn stays_shut<R: Threads>(rt: &impl Abort, house: &mut House<R>) {
     let closed = house.spawn(None, ALONE);
-    holds(
-        rt,
-        "none starts",
-        matches!(closed, Err(Unspawned::Closed(_))),
-    );
+    let is_closed = matches!(&closed, Err(Unspawned::Closed(_)));
+    drop(closed);
+    holds(rt, "none starts", is_closed);
     let again = got(rt, "there is memory", house.shut_down(8));
     holds(rt, "none is stopped again", again.stopped == 0);
+    drop(again);
 }
 
 /// A thousand clerks who have something to do are shut down.
@@ -52,10 +51,13 @@ fn shuts_a_thousand<R: Threads>(rt: &Host<impl Abort + AllocGlobal>, threads: R)
         "each was stopped with what it was at",
         end.stopped == 1_000 && end.events == 1_000 && end.unstopped == 0,
     );
+    drop(end);
     for hatch in hatches.iter_mut() {
         has_ended(rt, threads, hatch);
     }
     stays_shut(rt, &mut house);
+    drop(hatches);
+    drop(house);
 }
 
 #[test]

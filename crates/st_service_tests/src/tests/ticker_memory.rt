@@ -38,9 +38,9 @@ fn hall<R: Wait + Copy + Drop>(
     alloc: Global,
 ) -> Arc<TimedHall<R>> {
     let made = Arc::new(alloc, Hall::new(Timed::new(threads), Registry::new(alloc)));
-    match made {
-        Ok(hall) => hall,
-        Err(_) => {
+    match made.ok() {
+        Some(hall) => hall,
+        None => {
             rt.retry();
             let hall = Hall::new(Timed::new(threads), Registry::new(alloc));
             Arc::new(alloc, hall).expect(rt, "one allocation alone is refused")
