@@ -1,5 +1,6 @@
 //! A service of connections of a pool: two clients want each of them at once, and the second has it after the first.
 
+use crate::shutting::stop;
 use keeper_module::{Connection, Content, Place};
 use st_client::receive;
 use st_service::{
@@ -123,13 +124,6 @@ fn lend_all<R: Runtime + Clock>(rt: &R, pool: &Pool<R>, alloc: Global) -> Result
         lent = lent.saturating_add(lend(rt, wanted));
     }
     Ok(lent)
-}
-
-/// Shuts the pool down, and answers how many connections were stopped.
-fn stop<R: Runtime + Clock>(mut pool: Pool<R>) -> Result<u64, AllocError> {
-    let end = pool.shut_down(7);
-    drop(pool);
-    Ok(end?.stopped)
 }
 
 /// Opens the pool and lends its connections, and says how often one was lent, and how many were stopped.

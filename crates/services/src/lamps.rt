@@ -1,8 +1,9 @@
 //! A service of lamps: ten are switched on, and an observer counts those that were lit.
 
 use crate::counting::{Counting, counts};
+use crate::shutting::stop;
 use lamp_module::{Bulb, Lamp, Press};
-use st_service::{Journals, Options, Runtime, Service, Spawned};
+use st_service::{Journals, Options, Runtime, Service, ServicePort, Spawned};
 use std::alloc::{AllocError, Global};
 use std::rt::Clock;
 use std::sync::Arc;
@@ -19,25 +20,23 @@ const OPTIONS: Options = Options {
 /// A service of lamps.
 type Lamps<R> = Service<Lamp, R, Counting>;
 
-/// Starts ten lamps, and switches each on.
-fn light<R: Runtime + Clock>(lamps: &Lamps<R>) {
-    for _ in 0..10 {
-        if let Ok(Spawned::Running(_, Some(mut port))) = lamps.spawn(
-            None,
-            Lamp,
-            &Bulb { left: 3 },
-        ) {
-            // Where it is refused, too many events wait, or there is no memory: this lamp stays dark.
-            let _ = port.cast(Press::Switch);
-        }
+/// Starts a lamp. `None` where it is refused.
+fn start<R: Runtime + Clock>(lamps: &Lamps<R>) -> Option<ServicePort<Lamp, R, Counting>> {
+    match lamps.spawn(None, Lamp, &Bulb { left: 3 }) {
+        Ok(Spawned::Running(_, port)) => port,
+        _ => None,
     }
 }
 
-/// Shuts the service down, and answers how many lamps were stopped.
-fn stop<R: Runtime + Clock>(mut lamps: Lamps<R>) -> Result<u64, AllocError> {
-    let end = lamps.shut_down(7);
-    drop(lamps);
-    Ok(end?.stopped)
+/// Starts ten lamps, and switches each on.
+fn light<R: Runtime + Clock>(lamps: &Lamps<R>) {
+    for _ in 0..10 {
+        if let Some(mut port) = start(lamps) {
+            // Where it is refused, too many events wait, or there is no memory: this lamp stays dark.
+            let _ = port.cast(Press::Switch);
+            drop(port);
+        }
+    }
 }
 
 /// Lights ten lamps, and says how many were lit and stopped.

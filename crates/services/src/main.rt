@@ -4,6 +4,7 @@
 mod connections;
 mod counting;
 mod lamps;
+mod shutting;
 
 use st_service::{Refusal, Runtime};
 use std::alloc::{AllocError, Global};
