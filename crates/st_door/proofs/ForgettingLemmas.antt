@@ -16,18 +16,17 @@ use Rattle.st_cell.specs.declared.source.Source.{Source}
 use Rattle.st_cell.specs.declared.source.Source.TheVariants as source
 use Rattle.st_core.specs.declared.start.Start.TheVariants.{Running, Ignored, Stopped}
 use Rattle.st_core.specs.Start.{start_of}
-use Rattle.st_door.specs.declared.door_content.DoorContent.{DoorContent}
+use Rattle.st_doors.specs.declared.door_content.DoorContent.{DoorContent}
 use Rattle.st_door.specs.declared.effect.Effect.{Effect}
 use Rattle.st_door.specs.declared.line.Line.{Line}
 use Rattle.st_door.specs.declared.line.Line.TheVariants as line
-use Rattle.st_door.specs.Door.{init_of}
-use Rattle.st_door.specs.Doors.{NamedDoor, all_expired_of, asks, change_first, door_callbacks, door_limit, door_of, door_told_by, expired_of, free_slot_of, has_name, is_over, is_ready_door, least_from, length_in, presses, relays, slots_of, source_of, ticked_doors, told_door, told_of, without_door}
-use Rattle.st_door.specs.Settling.{delivered, gone_on, gone_on_by, has_id, message_at, run_until_idle, served_door}
-use Rattle.st_door.specs.declared.service.Service.TheVariants.{TakeOut}
+use Rattle.st_doors.specs.Door.{init_of}
+use Rattle.st_doors.specs.Doors.{NamedDoor, all_expired_of, asks, change_first, door_callbacks, door_limit, door_of, door_told_by, expired_of, free_slot_of, has_name, is_over, is_ready_door, least_from, length_in, presses, relays, slots_of, source_of, ticked_doors, told_door, told_of, without_door}
+use Rattle.st_doors.specs.Settling.{delivered, gone_on, gone_on_by, has_id, message_at, run_until_idle, turn_limit}
 use Rattle.st_door.specs.Grammar.{line_of}
-use Rattle.st_door.specs.Lines.{line_feed, space}
-use Rattle.st_door.specs.Printing.{expired_text, length_text, status_of}
-use Rattle.st_door.specs.Script.{DoorStart, ScriptState, acted_of, door_start_of, effect_of, faulty_from, finished_of, is_fault, length_collected, length_finished, new_door, passed_to, printing, relayed_by, removed_by, removed_door, rested_of, shown_door, status_finished, step_of, the_door, told_by, told_script, turn_limit, with_start, with_told}
+use Rattle.st_doors.specs.Lines.{line_feed, space}
+use Rattle.st_doors.specs.Printing.{expired_text, length_text, status_of}
+use Rattle.st_door.specs.Script.{DoorStart, ScriptState, acted_of, door_start_of, effect_of, faulty_from, finished_of, is_fault, length_collected, length_finished, new_door, passed_to, printing, relayed_by, removed_by, removed_door, rested_of, shown_door, status_finished, step_of, the_door, told_by, told_script, with_start, with_told}
 
 -- the door without its history
 abbrev pub forget_door : NamedDoor → NamedDoor
@@ -85,7 +84,7 @@ going_by : (message : Option (Message DoorContent)) (moment : ℕ) (doors : List
 going_by None moment doors = changed is_ready_door source.Caller (command.Turn moment) doors (λ door. refl)
 going_by (Some message) moment doors =
     ap (delivered message) (changed is_ready_door source.Caller command.TakeOut doors (λ door. refl))
-    ∙ changed (has_id message.target) (source.Message message.sender message.number) (command.Post Info message.content) (change_first is_ready_door (served_door TakeOut) doors) (λ door. refl)
+    ∙ changed (has_id message.target) (source.Message message.sender message.number) (command.Post Info message.content) (change_first is_ready_door (door_told_by source.Caller command.TakeOut) doors) (λ door. refl)
 
 going : (moment : ℕ) (doors : List NamedDoor) → gone_on moment (map forget_door doors) ≡ map forget_door (gone_on moment doors)
 going moment doors =

@@ -1,7 +1,7 @@
 -- The last piece of a text.
 use Rattle.std.proofs.Common.{◌≡◌, ℕ, true, false, List, [], ◌∷◌, ◌++◌, if◌then◌else◌, refl, ap, map}
 use Rattle.std.proofs.lemmas.List.{map-append}
-use Rattle.st_door.specs.Lines.{is_empty, whole_pieces}
+use Rattle.st_doors.specs.Lines.{is_empty, whole_pieces}
 
 pub whole_front : (pieces : List (List ℕ)) (last : List ℕ) → whole_pieces (pieces ++ last ∷ []) ≡ pieces ++ (if is_empty last then [] else last ∷ [])
 whole_front [] last = refl

@@ -1,15 +1,12 @@
 -- How the lines that are done and those that are left make up a script.
 use Rattle.std.proofs.Common.{◌≡◌, ℕ, ◌<◌, ◌+◌, Bool, ◌||◌, List, ◌∷◌, ◌++◌, length, get_or, drop, map, Option, Bor, refl, sym, ap, ◌∙◌, append_assoc, add-one, drop-cons}
 use Rattle.std.proofs.Math.Bool.{or_assoc}
-use Rattle.std.specs.Io.KnownBytes.{Appends}
 use Rattle.st_door.specs.declared.effect.Effect.{Effect}
 use Rattle.st_door.specs.Grammar.{line_of}
-use Rattle.st_door.specs.Lines.{without_return}
-use Rattle.st_door.specs.Doors.{NamedDoor}
+use Rattle.st_doors.specs.Lines.{without_return}
+use Rattle.st_doors.specs.Doors.{NamedDoor}
 use Rattle.st_door.specs.Script.{ScriptState, step_of, printed_of, is_fault, output_from, faulty_from, script_after}
-use Rattle.st_door.specs.Traces.{trace_of_door, traces_of}
-use Rattle.st_door.specs.Streams.{AppendsFront}
-use Rattle.st_door.proofs.StreamLemmas.{appends_more}
+use Rattle.st_doors.specs.Traces.{trace_of_door, traces_of}
 
 -- the lines that are left, from a place on
 abbrev pub lines_left : List (Bor (List ℕ)) → ℕ → List (List ℕ)
@@ -53,16 +50,3 @@ pub traces_step : (written text : List ℕ) (door : NamedDoor) (here more : List
     → (written ++ text) ++ traces_of more ≡ all
 traces_step written text door here more all is_here is_text whole =
     rw (is_text, append_assoc) (rw is_here at whole)
-
--- a write that stops within a line has written a front of the output
-pub front_more : (old mid new : Option (List ℕ)) (written text rest all : List ℕ)
-    → Appends old mid written
-    → AppendsFront mid new text
-    → (written ++ text) ++ rest ≡ all
-    → AppendsFront old new all
-front_more old mid new written text rest all appended front whole = (
-  written ++ front.0,
-  front.1 ++ rest,
-  sym whole ∙ (ap (λ t. (written ++ t) ++ rest) front.2 ∙ (ap (λ t. t ++ rest) (sym (append_assoc written front.0 front.1)) ∙ append_assoc (written ++ front.0) front.1 rest)),
-  appends_more old mid new written front.0 appended front.3,
-)

@@ -16,22 +16,22 @@ use Rattle.st_core.specs.Start.{first_state, start_of}
 use Rattle.st_core.specs.Choice.{is_ready_of}
 use Rattle.st_answers.specs.declared.report.Report.{Report}
 use Rattle.st_core.specs.declared.start.Start.TheVariants.{Running}
-use Rattle.st_door.specs.Door.{init_of}
-use Rattle.st_door.specs.Entries.{DoorCore}
-use Rattle.st_door.specs.declared.door_content.DoorContent.{DoorContent}
-use Rattle.st_door.specs.declared.door_state.DoorState.{DoorState}
-use Rattle.st_door.specs.declared.door_state.DoorState.TheVariants.{Locked}
+use Rattle.st_doors.specs.Door.{init_of}
+use Rattle.st_doors.specs.Entries.{DoorCore}
+use Rattle.st_doors.specs.declared.door_content.DoorContent.{DoorContent}
+use Rattle.st_doors.specs.declared.door_state.DoorState.{DoorState}
+use Rattle.st_doors.specs.declared.door_state.DoorState.TheVariants.{Locked}
 use Rattle.st_door.specs.declared.line.Line.TheVariants as line
 use Rattle.st_door.specs.declared.effect.Effect.{Effect}
 use Rattle.st_door.specs.declared.effect.Effect.TheVariants.{Printed, Refuses}
-use Rattle.st_door.specs.Doors.{NamedDoor, KeptDoor, DoorMachine, IsFirst, IsKept, SameLabels, asks, door_callbacks, door_limit, door_at_first, door_named, door_of, free_slot_of, has_name, is_over, is_ready_door, least_from, length_in, next_tag_of, refusal_in, relays, slots_of, source_of, kept_of, told_door, told_of, without_door}
-use Rattle.st_door.specs.Printing.{length_text, removed_text, status_of}
-use Rattle.st_door.specs.Slots.{occurrences, AreMarked, HaveSameMarks, IsLeastFree}
+use Rattle.st_doors.specs.Doors.{NamedDoor, KeptDoor, DoorMachine, IsFirst, IsKept, SameLabels, asks, door_callbacks, door_limit, door_at_first, door_named, door_of, free_slot_of, has_name, is_over, is_ready_door, least_from, length_in, next_tag_of, refusal_in, relays, slots_of, source_of, kept_of, told_door, told_of, without_door}
+use Rattle.st_doors.specs.Printing.{length_text, removed_text, status_of}
+use Rattle.st_doors.specs.Slots.{occurrences, AreMarked, HaveSameMarks, IsLeastFree}
 use Rattle.st_door.specs.Script.{ScriptState, door_start_of, effect_of, length_collected, length_finished, named_status_of, next_id_of, printing, relayed_by, removed_by, removed_door, rested_of, status_finished, step_of, the_door, told_script, with_start, without_named}
-use Rattle.st_door.proofs.DoorLemmas.{IsFirst-within, IsFirst-changed, IsFirst-found, IsFirst-map, IsFirst-of_map}
-use Rattle.st_door.proofs.IdleLemmas.{no_door, labels-set, labels-told, labels-more}
-use Rattle.st_door.proofs.SlotLemmas.{least-free, marked-taken, marked-same, marked-freed, freed-within}
-use Rattle.st_door.proofs.ToldLemmas.{kept-refused, tagged-next}
+use Rattle.st_doors.proofs.DoorLemmas.{IsFirst-within, IsFirst-changed, IsFirst-found, IsFirst-map, IsFirst-of_map}
+use Rattle.st_doors.proofs.IdleLemmas.{no_door, labels-set, labels-told, labels-more}
+use Rattle.st_doors.proofs.SlotLemmas.{least-free, marked-taken, marked-same, marked-freed, freed-within}
+use Rattle.st_doors.proofs.ToldLemmas.{kept-refused, tagged-next}
 
 -- ---- what is kept of the doors
 -- a door that rests goes to the end, and takes its place in the table

@@ -2,7 +2,7 @@
 use Rattle.std.specs.Prelude.{ℕ, Bool, false, ◌&&◌, ◌==◌, ◌-◌, nat_lt, List, [], ◌∷◌, length, if◌then◌else◌, bytes_eq, codes}
 use Rattle.st_door.specs.declared.line.Line.{Line}
 use Rattle.st_door.specs.declared.line.Line.TheVariants.{Blank, Malformed, New, Button, Show, At, Stop, Remove, Length, Relay, Names}
-use Rattle.st_door.specs.Lines.{words}
+use Rattle.st_doors.specs.Lines.{words}
 use Rattle.st_door.specs.WordForms.{digit_zero, is_name, is_digits, digits_of, is_number, number_of}
 
 -- how many bytes a line may have

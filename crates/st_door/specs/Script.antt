@@ -13,23 +13,23 @@ use Rattle.st_answers.specs.declared.command.Command.TheVariants as command
 use Rattle.st_core.specs.declared.start.Start.{Start}
 use Rattle.st_core.specs.declared.start.Start.TheVariants.{Running, Ignored, Stopped}
 use Rattle.st_core.specs.Start.{start_of}
-use Rattle.st_door.specs.declared.door.Door.{Door}
-use Rattle.st_door.specs.declared.door_content.DoorContent.{DoorContent}
-use Rattle.st_door.specs.declared.door_data.DoorData.{DoorData}
-use Rattle.st_door.specs.declared.door_state.DoorState.{DoorState}
+use Rattle.st_doors.specs.declared.door.Door.{Door}
+use Rattle.st_doors.specs.declared.door_content.DoorContent.{DoorContent}
+use Rattle.st_doors.specs.declared.door_data.DoorData.{DoorData}
+use Rattle.st_doors.specs.declared.door_state.DoorState.{DoorState}
 use Rattle.st_door.specs.declared.mode.Mode.{Mode}
 use Rattle.st_door.specs.declared.mode.Mode.TheVariants.{Run, Trace}
 use Rattle.st_door.specs.declared.line.Line.{Line}
 use Rattle.st_door.specs.declared.line.Line.TheVariants as line
 use Rattle.st_door.specs.declared.effect.Effect.{Effect}
 use Rattle.st_door.specs.declared.effect.Effect.TheVariants.{Silent, Printed, Refuses, Malformed}
-use Rattle.st_door.specs.Door.{init_of}
-use Rattle.st_door.specs.Doors.{NamedDoor, change_first, has_name, door_named, door_at_first, door_callbacks, door_limit, door_of, without_door, free_slot_of, is_over, told_of, told_door, presses, relays, asks, refusal_in, length_in, next_tag_of, all_expired_of, ticked_doors}
+use Rattle.st_doors.specs.Door.{init_of}
+use Rattle.st_doors.specs.Doors.{NamedDoor, change_first, has_name, door_named, door_at_first, door_callbacks, door_limit, door_of, without_door, free_slot_of, is_over, told_of, told_door, presses, relays, asks, refusal_in, length_in, next_tag_of, all_expired_of, ticked_doors}
 use Rattle.st_door.specs.Grammar.{line_of}
-use Rattle.st_door.specs.Lines.{lines}
-use Rattle.st_door.specs.Settling.{run_until_idle}
-use Rattle.st_door.specs.Traces.{traces_of}
-use Rattle.st_door.specs.Printing.{status_of, names_text, removed_text, expired_text, length_text, refused_text, malformed_text}
+use Rattle.st_doors.specs.Lines.{lines}
+use Rattle.st_doors.specs.Settling.{run_until_idle, turn_limit}
+use Rattle.st_doors.specs.Traces.{traces_of}
+use Rattle.st_doors.specs.Printing.{status_of, names_text, removed_text, expired_text, length_text, refused_text, malformed_text}
 
 -- whether the histories of doors are kept; the doors in order of registration; the script's moment; and how many starts
 -- have succeeded
@@ -47,10 +47,6 @@ is_traced Trace = true
 -- a script begins at moment 0, with no door
 abbrev pub first_script_state : Mode → ScriptState
 first_script_state mode = record { traced = is_traced mode; doors = []; moment = 0; started = 0 }
-
--- how many turns and deliveries are made for one line
-abbrev pub turn_limit : ℕ
-turn_limit = 1000000
 
 -- a new door's id: the least free place, and how many starts have succeeded with this one
 abbrev pub next_id_of : ScriptState → MachineId

@@ -1,11 +1,11 @@
 //! A script whose input and output are in memory.
 ghost use Rattle.std.specs.Prelude.{◌≡◌, ◌<◌, ◌≤◌, ◌⊎◌, IfOk, IfErr, OnOk, Err, length};
 ghost use Rattle.st_door.specs.Script.{output_of, status_of_script};
-ghost use Rattle.st_door.specs.declared.script_fault.ScriptFault.TheVariants.{Memory, TooLong};
+ghost use Rattle.st_doors.specs.declared.script_fault.ScriptFault.TheVariants.{Memory, TooLong};
 
-use crate::input::INPUT_LIMIT;
 use crate::run::{run_input, trace_input};
-use crate::{Counted, Mode, RunOutput, ScriptFault};
+use crate::{Mode, RunOutput};
+use st_doors::{Counted, INPUT_LIMIT, ScriptFault};
 use std::alloc::Global;
 use std::marker::Brand;
 use std::sync::ledger::{Blank, Ledger};

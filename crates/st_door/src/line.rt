@@ -5,9 +5,9 @@ ghost use Rattle.st_door.specs.WordForms.{is_name};
 ghost use Rattle.st_door.specs.Grammar.{line_of, command_of, is_comment};
 ghost use Rattle.st_door.specs.Grammar.{new_of, button_of, show_of, at_of, stop_of, remove_of, length_of, relay_of, names_of};
 
-use crate::digits::Digits;
 use crate::lines::words;
 use crate::word_forms::{digits_of, is_digits, is_name, number_of};
+use st_doors::Digits;
 use st_events::{PlainText, Reason};
 use std::alloc::{AllocError, Global};
 use std::str;

@@ -1,7 +1,7 @@
 //! An input cut into lines, and a line into words.
 ghost use Rattle.std.specs.Prelude.{◌≡◌, ◌==◌, IfOk, map};
 ghost use Rattle.std.specs.List.{slice_split};
-ghost use Rattle.st_door.specs.Lines.{line_feed, whole_pieces, without_return, words};
+ghost use Rattle.st_doors.specs.Lines.{line_feed, whole_pieces, without_return, words};
 
 use std::alloc::{AllocError, Global};
 

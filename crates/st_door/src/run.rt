@@ -2,20 +2,19 @@
 ghost use Rattle.std.specs.Prelude.{◌≡◌, IfOk, IfErr, IfSome, OnOk, OnErr, MatchResult, Err};
 ghost use Rattle.std.specs.Io.KnownBytes.{Appends, IsAtEnd, Keeps};
 ghost use Rattle.st_door.specs.Grammar.{line_of};
-ghost use Rattle.st_door.specs.Lines.{lines, without_return};
+ghost use Rattle.st_doors.specs.Lines.{lines, without_return};
 ghost use Rattle.st_door.specs.Script.{DoesSome, faulty_from, first_script_state, is_fault, output_of, printed_of, script_after, status_of_script, step_of};
-ghost use Rattle.st_door.specs.ScriptFault.{IsOfInput, read_failures_after, write_failures_after};
-ghost use Rattle.st_door.specs.Streams.{AppendsFront, ConsumesMoreThan};
+ghost use Rattle.st_doors.specs.ScriptFault.{IsOfInput, read_failures_after, write_failures_after};
+ghost use Rattle.st_doors.specs.Streams.{AppendsFront, ConsumesMoreThan};
 ghost use Rattle.st_door.specs.declared.mode.Mode.TheVariants.{Run, Trace};
 
+use crate::Mode;
 use crate::effect::Effect;
-use crate::input::{INPUT_LIMIT, read_input};
 use crate::line::read_line;
 use crate::lines::{split_lines, without_return};
-use crate::output::write_output;
-use crate::printing::printed;
+use crate::printed_line::printed;
 use crate::script::Script;
-use crate::{Mode, ScriptFault, Sink, Source};
+use st_doors::{INPUT_LIMIT, ScriptFault, Sink, Source, read_input, write_output};
 use std::alloc::{AllocError, Global};
 
 /// Whether what a line brings about makes the script's status 1.

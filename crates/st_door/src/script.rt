@@ -2,26 +2,24 @@
 ghost use Rattle.std.specs.Prelude.{◌≡◌, ◌≤◌, ◌<◌, ◌++◌, ◌∷◌, [], ℕ, List, false, Some, None, Ok, Err, IfOk, IfErr, OnOk, OnErr, MatchResult, IfNone, IfSome, length, slice_index_or, slice_set};
 ghost use Rattle.st_answers.specs.declared.answer.Answer.TheVariants as answer;
 ghost use Rattle.st_answers.specs.declared.command.Command.TheVariants as command;
-ghost use Rattle.st_door.specs.Doors.{NamedDoor, IsFirst, SameLabels, asks, door_at_first, door_limit, door_named, door_of, has_name, length_in, refusal_in, told_of, told_door, all_expired_of, serves};
-ghost use Rattle.st_door.specs.Printing.{length_text, status_of};
-ghost use Rattle.st_door.specs.ScriptFault.{IsOfInput, write_failures_after};
-ghost use Rattle.st_door.specs.Streams.{AppendsFront};
-ghost use Rattle.st_door.specs.Traces.{traces_of};
+ghost use Rattle.st_doors.specs.Doors.{NamedDoor, IsFirst, SameLabels, asks, door_at_first, door_limit, door_named, door_of, has_name, length_in, refusal_in, told_of, told_door, all_expired_of, serves};
+ghost use Rattle.st_doors.specs.Printing.{length_text, status_of};
+ghost use Rattle.st_doors.specs.ScriptFault.{IsOfInput, write_failures_after};
+ghost use Rattle.st_doors.specs.Streams.{AppendsFront};
+ghost use Rattle.st_doors.specs.Traces.{traces_of};
 ghost use Rattle.std.specs.Io.KnownBytes.{Appends};
 ghost use Rattle.st_door.specs.Script.{first_script_state, is_traced, step_of, commanded_of, effect_of, status_finished, told_script, with_start, without_named, door_start_of, ticked_script, rested_of};
 ghost use Rattle.st_door.specs.declared.effect.Effect.TheVariants.{Printed};
 ghost use Rattle.st_door.specs.declared.line.Line.TheVariants as line;
 
-use crate::answers::{DoorAnswer, let_go};
-use crate::door_cell::DoorCell;
+use crate::Mode;
 use crate::effect::Effect;
-use crate::free_slots::FreeSlots;
-use crate::late_doors::LateDoors;
 use crate::line::Line;
-use crate::printing::{code_length, expired, removed};
-use crate::until_idle::run_until_idle;
-use crate::{Digits, Door, DoorContent, Mode, ScriptFault, Sink};
 use st_core::{Answer, Command, Core, Entry, MOMENT_LIMIT, Start};
+use st_doors::{
+    Digits, Door, DoorAnswer, DoorCell, DoorContent, FreeSlots, LateDoors, ScriptFault, Sink,
+    code_length, expired, let_go, removed, run_until_idle,
+};
 use st_events::{MachineId, PlainText, Refusal, Tag};
 use std::alloc::{AllocError, Global};
 use std::marker::Model;
@@ -45,7 +43,7 @@ pub(crate) struct Script {
 }
 
 impl Model for Script {
-    ghost use Rattle.st_door.specs.Doors.{IsKept};
+    ghost use Rattle.st_doors.specs.Doors.{IsKept};
     ghost use Rattle.st_door.specs.Script.{ScriptState};
 
     ghost Value = { ScriptState };

@@ -4,7 +4,7 @@ ghost use Rattle.std.specs.Char.{is_ascii_digit};
 ghost use Rattle.std.specs.List.{list_all};
 ghost use Rattle.st_door.specs.WordForms.{is_name, is_name_byte, is_digits, digits_of, is_number, number_of};
 
-use crate::digits::Digits;
+use st_doors::Digits;
 use std::alloc::{AllocError, Global};
 use std::str;
 

@@ -1,8 +1,8 @@
 //! A script as a whole, whose doors are served by workers: bytes in, bytes out, and a status.
 ghost use Rattle.std.specs.Prelude.{◌≡◌, ◌≤◌, IfOk, IfErr, OnOk, MatchResult, Err};
 ghost use Rattle.std.specs.Io.KnownBytes.{IsAtEnd, Keeps};
-ghost use Rattle.st_door.specs.ScriptFault.{IsOfInput, read_failures_after, write_failures_after};
-ghost use Rattle.st_door.specs.Streams.{ConsumesMoreThan};
+ghost use Rattle.st_doors.specs.ScriptFault.{IsOfInput, read_failures_after, write_failures_after};
+ghost use Rattle.st_doors.specs.Streams.{ConsumesMoreThan};
 
 use crate::pooled_script::PooledScript;
 use st_door::{

@@ -2,9 +2,9 @@
 use Rattle.std.proofs.Common.{◌≡◌, ℕ, List, [], ◌∷◌, ◌++◌, refl}
 use Rattle.std.specs.Prelude.{codes}
 use Rattle.std.specs.Fmt.{digits}
-use Rattle.st_door.specs.Doors.{least_from}
-use Rattle.st_door.specs.Settling.{run_until_idle}
-use Rattle.st_door.specs.Lines.{line_feed}
+use Rattle.st_doors.specs.Doors.{least_from}
+use Rattle.st_doors.specs.Settling.{run_until_idle}
+use Rattle.st_doors.specs.Lines.{line_feed}
 use Rattle.st_door.specs.declared.mode.Mode.TheVariants.{Run, Trace}
 use Rattle.st_door.specs.Script.{output_of, status_of_script}
 

@@ -2,8 +2,8 @@
 use Rattle.std.proofs.Common.{◌≡◌, Some, None, [], ◌∷◌, refl}
 use Rattle.std.specs.Prelude.{codes, length}
 use Rattle.std.specs.Fmt.{digits}
-use Rattle.st_door.specs.Lines.{lines}
-use Rattle.st_door.specs.Printing.{length_text}
+use Rattle.st_doors.specs.Lines.{lines}
+use Rattle.st_doors.specs.Printing.{length_text}
 
 -- only an empty last piece is no line
 no_bytes_are_no_line : length (lines []) ≡ 0

@@ -24,11 +24,11 @@ use Rattle.st_core.specs.Start.{first_state, start_of}
 use Rattle.st_core.specs.Tick.{tick_of}
 use Rattle.st_core.specs.Transition.{turn_of}
 use Rattle.st_requests.specs.declared.collected.Collected.TheVariants as collected
-use Rattle.st_door.specs.declared.door_content.DoorContent.TheVariants.{Button, CodeLength, Length}
-use Rattle.st_door.specs.declared.door_state.DoorState.{DoorState}
-use Rattle.st_door.specs.declared.door_state.DoorState.TheVariants.{Locked, Open}
-use Rattle.st_door.specs.Door.{init_of}
-use Rattle.st_door.specs.Doors.{DoorMachine, door_at_first, door_callbacks, door_named, next_tag_of}
+use Rattle.st_doors.specs.declared.door_content.DoorContent.TheVariants.{Button, CodeLength, Length}
+use Rattle.st_doors.specs.declared.door_state.DoorState.{DoorState}
+use Rattle.st_doors.specs.declared.door_state.DoorState.TheVariants.{Locked, Open}
+use Rattle.st_doors.specs.Door.{init_of}
+use Rattle.st_doors.specs.Doors.{DoorMachine, door_at_first, door_callbacks, door_named, next_tag_of}
 use Rattle.st_door.specs.Script.{DoorStart, the_door}
 
 abbrev id : MachineId

@@ -10,8 +10,8 @@ use Rattle.st_post_counter.specs.Endpoint.{CounterId, EndpointState}
 use Rattle.st_lock.specs.declared.claim.Claim.{Claim}
 use Rattle.st_lock.specs.declared.opened.Opened.{Opened}
 use Rattle.st_lock.specs.Claims.{claim, HasEndOf, Fits, inner_of, HasSameCounters}
-use Rattle.st_lock.specs.Inner.{InnerState, HasEnd, counters_of}
-use Rattle.st_lock.proofs.InnerLemmas.{at_longer, at_last}
+use Rattle.st_lock_inner.specs.Inner.{InnerState, HasEnd, counters_of}
+use Rattle.st_lock_inner.proofs.InnerLemmas.{at_longer, at_last}
 
 module _ {M S D C : Type 0} where
   -- the inner state that lies there has the endpoint

@@ -1,6 +1,3 @@
--- Lemmas on the inner state under a machine's lock, on what is claimed of it, and on what a port looks at.
-pub mod InnerLemmas
+-- Lemmas on what is claimed of the inner state under a machine's lock, and on what a port looks at.
 pub mod ClaimLemmas
 pub mod PortLemmas
-pub mod BoundedLemmas
-pub mod LeftLemmas

@@ -38,7 +38,7 @@ use Rattle.st_post_counter.specs.Seen.{part, IsPart}
 use Rattle.st_lock.specs.declared.claim.Claim.{Claim}
 use Rattle.st_lock.specs.declared.port.Port.TheInside.{Inside}
 use Rattle.st_lock.specs.Claims.{claim}
-use Rattle.st_lock.specs.Inner.{InnerState}
+use Rattle.st_lock_inner.specs.Inner.{InnerState}
 use Rattle.st_lock.specs.Machines.{IsCellOf, IsLookAt, IsJournalAt}
 use Rattle.st_lock.specs.Ports.{IsPort, PortState, posted}
 use Rattle.st_lock.proofs.ClaimLemmas.{claims_again}

@@ -1,5 +1,5 @@
 -- How much a machine that threads share may keep: entries in its journal, and events that wait.
-use Rattle.std.specs.Prelude.{◌≡◌, ℕ, ◌<◌, ◌≤◌, ◌&&◌, Bool, true, false, List, length, nat_le, nat_lt, Option, Some, None, Result, Ok, Err}
+use Rattle.std.specs.Prelude.{◌≡◌, ℕ, ◌<◌, ◌≤◌, Bool, true, false, List, Option, Some, None, Result, Ok, Err}
 use Rattle.st_events.specs.declared.machine_id.MachineId.{MachineId}
 use Rattle.st_core.specs.Callbacks.{Callbacks}
 use Rattle.st_core.specs.Choice.{waiting_of}
@@ -9,6 +9,7 @@ use Rattle.st_scheduled.specs.declared.posted.Posted.{Posted}
 use Rattle.st_cell.specs.Calls.{IsJournalOf, Posts}
 use Rattle.st_cell.specs.Cell.{CellState, IsOpen, count_for}
 use Rattle.st_cell.specs.declared.journal.Journal.{Journal}
+use Rattle.st_lock_inner.specs.Inner.{is_long}
 use Rattle.st_lock.specs.Machines.{IsCellOf, PostsSomewhere}
 use Rattle.st_lock.specs.declared.unposted.Unposted.{Unposted}
 use Rattle.st_lock.specs.declared.unposted.Unposted.TheVariants.{Busy, Refused}
@@ -17,10 +18,6 @@ use Rattle.st_lock.specs.declared.unposted.Unposted.TheVariants.{Busy, Refused}
 abbrev pub content_in : {C : Type 0} → Unposted C → C
 content_in (Busy content) = content
 content_in (Refused refused) = refused.value
-
--- the journal has more entries than this, and no fewer than events wait
-abbrev pub is_long : {M S D C : Type 0} → ℕ → CellState M S D C → Bool
-is_long limit cell = nat_lt limit (length cell.journal) && nat_le (waiting_of cell.scheduled.core.machine) (length cell.journal)
 
 module _ {M S D C : Type 0} (callbacks : M → Callbacks S D C) where
   -- some lawful cell of this id has a journal that is so long, or not

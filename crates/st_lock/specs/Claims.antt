@@ -4,7 +4,7 @@ use Rattle.std.specs.Option.{option_map}
 use Rattle.std.specs.Global.{Box}
 use Rattle.st_lock.specs.declared.claim.Claim.{Claim}
 use Rattle.st_lock.specs.declared.opened.Opened.{Opened}
-use Rattle.st_lock.specs.Inner.{InnerState, HasEnd, counters_of}
+use Rattle.st_lock_inner.specs.Inner.{InnerState, HasEnd, counters_of}
 use Rattle.st_post_counter.specs.Endpoint.{CounterId}
 
 -- nothing is claimed

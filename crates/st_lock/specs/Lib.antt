@@ -1,8 +1,5 @@
--- What lies under a machine's lock, what a port claims of it, what a machine is, what a port is, and how much a machine may
--- keep.
-pub mod Inner
+-- What a port claims of what lies under a machine's lock, what a machine is, what a port is, and how much a machine may keep.
 pub mod Claims
-pub mod Service
 pub mod Machines
 pub mod Ports
 pub mod Bounded

@@ -14,10 +14,10 @@ use Rattle.st_cell.specs.Cell.{CellState, IsJournaled, IsOpen, count_for}
 use Rattle.st_cell.specs.declared.journal.Journal.{Journal}
 use Rattle.st_cell.specs.declared.look.Look.{Look}
 use Rattle.st_cell.specs.declared.next.Next.{Next}
-use Rattle.st_lock.specs.Service.{Serves}
+use Rattle.st_lock_inner.specs.Service.{Serves}
 use Rattle.st_lock.specs.declared.machine.Machine.{Machine}
 use Rattle.st_lock.specs.declared.vacant_machine.VacantMachine.{VacantMachine}
-use Rattle.st_lock.specs.declared.service.Service.{Service}
+use Rattle.st_lock_inner.specs.declared.service.Service.{Service}
 use Rattle.std.specs.Arc.{arc_value}
 use Rattle.std.specs.Prelude.{◌≡◌, ℕ, List, Option, Result}
 

@@ -4,10 +4,10 @@ ghost use Rattle.st_core.specs.Callbacks.{callbacks_of};
 ghost use Rattle.st_lock.specs.Bounded.{PostsWithin, content_in};
 ghost use Rattle.st_lock.specs.Ports.{posted};
 
-use crate::inner::its_cell_is_journaled;
 use crate::machine::give_back;
 use crate::{Port, Unposted};
 use st_cell::{Entry, Module, Posted};
+use st_lock_inner::its_cell_is_journaled;
 use std::sync::Wait;
 
 impl<M: Module> Port<M> {

@@ -6,8 +6,8 @@ ghost use Rattle.st_lock.specs.Bounded.{IsLongSomewhere, IsTakenBeyond};
 ghost use Rattle.st_lock.specs.Machines.{id_of};
 
 use crate::Machine;
-use crate::inner::its_cell_is_journaled;
 use st_cell::{Journal, Module, Refusal};
+use st_lock_inner::its_cell_is_journaled;
 use std::sync::Wait;
 
 impl<M: Module> Machine<M> {

@@ -22,6 +22,8 @@ impl<'a, M: Module> Held<'a, M> {
         requires same { HasSameCounters (value_taken self.taken) inner.value }
     {
         let Held { taken, mut holder } = self;
-        give_back(taken, &mut holder, inner)
+        let guard = give_back(taken, &mut holder, inner);
+        drop(holder);
+        guard
     }
 }

@@ -6,22 +6,20 @@ mod bounded_port;
 mod claim;
 mod cutting;
 mod held;
-mod inner;
 mod machine;
 mod opened;
 mod port;
 mod readers;
-mod service;
 mod unposted;
 mod vacant_machine;
 
 pub use machine::Machine;
 pub use port::Port;
-pub use service::Service;
 pub use st_cell::{
     Answer, Cell, Collected, Command, Core, Entry, Journal, JournalEntry, Look, MachineId, Message,
     Module, Next, PlainList, Post, Posted, Reason, Refusal, Refused, Report, Snapshot, Source, Tag,
     Ticked, Token, Turned,
 };
+pub use st_lock_inner::Service;
 pub use unposted::Unposted;
 pub use vacant_machine::VacantMachine;

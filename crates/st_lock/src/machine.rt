@@ -9,22 +9,22 @@ ghost use Rattle.st_claim_lock.specs.Holders.{lock_id, lock_of, claim_of, taken_
 ghost use Rattle.st_post_counter.specs.Endpoint.{CounterId};
 ghost use Rattle.st_lock.specs.declared.claim.Claim.{Claim};
 ghost use Rattle.st_lock.specs.Claims.{claim, Fits, inner_of, HasSameCounters};
-ghost use Rattle.st_lock.specs.Inner.{inner_at_first, HasEnd};
+ghost use Rattle.st_lock_inner.specs.Inner.{inner_at_first, HasEnd};
 ghost use Rattle.st_core.specs.Callbacks.{callbacks_of};
 ghost use Rattle.st_answers.specs.declared.command.Command.TheVariants as command;
 ghost use Rattle.st_scheduled.specs.Answered.{ticked_as, collected_as, replied_as, stopped_as};
 ghost use Rattle.st_lock.specs.Machines.{id_of, DeliversSomewhere, IsJournalAt, IsToldSomewhere, ServesSomewhere, TakesOutSomewhere, TurnsSomewhere};
 ghost use Rattle.st_lock.specs.Ports.{port_at_first};
 
+use crate::Port;
 use crate::claim::{ByPort, Claim};
 use crate::held::Held;
-use crate::inner::{Inner, PostOf, its_cell_is_journaled};
-use crate::{Port, Service};
 use st_cell::{
     Collected, Core, Journal, MachineId, Message, Module, Next, Posted, Reason, Refusal, Refused,
     Tag, Ticked, Token,
 };
 use st_claim_lock::{ClaimLock, Claimed, Holder, Taken};
+use st_lock_inner::{Inner, PostOf, Service, its_cell_is_journaled};
 use st_post_counter::Counter;
 use std::alloc::Global;
 use std::marker::Brand;
@@ -187,7 +187,10 @@ impl<M: Module> Machine<M> {
         let id = inner.id();
         let inner = boxed(alloc, inner)?;
         match ClaimLock::new(alloc, Some(inner)) {
-            Ok((lock, _first)) => Ok(Machine::over(alloc, lock, id)),
+            Ok((lock, first)) => {
+                drop(first);
+                Ok(Machine::over(alloc, lock, id))
+            }
             Err(failed) => {
                 let Some(inner) = failed.value else {
                     unreachable!()
@@ -205,7 +208,10 @@ impl<M: Module> Machine<M> {
         ensures refusals { IfErr result (λ refusal. refusal ≡ NoMemory) }
     {
         match ClaimLock::new(alloc, None).ok() {
-            Some((lock, _first)) => Ok(Machine::over(alloc, lock, id)),
+            Some((lock, first)) => {
+                drop(first);
+                Ok(Machine::over(alloc, lock, id))
+            }
             None => Err(Refusal::NoMemory),
         }
     }
@@ -228,9 +234,12 @@ impl<M: Module> Machine<M> {
         if under.is_some() {
             // No run comes here: a vacant machine is filled once.
             drop(taken.give_back(&mut holder, under));
+            drop(inner);
+            drop(holder);
             never(rt)
         }
         drop(give_back(taken, &mut holder, inner));
+        drop(holder);
     }
 
     /// Takes the machine's own inner state, with a newcomer's claim.
@@ -335,6 +344,9 @@ impl<M: Module> Machine<M> {
             }
             Err(refusal) => {
                 drop(held.give_back(inner));
+                drop(mine);
+                drop(counter);
+                drop(machine);
                 Err(refusal)
             }
         }

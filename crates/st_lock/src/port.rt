@@ -5,14 +5,14 @@ ghost use Rattle.st_events.specs.declared.refusal.Refusal.TheVariants.{NoMemory}
 ghost use Rattle.st_core.specs.Callbacks.{callbacks_of};
 ghost use Rattle.st_scheduled.specs.Answered.{posted_as};
 ghost use Rattle.st_cell.specs.Journal.{numbers_of};
-ghost use Rattle.st_lock.specs.Inner.{EndsWith};
+ghost use Rattle.st_lock_inner.specs.Inner.{EndsWith};
 ghost use Rattle.st_lock.specs.Machines.{id_of, IsLookAt, PostsSomewhere};
 ghost use Rattle.st_lock.specs.Ports.{posted};
 
 use crate::Machine;
-use crate::inner::{PostOf, its_cell_is_journaled};
 use crate::machine::{HolderOf, give_back};
 use st_cell::{Entry, Look, Module, Posted, Refusal, Refused};
+use st_lock_inner::{PostOf, its_cell_is_journaled};
 use st_post_counter::{Counter, Endpoint};
 use std::marker::Model;
 use std::sync::{Arc, Wait};

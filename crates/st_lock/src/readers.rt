@@ -4,8 +4,8 @@ ghost use Rattle.st_core.specs.Choice.{is_ready_of, next_due_of, waiting_of};
 ghost use Rattle.st_lock.specs.Machines.{IsReadAt, id_of};
 
 use crate::Machine;
-use crate::inner::its_cell_is_journaled;
 use st_cell::{Module, Reason};
+use st_lock_inner::its_cell_is_journaled;
 use std::sync::Wait;
 
 impl<M: Module> Machine<M> {

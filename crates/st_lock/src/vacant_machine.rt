@@ -7,9 +7,9 @@ ghost use Rattle.st_cell.specs.Cell.{cell_at_first};
 ghost use Rattle.st_lock.specs.Machines.{id_of, id_for};
 
 use crate::Machine;
-use crate::inner::Inner;
 use crate::machine::{InnerOf, boxed};
 use st_cell::{Core, MachineId, Module, Refusal, Refused, Token};
+use st_lock_inner::Inner;
 use std::alloc::Global;
 use std::sync::{Arc, Wait};
 
@@ -105,7 +105,10 @@ impl<M: Module> VacantMachine<M> {
                 machine.put(rt, inner);
                 Ok((machine, token))
             }
-            Err(refused) => Err(refused),
+            Err(refused) => {
+                drop(machine);
+                Err(refused)
+            }
         }
     }
 }

@@ -1,9 +1,9 @@
 -- What a worker carries, from one step of its thread to the next.
 use Rattle.std.proofs.Common.{rules, Bool, true, false, ◌≡◌, ◌⊎◌, ◌++◌, [], ◌∷◌, None, IsSome, refl, sym, ap, ◌∙◌, subst, inl, inr}
 use Rattle.st_runq.specs.Ends.{put_of}
-use Rattle.st_pool.specs.declared.hand.Hand.{Hand}
-use Rattle.st_pool.specs.declared.worker.Worker.{Worker}
-use Rattle.st_pool.specs.Round.{HasSameQueues, Holds, FindsNone, HoldsWhatCarries, GivesWoken, PutsBack, StaysSame}
+use Rattle.st_worker.specs.declared.hand.Hand.{Hand}
+use Rattle.st_worker.specs.declared.worker.Worker.{Worker}
+use Rattle.st_worker.specs.Round.{HasSameQueues, Holds, FindsNone, HoldsWhatCarries, GivesWoken, PutsBack, StaysSame}
 
 pub same_queues : {C : Type 0} (old between new : Worker C) → HasSameQueues old between → HasSameQueues between new → HasSameQueues old new
 same_queues old between new (a, b, c, d) (e, f, g, h) = (e ∙ a, f ∙ b, g ∙ c, h ∙ d)

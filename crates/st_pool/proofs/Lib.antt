@@ -1,4 +1,3 @@
--- Lemmas on workers.
+-- Lemmas on workers in threads.
 pub mod CarryLemmas
-pub mod RoundLemmas
 pub mod ThreadLemmas

@@ -2,8 +2,8 @@
 use Rattle.std.proofs.Common.{◌≡◌, ◌⊎◌, ◌+◌, ◌-◌, ◌^◌, ℕ, suc, min, Option, Some, None, refl, sym, ◌∙◌, subst, inl, inr, arith}
 use Rattle.st_events.specs.declared.token.Token.{Token}
 use Rattle.st_runq.specs.Ends.{put_of}
-use Rattle.st_pool.specs.declared.worker.Worker.{Worker}
-use Rattle.st_pool.specs.Round.{Holds, FindsNone, HoldsWhatCarries, Serves, GivesWoken, PutsBack, StaysSame}
+use Rattle.st_worker.specs.declared.worker.Worker.{Worker}
+use Rattle.st_worker.specs.Round.{Holds, FindsNone, HoldsWhatCarries, Serves, GivesWoken, PutsBack, StaysSame}
 use Rattle.st_pool.specs.Thread.{MakesRounds, Concludes, begins, finds_none, looks, serves, gives, puts_back}
 
 -- what the thread's loop keeps: the turns that it counts are those that were made

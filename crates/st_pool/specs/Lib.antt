@@ -1,4 +1,3 @@
--- What workers and pools do.
+-- What pools and their threads do.
 pub mod Pool
-pub mod Round
 pub mod Thread

@@ -2,8 +2,8 @@
 use Rattle.std.specs.Prelude.{◌≡◌, ◌⊎◌, ℕ, suc, Option}
 use Rattle.st_events.specs.declared.token.Token.{Token}
 use Rattle.st_runq.specs.Ends.{put_of}
-use Rattle.st_pool.specs.declared.worker.Worker.{Worker}
-use Rattle.st_pool.specs.Round.{FindsNone, Holds, HoldsWhatCarries, Serves, GivesWoken, PutsBack, StaysSame}
+use Rattle.st_worker.specs.declared.worker.Worker.{Worker}
+use Rattle.st_worker.specs.Round.{FindsNone, Holds, HoldsWhatCarries, Serves, GivesWoken, PutsBack, StaysSame}
 
 -- so many tokens served, one after another, and between them looks and tokens that are put on the own run queue, lead from
 -- the first worker to this one

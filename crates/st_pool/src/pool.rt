@@ -1,15 +1,16 @@
 //! A pool of workers.
-ghost use Rattle.std.specs.Prelude.{◌≡◌, ◌≤◌, ◌+◌, IfErr, IfOk, OnOk, vec_len, vec_capacity};
+ghost use Rattle.std.specs.Prelude.{◌≡◌, ◌≤◌, ◌<◌, ◌+◌, IfErr, IfOk, OnOk, vec_len, vec_capacity};
 
 use crate::injector::Injector;
 use crate::pool_end::PoolEnd;
 use crate::pool_state::PoolState;
 use crate::sleeper::Sleeper;
 use crate::work::{EndedWorker, work};
-use crate::{Gate, Machines, Runtime, Scheduler, Worker};
+use crate::{Runtime, Scheduler};
 use crossbeam_utils::sync::Parker;
 use st_events::{Message, Token};
 use st_runq::{Inlet, PutRefused, Seats};
+use st_worker::{Gate, Machines, Worker};
 use std::alloc::{AllocError, Global};
 use std::sync::{Arc, Wait};
 use std::thread::{JoinHandle, Threads};
@@ -92,13 +93,7 @@ impl<R: Runtime, C: Drop + Send + 'static> Pool<R, C> {
     {
         let inlet = Inlet::new(alloc)?;
         let mut seats = Seats::for_workers(alloc, &inlet, workers)?;
-        let mut sleepers = Vec::new(alloc);
-        let mut parkers = Vec::new(alloc);
-        for made in 0..workers {
-            let parker = Parker::new(alloc)?;
-            sleepers.push(Sleeper::new(parker.unparker().clone()?))?;
-            parkers.push(parker)?;
-        }
+        let (mut parkers, sleepers) = places_to_sleep(alloc, workers)?;
         let state = Arc::new(alloc, PoolState::new(Injector::new(inlet), sleepers))?;
         let mut pool = Pool {
             rt,
@@ -123,6 +118,20 @@ impl<R: Runtime, C: Drop + Send + 'static> Pool<R, C> {
         Ok(pool)
     }
 
+    /// Gets room for one more thread, for the worker that it gives back, and for what that carries then.
+    fn reserve_one(&mut self) -> Result<(), AllocError>
+        ensures threads { threads_of self.new ≡ threads_of self.old }
+        ensures room { OnOk result (vec_len self.new.threads < vec_capacity self.new.threads) }
+        ensures room_ended { OnOk result (vec_len self.new.threads + 1 + vec_len self.new.ended ≤ vec_capacity self.new.ended) }
+        ensures room_left { OnOk result (vec_len self.new.threads + 1 + vec_len self.new.left ≤ vec_capacity self.new.left) }
+        ensures room_carried { OnOk result (vec_len self.new.threads + 1 + vec_len self.new.carried ≤ vec_capacity self.new.carried) }
+    {
+        self.threads.reserve(1)?;
+        self.ended.reserve(self.threads.len() + 1)?;
+        self.left.reserve(self.threads.len() + 1)?;
+        self.carried.reserve(self.threads.len() + 1)
+    }
+
     /// Starts the thread of the worker of this number. Before that it gets the room for the worker that comes back, and for
     /// what it carries then.
     fn add<M, G>(
@@ -138,14 +147,11 @@ impl<R: Runtime, C: Drop + Send + 'static> Pool<R, C> {
         G: Gate + Drop + Send + Sync + 'static,
         ensures added { OnOk result (threads_of self.new ≡ threads_of self.old + 1) }
     {
+        self.reserve_one()?;
         let rt = self.rt;
         let state = Arc::try_clone(&self.state)?;
         let machines = Arc::try_clone(machines)?;
         let gate = Arc::try_clone(gate)?;
-        self.threads.reserve(1)?;
-        self.ended.reserve(self.threads.len() + 1)?;
-        self.left.reserve(self.threads.len() + 1)?;
-        self.carried.reserve(self.threads.len() + 1)?;
         let thread = thread::spawn(&rt, move || {
             let worker = Worker::new(number, seats);
             work(&rt, worker, parker, &state, &*machines, &*gate)
@@ -214,4 +220,18 @@ impl<R: Runtime, C: Drop + Send + 'static> Pool<R, C> {
             carried,
         })
     }
+}
+
+/// So many parkers, and for each, in the same order, where its worker sleeps.
+fn places_to_sleep(alloc: Global, count: usize) -> Result<(Vec<Parker>, Vec<Sleeper>), AllocError>
+    ensures parkers { IfOk result (λ places. vec_len places.0 ≡ count) }
+{
+    let mut parkers = Vec::new(alloc);
+    let mut sleepers = Vec::new(alloc);
+    for made in 0..count {
+        let parker = Parker::new(alloc)?;
+        sleepers.push(Sleeper::new(parker.unparker().clone()?))?;
+        parkers.push(parker)?;
+    }
+    Ok((parkers, sleepers))
 }

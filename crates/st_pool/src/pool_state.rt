@@ -1,11 +1,11 @@
 //! What the threads of a pool share.
 ghost use Rattle.std.specs.Prelude.{◌≡◌, IfErr};
 
-use crate::found::Source;
 use crate::injector::Injector;
 use crate::sleeper::Sleeper;
 use st_events::Token;
 use st_runq::PutRefused;
+use st_worker::Source;
 use std::sync::atomic::{AtomicBool, AtomicU64, AtomicUsize, Ordering};
 use std::sync::{Condvar, Mutex, Wait};
 

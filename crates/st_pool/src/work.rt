@@ -1,14 +1,14 @@
 //! What a worker's thread does.
 ghost use Rattle.std.specs.Prelude.{◌≡◌, ℕ, min, ◌⊎◌, true, false, None, IfSome};
 ghost use Rattle.st_runq.specs.Ends.{put_of};
-ghost use Rattle.st_pool.specs.Round.{Holds, FindsNone, HoldsWhatCarries, GivesWoken, StaysSame, served_at};
+ghost use Rattle.st_worker.specs.Round.{Holds, FindsNone, HoldsWhatCarries, GivesWoken, StaysSame, served_at};
 ghost use Rattle.st_pool.specs.Thread.{MakesRounds, Concludes};
 
+use crate::Runtime;
 use crate::pool_state::PoolState;
 use crate::search::Search;
-use crate::served::Served;
-use crate::{Gate, Machines, Runtime, Worker};
 use crossbeam_utils::sync::Parker;
+use st_worker::{Gate, Machines, Served, Worker};
 use std::thread;
 
 /// A worker whose thread has ended, and how many turns it made. Where it carries a message, it has a token.

@@ -16,5 +16,6 @@ mod ring;
 mod silent;
 mod slow;
 mod started;
+mod steps;
 mod together;
 mod workers;

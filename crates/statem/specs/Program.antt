@@ -4,8 +4,8 @@ use Rattle.st_door.specs.declared.mode.Mode.{Mode}
 use Rattle.st_door.specs.declared.mode.Mode.TheVariants as mode
 use Rattle.st_words.specs.declared.order.Order.{Order}
 use Rattle.st_words.specs.declared.order.Order.TheVariants.{Run, Trace, Pool}
-use Rattle.st_door.specs.declared.script_fault.ScriptFault.{ScriptFault}
-use Rattle.st_door.specs.declared.script_fault.ScriptFault.TheVariants.{Read, TooLong, Write, Memory}
+use Rattle.st_doors.specs.declared.script_fault.ScriptFault.{ScriptFault}
+use Rattle.st_doors.specs.declared.script_fault.ScriptFault.TheVariants.{Read, TooLong, Write, Memory}
 
 -- the mode in which an order runs a script whose output is proved: no workers are asked for
 abbrev pub mode_of : Order → Option Mode

@@ -7,8 +7,8 @@ mod called;
 ghost use Rattle.std.specs.Prelude.{◌≡◌, ◌<◌, IfOk, IfErr, IfSome, OnOk, OnErr, MatchResult, Err};
 ghost use Rattle.std.specs.Io.KnownBytes.{Appends, IsAtEnd, Keeps};
 ghost use Rattle.st_door.specs.Script.{DoesSome, output_of, status_of_script};
-ghost use Rattle.st_door.specs.ScriptFault.{IsOfInput, read_failures_after, write_failures_after};
-ghost use Rattle.st_door.specs.Streams.{AppendsFront, ConsumesMoreThan};
+ghost use Rattle.st_doors.specs.ScriptFault.{IsOfInput, read_failures_after, write_failures_after};
+ghost use Rattle.st_doors.specs.Streams.{AppendsFront, ConsumesMoreThan};
 ghost use Rattle.statem.specs.Program.{mode_of, status_of};
 ghost use Rattle.st_words.specs.Order.{HasWorkers};
 

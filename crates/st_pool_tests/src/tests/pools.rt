@@ -53,14 +53,14 @@ fn wakes_none(rt: &impl Abort, wait: &impl Wait, scheduler: &Scheduler, word: &s
     same(rt, word, &scheduler.wake(wait, late), &Err(late));
 }
 
-/// A pool that has served a thousand is closed, and takes no token any more.
+/// A pool that has served a thousand is closed, and takes no token any more, nor once it is let go.
 fn ends<R: Runtime>(
     rt: &Host<impl Abort>,
     wait: &impl Wait,
-    pool: &mut Pool<R, u64>,
+    mut pool: Pool<R, u64>,
     scheduler: &Scheduler,
 ) {
-    has_made(rt, pool, 10_000);
+    has_made(rt, &mut pool, 10_000);
     wakes_none(rt, wait, scheduler, "a closed pool wakes none");
     let late = token(3);
     let refused = pool.schedule(late);
@@ -70,6 +70,8 @@ fn ends<R: Runtime>(
         &refused,
         &Err(PutRefused(late)),
     );
+    drop(pool);
+    wakes_none(rt, wait, scheduler, "a pool that is gone wakes none");
 }
 
 #[test]
@@ -78,13 +80,11 @@ fn a_thousand_machines_make_ten_turns_each(rt: HostRuntime) {
     let rt = Host::with_memory(rt);
     let machines = Counted::new(rt.alloc(), 1_000, 10).expect(&rt, "machines");
     let gate = Silent::new(rt.alloc()).expect(&rt, "a gate");
-    let mut pool = started(&rt, threads, 4, &machines, &gate);
+    let pool = started(&rt, threads, 4, &machines, &gate);
     let scheduler = pool.scheduler().expect(&rt, "a scheduler");
     serves_a_thousand(&rt, &threads, &pool, &scheduler);
     made_ten_turns(&rt, &machines, 1_000);
-    ends(&rt, &threads, &mut pool, &scheduler);
-    drop(pool);
-    wakes_none(&rt, &threads, &scheduler, "a pool that is gone wakes none");
+    ends(&rt, &threads, pool, &scheduler);
     rt.end_with_memory();
 }
 
@@ -97,22 +97,28 @@ fn makes_one_turn<R: Runtime>(rt: &Host<impl Abort>, pool: &Pool<R, u64>, machin
     is_number(rt, "a drained token made its turn", turns, 1);
 }
 
+/// So many times a token makes its one turn, and then the pool is closed.
+fn makes_turns_one_by_one<R: Runtime>(
+    rt: &Host<impl Abort>,
+    mut pool: Pool<R, u64>,
+    machines: &Counted,
+    times: u64,
+) {
+    for _ in 0..times {
+        makes_one_turn(rt, &pool, machines);
+    }
+    let turns = closes(rt, &mut pool).turns;
+    is_number(rt, "one turn for each time", turns, times);
+}
+
 #[test]
 fn tokens_are_scheduled_and_drained_one_by_one(rt: HostRuntime) {
     let threads = rt;
     let rt = Host::with_memory(rt);
     let machines = Counted::new(rt.alloc(), 1, 1).expect(&rt, "machines");
     let gate = Silent::new(rt.alloc()).expect(&rt, "a gate");
-    let mut pool = started(&rt, threads, 3, &machines, &gate);
-    for _ in 0..10_000 {
-        makes_one_turn(&rt, &pool, &machines);
-    }
-    is_number(
-        &rt,
-        "one turn for each time",
-        closes(&rt, &mut pool).turns,
-        10_000,
-    );
+    let pool = started(&rt, threads, 3, &machines, &gate);
+    makes_turns_one_by_one(&rt, pool, &machines, 10_000);
     rt.end_with_memory();
 }
 
@@ -124,6 +130,7 @@ fn tokens_that_never_rest_are_left_once_each(rt: HostRuntime) {
     let gate = Silent::new(rt.alloc()).expect(&rt, "a gate");
     let mut pool = started(&rt, threads, 3, &machines, &gate);
     leaves_all(&rt, &mut pool, 10);
+    drop(pool);
     rt.end_with_memory();
 }
 
@@ -150,16 +157,17 @@ fn a_cold_token_is_served_beside_more_hot_ones_than_workers(rt: HostRuntime) {
     let rt = Host::with_memory(rt);
     let machines = Counted::endless(rt.alloc(), 7).expect(&rt, "machines");
     let gate = Silent::new(rt.alloc()).expect(&rt, "a gate");
-    let mut pool = started(&rt, threads, 2, &machines, &gate);
-    serves_a_cold_one(&rt, &pool, &machines);
-    made_a_turn(&rt, &machines, 6);
-    is_count(
-        &rt,
-        "all seven are left",
-        closes(&rt, &mut pool).left.len(),
-        7,
-    );
+    let pool = started(&rt, threads, 2, &machines, &gate);
+    serves_all_seven(&rt, pool, &machines);
     rt.end_with_memory();
+}
+
+/// Each of seven tokens is served, and none rests.
+fn serves_all_seven<R: Runtime>(rt: &Host<impl Abort>, mut pool: Pool<R, u64>, machines: &Counted) {
+    serves_a_cold_one(rt, &pool, machines);
+    made_a_turn(rt, machines, 6);
+    let left = closes(rt, &mut pool).left.len();
+    is_count(rt, "all seven are left", left, 7);
 }
 
 /// Six hot tokens are scheduled, and a cold one once two of them made their turns, which is served too.

@@ -58,29 +58,27 @@ fn serves(
 fn a_token_is_served_by_one_turn(rt: HostRuntime) {
     let rt = Host::with_memory(rt);
     let machines = Counted::new(rt.alloc(), 2, 2).expect(&rt, "machines");
-    let own = token(1);
-    is_token(
-        &rt,
-        "it comes back for a turn",
-        serve_one(&*machines, own, 5, &mut Hand::new()),
-        Some(own),
-    );
-    is_number(&rt, "one turn is made", machines.turns_of(1), 1);
-    is_token(
-        &rt,
-        "it rests after its last turn",
-        serve_one(&*machines, own, 5, &mut Hand::new()),
-        None,
-    );
-    is_number(&rt, "a second turn is made", machines.turns_of(1), 2);
-    is_number(&rt, "the other machine made none", machines.turns_of(0), 0);
-    is_token(
-        &rt,
-        "no machine, no turn",
-        serve_one(&*machines, token(2), 5, &mut Hand::new()),
-        None,
-    );
+    makes_two_turns(&rt, &machines);
     rt.end_with_memory();
+}
+
+/// The second of two machines makes its two turns; there is no third.
+fn makes_two_turns(rt: &impl Abort, machines: &Counted) {
+    let own = token(1);
+    let back = serve_one(machines, own, 5, &mut Hand::new());
+    is_token(rt, "it comes back for a turn", back, Some(own));
+    turned(rt, "one turn is made", machines, 0, 1);
+    let back = serve_one(machines, own, 5, &mut Hand::new());
+    is_token(rt, "it rests after its last turn", back, None);
+    turned(
+        rt,
+        "a second turn is made, and none by the other",
+        machines,
+        0,
+        2,
+    );
+    let back = serve_one(machines, token(2), 5, &mut Hand::new());
+    is_token(rt, "no machine, no turn", back, None);
 }
 
 /// A worker has no token, robs another one of its token, and serves it.
@@ -133,6 +131,8 @@ fn a_round_serves_a_token_of_another_worker(rt: HostRuntime) {
     is_count(&rt, "the first has the number 0", own.number, 0);
     robs(&rt, &wait, &mut own, &mut other, &machines);
     keeps_what_it_robbed(&rt, &wait, &mut own, &mut other, &machines);
+    drop(own);
+    drop(other);
     rt.end_with_memory();
 }
 
@@ -151,6 +151,7 @@ fn a_turn_has_the_gates_moment_and_its_workers_number(rt: HostRuntime) {
         goes_round(&rt, &wait, &mut worker, &noted, &noted),
     );
     same(&rt, "moment and worker", &noted.told(), &(7, 1, 1));
+    drop(worker);
     rt.end_with_memory();
 }
 
@@ -168,6 +169,33 @@ fn makes_rounds(
     }
 }
 
+/// A worker with a token on its own queue and one on the shared queue serves its own sixty times, then the shared one, and
+/// then its own again.
+fn asks_the_shared_queue_first(
+    rt: &Host<impl Abort>,
+    wait: &impl Wait,
+    inlet: &mut Inlet,
+    worker: &mut Worker<u64>,
+    machines: &Counted,
+) {
+    let put = worker.lane.put_local(token(0));
+    same(rt, "one stands on its own queue", &put, &Ok(()));
+    let put = inlet.put_shared(wait, token(1));
+    same(rt, "one stands on the shared queue", &put, &Ok(()));
+    makes_rounds(rt, wait, worker, machines, 60);
+    turned(rt, "sixty rounds serve its own", machines, 60, 0);
+    makes_rounds(rt, wait, worker, machines, 1);
+    turned(rt, "the 61st serves the shared one", machines, 60, 1);
+    makes_rounds(rt, wait, worker, machines, 1);
+    turned(rt, "the next serves its own again", machines, 61, 1);
+}
+
+/// So many turns were made by the first machine and by the second.
+fn turned(rt: &impl Abort, word: &str, machines: &Counted, first: u64, second: u64) {
+    let turns = (machines.turns_of(0), machines.turns_of(1));
+    same(rt, word, &turns, &(first, second));
+}
+
 #[test]
 fn each_61st_round_asks_the_shared_queue_first(rt: HostRuntime) {
     let wait = rt;
@@ -175,34 +203,7 @@ fn each_61st_round_asks_the_shared_queue_first(rt: HostRuntime) {
     let machines = Counted::endless(rt.alloc(), 2).expect(&rt, "machines");
     let (mut inlet, mut all) = workers(&rt, 1);
     let mut worker = all.pop().expect(&rt, "a worker");
-    same(
-        &rt,
-        "one stands on its own queue",
-        &worker.lane.put_local(token(0)),
-        &Ok(()),
-    );
-    same(
-        &rt,
-        "one stands on the shared queue",
-        &inlet.put_shared(&wait, token(1)),
-        &Ok(()),
-    );
-    makes_rounds(&rt, &wait, &mut worker, &machines, 60);
-    is_number(&rt, "sixty rounds serve its own", machines.turns_of(0), 60);
-    is_number(&rt, "and not the shared one", machines.turns_of(1), 0);
-    makes_rounds(&rt, &wait, &mut worker, &machines, 1);
-    is_number(
-        &rt,
-        "the 61st serves the shared one",
-        machines.turns_of(1),
-        1,
-    );
-    makes_rounds(&rt, &wait, &mut worker, &machines, 1);
-    is_number(
-        &rt,
-        "the next serves its own again",
-        machines.turns_of(0),
-        61,
-    );
+    asks_the_shared_queue_first(&rt, &wait, &mut inlet, &mut worker, &machines);
+    drop(worker);
     rt.end_with_memory();
 }

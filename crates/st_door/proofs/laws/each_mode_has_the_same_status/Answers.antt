@@ -1,5 +1,5 @@
 use Rattle.std.proofs.Common.{Bool, ap, sym, if◌then◌else◌}
-use Rattle.st_door.specs.Lines.{lines}
+use Rattle.st_doors.specs.Lines.{lines}
 use Rattle.st_door.specs.Script.{first_script_state}
 use Rattle.st_door.specs.declared.mode.Mode.TheVariants.{Trace}
 use Rattle.st_door.proofs.ForgettingLemmas.{faulty}

@@ -1,5 +1,5 @@
 use Rattle.std.proofs.Common.{rules, ◌≡◌, map, ℕ, true, false, List, [], ◌∷◌, ◌++◌, Bor, ap, sym, ◌∙◌, append-nil}
-use Rattle.st_door.specs.Lines.{whole_pieces, is_empty}
+use Rattle.st_doors.specs.Lines.{whole_pieces, is_empty}
 use Rattle.st_door.proofs.PieceLemmas.{last_kept, last_dropped}
 use Rattle.st_door.proofs.lines.split_lines.Goals as goal
 

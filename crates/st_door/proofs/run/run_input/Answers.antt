@@ -1,7 +1,7 @@
 use Rattle.std.proofs.Common.{rules, [], ◌++◌, ◌∙◌, refl}
-use Rattle.st_door.proofs.DoorLemmas.{err_always}
-use Rattle.st_door.proofs.ScriptLemmas.{front_more, output_step, faulty_step}
-use Rattle.st_door.proofs.StreamLemmas.{appends_more, appends_nothing}
+use Rattle.st_doors.proofs.DoorLemmas.{err_always}
+use Rattle.st_door.proofs.ScriptLemmas.{output_step, faulty_step}
+use Rattle.st_doors.proofs.StreamLemmas.{appends_more, appends_nothing, front_more}
 use Rattle.st_door.proofs.run.run_input.Goals as goal
 
 -- nothing is written yet

@@ -1,6 +1,6 @@
 use Rattle.std.proofs.Common.{◌≡◌, ◌+◌, ◌||◌, ℕ, List, ◌++◌}
 use Rattle.std.specs.Io.KnownBytes.{Appends}
-use Rattle.st_door.specs.Lines.{lines}
+use Rattle.st_doors.specs.Lines.{lines}
 use Rattle.st_door.specs.declared.mode.Mode.TheVariants.{Run}
 use Rattle.st_door.specs.Script.{first_script_state, output_from, output_of, faulty_from}
 use Rattle.st_door.proofs.ScriptLemmas.{lines_left}

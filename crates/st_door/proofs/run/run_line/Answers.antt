@@ -1,9 +1,9 @@
 use Rattle.std.proofs.Common.{◌≡◌, ap, ◌∙◌}
 use Rattle.st_door.specs.Grammar.{line_of}
-use Rattle.st_door.specs.Lines.{without_return}
+use Rattle.st_doors.specs.Lines.{without_return}
 use Rattle.st_door.specs.Script.{is_fault, printed_of, step_of}
-use Rattle.st_door.proofs.DoorLemmas.{err_always}
-use Rattle.st_door.proofs.StreamLemmas.{appends_same, front_same, nothing_written}
+use Rattle.st_doors.proofs.DoorLemmas.{err_always}
+use Rattle.st_doors.proofs.StreamLemmas.{appends_same, front_same, nothing_written}
 use Rattle.st_door.proofs.run.run_line.Goals as goal
 
 -- the line was not done

@@ -1,5 +1,5 @@
 use Rattle.std.proofs.Common.{◌≡◌, ◌||◌}
-use Rattle.st_door.specs.Lines.{lines}
+use Rattle.st_doors.specs.Lines.{lines}
 use Rattle.st_door.specs.Script.{faulty_from, first_script_state, script_after}
 use Rattle.st_door.specs.declared.mode.Mode.TheVariants.{Trace}
 use Rattle.st_door.proofs.ScriptLemmas.{lines_left}

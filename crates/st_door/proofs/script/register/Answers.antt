@@ -1,6 +1,6 @@
 use Rattle.std.proofs.Common.{ℕ, List, [], ◌∷◌, ◌++◌, ap, ◌∙◌}
-use Rattle.st_door.specs.Doors.{KeptDoor, door_named}
-use Rattle.st_door.proofs.DoorLemmas.{on_ok}
+use Rattle.st_doors.specs.Doors.{KeptDoor, door_named}
+use Rattle.st_doors.proofs.DoorLemmas.{on_ok}
 use Rattle.st_door.proofs.script.register.Goals as goal
 
 -- the name is free

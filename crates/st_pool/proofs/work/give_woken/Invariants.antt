@@ -1,4 +1,4 @@
-use Rattle.st_pool.specs.Round.{StaysSame}
+use Rattle.st_worker.specs.Round.{StaysSame}
 use Rattle.st_pool.proofs.work.give_woken.Given as goal
 
 -- as long as it was refused, nothing has changed

@@ -1,5 +1,5 @@
 use Rattle.std.proofs.Common.{◌≡◌, None}
-use Rattle.st_pool.specs.Round.{HoldsWhatCarries, served_at}
+use Rattle.st_worker.specs.Round.{HoldsWhatCarries, served_at}
 use Rattle.st_pool.proofs.ThreadLemmas.{Counts}
 use Rattle.st_pool.proofs.work.work.Given as goal
 

@@ -1,6 +1,6 @@
 use Rattle.std.proofs.Common.{ap, sym, ◌∙◌}
-use Rattle.st_door.specs.Doors.{post_refusal_by, refusal_in}
-use Rattle.st_door.proofs.IdleLemmas.{no_door}
+use Rattle.st_doors.specs.Doors.{post_refusal_by, refusal_in}
+use Rattle.st_doors.proofs.IdleLemmas.{no_door}
 use Rattle.st_door.proofs.script.Script.ask_length.Goals as goal
 
 -- a post is answered as a post

@@ -1,5 +1,5 @@
 use Rattle.std.proofs.Common.{ap, ◌∙◌}
-use Rattle.st_door.specs.Doors.{length_in}
+use Rattle.st_doors.specs.Doors.{length_in}
 use Rattle.st_door.proofs.script.Script.collect_length.Goals as goal
 
 pub returns-clause-digits : goal.returns-clause-digits

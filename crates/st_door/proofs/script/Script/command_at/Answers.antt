@@ -1,9 +1,9 @@
 use Rattle.std.proofs.Common.{◌≡◌, Some, get_or, ap, sym, ◌∙◌, rules, None}
 use Rattle.st_door.specs.declared.effect.Effect.{Effect}
-use Rattle.st_door.specs.Doors.{refusal_in, told_of}
+use Rattle.st_doors.specs.Doors.{refusal_in, told_of}
 use Rattle.st_door.specs.Script.{ScriptState, rested_of, status_finished}
-use Rattle.st_door.proofs.DoorLemmas.{if_ok, ok_always}
-use Rattle.st_door.proofs.IdleLemmas.{no_door}
+use Rattle.st_doors.proofs.DoorLemmas.{if_ok, ok_always}
+use Rattle.st_doors.proofs.IdleLemmas.{no_door}
 use Rattle.st_door.proofs.ScriptStateLemmas.{first-still, still-within, command-refused, command-done, told_at, told_at-refused, idle-effect, idle-script}
 use Rattle.st_door.proofs.script.Script.command_at.Goals as goal
 

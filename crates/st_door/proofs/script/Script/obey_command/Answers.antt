@@ -1,5 +1,5 @@
-use Rattle.st_door.specs.Doors.{has_name}
-use Rattle.st_door.proofs.DoorLemmas.{IsFirst-within, if_ok, on_ok}
+use Rattle.st_doors.specs.Doors.{has_name}
+use Rattle.st_doors.proofs.DoorLemmas.{IsFirst-within, if_ok, on_ok}
 use Rattle.st_door.proofs.script.Script.obey_command.Goals as goal
 
 -- the place is that of the name

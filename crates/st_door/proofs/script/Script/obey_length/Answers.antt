@@ -2,11 +2,11 @@ use Rattle.std.proofs.Common.{◌≡◌, Some, ap, sym, ◌∙◌, get_or}
 use Rattle.st_events.specs.declared.tag.Tag.{Tag}
 use Rattle.st_door.specs.declared.effect.Effect.{Effect}
 use Rattle.st_door.specs.declared.effect.Effect.TheVariants.{Printed}
-use Rattle.st_door.specs.Doors.{asks, door_of, has_name, refusal_in, told_of}
-use Rattle.st_door.specs.Printing.{length_text}
+use Rattle.st_doors.specs.Doors.{asks, door_of, has_name, refusal_in, told_of}
+use Rattle.st_doors.specs.Printing.{length_text}
 use Rattle.st_door.specs.Script.{ScriptState, length_finished, rested_of}
-use Rattle.st_door.proofs.DoorLemmas.{IsFirst-within, if_ok, ok_always}
-use Rattle.st_door.proofs.IdleLemmas.{no_door}
+use Rattle.st_doors.proofs.DoorLemmas.{IsFirst-within, if_ok, ok_always}
+use Rattle.st_doors.proofs.IdleLemmas.{no_door}
 use Rattle.st_door.proofs.ScriptStateLemmas.{first-told, command-refused, told_at, told_at-refused, length-done}
 use Rattle.st_door.proofs.script.Script.obey_length.Goals as goal
 

@@ -3,10 +3,10 @@ use Rattle.st_events.specs.declared.machine_id.MachineId.{MachineId}
 use Rattle.st_events.specs.declared.refusal.Refusal.TheVariants.{AlreadyStarted}
 use Rattle.st_door.specs.declared.effect.Effect.{Effect}
 use Rattle.st_door.specs.declared.effect.Effect.TheVariants.{Refuses}
-use Rattle.st_door.specs.Doors.{IsFirst, door_of, has_name}
+use Rattle.st_doors.specs.Doors.{IsFirst, door_of, has_name}
 use Rattle.st_door.specs.Script.{ScriptState, door_start_of, with_start}
-use Rattle.st_door.proofs.DoorLemmas.{IsFirst-within, if_ok, when_none}
-use Rattle.st_door.proofs.IdleLemmas.{no_door}
+use Rattle.st_doors.proofs.DoorLemmas.{IsFirst-within, if_ok, when_none}
+use Rattle.st_doors.proofs.IdleLemmas.{no_door}
 use Rattle.st_door.proofs.ScriptStateLemmas.{IsFirst-labels, new-taken, new-done, new-place, idle-effect}
 use Rattle.st_door.proofs.script.Script.obey_new.Goals as goal
 

@@ -1,9 +1,9 @@
 use Rattle.std.proofs.Common.{ap, sym, ◌∙◌}
 use Rattle.st_door.specs.declared.effect.Effect.{Effect}
-use Rattle.st_door.specs.Doors.{has_name}
+use Rattle.st_doors.specs.Doors.{has_name}
 use Rattle.st_door.specs.Script.{ScriptState, effect_of, status_finished}
-use Rattle.st_door.proofs.DoorLemmas.{IsFirst-within, if_ok, on_ok}
-use Rattle.st_door.proofs.IdleLemmas.{no_door}
+use Rattle.st_doors.proofs.DoorLemmas.{IsFirst-within, if_ok, on_ok}
+use Rattle.st_doors.proofs.IdleLemmas.{no_door}
 use Rattle.st_door.proofs.ScriptStateLemmas.{relay-acted}
 use Rattle.st_door.proofs.script.Script.obey_relay.Goals as goal
 

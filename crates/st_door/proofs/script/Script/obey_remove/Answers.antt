@@ -1,10 +1,10 @@
 use Rattle.std.proofs.Common.{◌≡◌, true, false, ap, sym, ◌∙◌, rules}
 use Rattle.st_door.specs.declared.effect.Effect.{Effect}
 use Rattle.st_door.specs.declared.effect.Effect.TheVariants.{Printed}
-use Rattle.st_door.specs.Doors.{IsFirst, has_name}
+use Rattle.st_doors.specs.Doors.{IsFirst, has_name}
 use Rattle.st_door.specs.Script.{ScriptState, rested_of}
-use Rattle.st_door.proofs.DoorLemmas.{IsFirst-within}
-use Rattle.st_door.proofs.IdleLemmas.{no_door}
+use Rattle.st_doors.proofs.DoorLemmas.{IsFirst-within}
+use Rattle.st_doors.proofs.IdleLemmas.{no_door}
 use Rattle.st_door.proofs.ScriptStateLemmas.{remove-refused, remove-done}
 use Rattle.st_door.proofs.script.Script.obey_remove.Goals as goal
 

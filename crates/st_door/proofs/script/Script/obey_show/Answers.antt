@@ -1,9 +1,9 @@
 use Rattle.st_door.specs.declared.line.Line.TheVariants as line
-use Rattle.st_door.specs.Doors.{IsFirst, has_name}
+use Rattle.st_doors.specs.Doors.{IsFirst, has_name}
 use Rattle.st_door.specs.Script.{step_of}
-use Rattle.st_door.proofs.DoorLemmas.{IsFirst-within, if_ok, ok_always}
+use Rattle.st_doors.proofs.DoorLemmas.{IsFirst-within, if_ok, ok_always}
 use Rattle.st_door.proofs.ScriptStateLemmas.{IsFirst-labels, show-done, idle-effect, idle-script}
-use Rattle.st_door.proofs.IdleLemmas.{no_door}
+use Rattle.st_doors.proofs.IdleLemmas.{no_door}
 use Rattle.st_door.proofs.script.Script.obey_show.Goals as goal
 
 -- the place is that of the name, also once the doors rest

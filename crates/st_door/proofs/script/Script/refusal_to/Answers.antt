@@ -1,5 +1,5 @@
 use Rattle.std.proofs.Common.{ap, ◌∙◌}
-use Rattle.st_door.specs.Doors.{refusal_in}
+use Rattle.st_doors.specs.Doors.{refusal_in}
 use Rattle.st_door.proofs.script.Script.refusal_to.Goals as goal
 
 pub returns-clause-refusal : goal.returns-clause-refusal

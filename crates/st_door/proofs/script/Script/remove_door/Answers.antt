@@ -1,8 +1,8 @@
 use Rattle.std.proofs.Common.{rules, ◌≡◌, ◌-◌, min, length, ap}
-use Rattle.st_door.specs.Doors.{has_name}
+use Rattle.st_doors.specs.Doors.{has_name}
 use Rattle.st_door.specs.Script.{ScriptState}
-use Rattle.st_door.proofs.DoorLemmas.{IsFirst-within}
-use Rattle.st_door.proofs.IdleLemmas.{no_door}
+use Rattle.st_doors.proofs.DoorLemmas.{IsFirst-within}
+use Rattle.st_doors.proofs.IdleLemmas.{no_door}
 use Rattle.st_door.proofs.ScriptStateLemmas.{slot-marked, kept-without}
 use Rattle.st_door.proofs.script.Script.remove_door.Goals as goal
 

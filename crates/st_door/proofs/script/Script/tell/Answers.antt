@@ -1,9 +1,9 @@
 use Rattle.std.proofs.Common.{◌≡◌, ◌<◌, length, get_or, ap, arith}
-use Rattle.st_door.specs.Doors.{NamedDoor, kept_of, told_kept}
+use Rattle.st_doors.specs.Doors.{NamedDoor, kept_of, told_kept}
 use Rattle.st_door.specs.Script.{ScriptState}
 use Rattle.st_door.proofs.ScriptStateLemmas.{kept-set}
-use Rattle.st_door.proofs.IdleLemmas.{no_door}
-use Rattle.st_door.proofs.ToldLemmas.{id-told}
+use Rattle.st_doors.proofs.IdleLemmas.{no_door}
+use Rattle.st_doors.proofs.ToldLemmas.{id-told}
 use Rattle.st_door.proofs.script.Script.tell.Goals as goal
 
 pub widened-from-requires : goal.widened-from-requires

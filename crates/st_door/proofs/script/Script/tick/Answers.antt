@@ -1,6 +1,6 @@
 use Rattle.std.proofs.Common.{rules, ◌≡◌, ◌∙◌, sym}
-use Rattle.st_door.specs.Doors.{all_expired_of}
-use Rattle.st_door.proofs.LateDoorsLemmas.{kept-quiet}
+use Rattle.st_doors.specs.Doors.{all_expired_of}
+use Rattle.st_doors.proofs.LateDoorsLemmas.{kept-quiet}
 use Rattle.st_door.proofs.script.Script.tick.Goals as goal
 
 -- where no time-out expires those that rest do so still

@@ -1,11 +1,11 @@
 use Rattle.std.proofs.Common.{rules, ◌≡◌, ◌+◌, List, ◌∷◌, ◌++◌, drop, get_or, refl, ap, ◌∙◌}
-use Rattle.st_door.specs.Doors.{NamedDoor}
+use Rattle.st_doors.specs.Doors.{NamedDoor}
 use Rattle.st_door.specs.Script.{ScriptState}
-use Rattle.st_door.specs.Traces.{trace_of_door}
-use Rattle.st_door.proofs.DoorLemmas.{err_always}
-use Rattle.st_door.proofs.IdleLemmas.{no_door}
-use Rattle.st_door.proofs.ScriptLemmas.{doors_left-cons, front_more, traces_step}
-use Rattle.st_door.proofs.StreamLemmas.{appends_more}
+use Rattle.st_doors.specs.Traces.{trace_of_door}
+use Rattle.st_doors.proofs.DoorLemmas.{err_always}
+use Rattle.st_doors.proofs.IdleLemmas.{no_door}
+use Rattle.st_door.proofs.ScriptLemmas.{doors_left-cons, traces_step}
+use Rattle.st_doors.proofs.StreamLemmas.{appends_more, front_more}
 use Rattle.st_door.proofs.script.Script.write_traces.Goals as goal
 
 -- one trace was written

@@ -1,6 +1,6 @@
 use Rattle.std.proofs.Common.{◌≡◌, ℕ, List, ◌++◌, drop}
 use Rattle.std.specs.Io.KnownBytes.{Appends}
-use Rattle.st_door.specs.Traces.{traces_of}
+use Rattle.st_doors.specs.Traces.{traces_of}
 use Rattle.st_door.proofs.script.Script.write_traces.Given as goal
 
 abbrev pub invariant-loop-place : goal.invariant-loop-place

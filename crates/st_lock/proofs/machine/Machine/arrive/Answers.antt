@@ -1,7 +1,7 @@
 use Rattle.std.proofs.Common.{◌≡◌, true, false, refl, ap, sym, ◌∙◌, subst}
 use Rattle.st_lock.specs.Claims.{Fits, inner_of}
-use Rattle.st_lock.specs.Inner.{InnerState}
-use Rattle.st_lock.proofs.InnerLemmas.{ids_not_other}
+use Rattle.st_lock_inner.specs.Inner.{InnerState}
+use Rattle.st_lock_inner.proofs.InnerLemmas.{ids_not_other}
 use Rattle.st_lock.proofs.ClaimLemmas.{newcomer_out, same_counters}
 use Rattle.st_lock.proofs.machine.Machine.arrive.Goals as goal
 

@@ -1,6 +1,6 @@
 use Rattle.std.proofs.Common.{◌≡◌, true, false, refl, ap, sym, ◌∙◌, subst}
 use Rattle.st_cell.specs.Cell.{IsOpen, count_for}
-use Rattle.st_lock.specs.Inner.{InnerState}
+use Rattle.st_lock_inner.specs.Inner.{InnerState}
 use Rattle.st_lock.proofs.ClaimLemmas.{end_under, own_claim, own_out, same_counters, some_under, taken_end, taken_out}
 use Rattle.st_lock.proofs.machine.Machine.take.Goals as goal
 

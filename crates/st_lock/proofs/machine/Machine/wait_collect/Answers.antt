@@ -1,6 +1,6 @@
 use Rattle.std.proofs.Common.{◌≡◌, true, false, ap, ◌∙◌}
 use Rattle.st_core.specs.Callbacks.{callbacks_of}
-use Rattle.st_lock.specs.Inner.{InnerState, counters_of}
+use Rattle.st_lock_inner.specs.Inner.{InnerState, counters_of}
 use Rattle.st_lock.specs.Machines.{id_of}
 use Rattle.st_lock.proofs.ClaimLemmas.{same_counters}
 use Rattle.st_lock.proofs.PortLemmas.{taken_cell}

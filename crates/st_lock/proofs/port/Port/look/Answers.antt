@@ -5,7 +5,7 @@ use Rattle.st_core.specs.Callbacks.{callbacks_of}
 use Rattle.st_cell.specs.Cell.{IsOpen, count_for}
 use Rattle.st_cell.specs.Journal.{numbers_of}
 use Rattle.st_claim_lock.specs.Holders.{lock_id}
-use Rattle.st_lock.specs.Inner.{EndsWith, InnerState, HasEnd, counters_of}
+use Rattle.st_lock_inner.specs.Inner.{EndsWith, InnerState, HasEnd, counters_of}
 use Rattle.st_lock.specs.Machines.{id_of}
 use Rattle.st_lock.specs.Ports.{PortState}
 use Rattle.st_lock.proofs.ClaimLemmas.{own_out, same_counters}

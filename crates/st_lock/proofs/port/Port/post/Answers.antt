@@ -6,7 +6,7 @@ use Rattle.st_events.specs.declared.token.Token.{Token}
 use Rattle.st_core.specs.Callbacks.{callbacks_of}
 use Rattle.st_cell.specs.Cell.{IsOpen, count_for}
 use Rattle.st_claim_lock.specs.Holders.{lock_id}
-use Rattle.st_lock.specs.Inner.{InnerState, HasEnd, counters_of}
+use Rattle.st_lock_inner.specs.Inner.{InnerState, HasEnd, counters_of}
 use Rattle.st_lock.specs.Machines.{id_of}
 use Rattle.st_lock.proofs.ClaimLemmas.{own_out, same_counters}
 use Rattle.st_lock.proofs.PortLemmas.{port_kept, port_posted, seen_kept, seen_posted, taken_cell, wake_named}

@@ -1,8 +1,0 @@
-use Rattle.std.proofs.Common.{◌≡◌, ◌∷◌, ◌++◌, take, flat_map, codes, string_bytes}
-use Rattle.st_door.specs.Doors.{NamedDoor}
-use Rattle.st_door.specs.Lines.{space}
-use Rattle.st_door.proofs.doors.Doors.names.Given as goal
-
-abbrev pub invariant-loop-place : goal.invariant-loop-place
-invariant-loop-place l =
-    string_bytes l.text ≡ codes "names" ++ flat_map (λ (door : NamedDoor). space ∷ door.name) (take l.place l.self)

@@ -1,8 +1,0 @@
-use Rattle.std.proofs.Common.{◌∙◌, sym, ap}
-use Rattle.st_door.specs.Printing.{names_text}
-use Rattle.st_door.proofs.DoorLemmas.{if_ok}
-use Rattle.st_door.proofs.LateDoorsLemmas.{names-caught}
-use Rattle.st_door.proofs.late_doors.LateDoors.names.Goals as goal
-
-pub returns : goal.returns
-returns c = if_ok _ _ c.names.result (λ text says. says ∙ (sym (names-caught c.self.inside.late c.self.inside.doors) ∙ ap names_text c.self.view_is)) c.names.ensures

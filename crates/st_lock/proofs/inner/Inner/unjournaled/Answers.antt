@@ -1,6 +1,0 @@
-use Rattle.st_lock.proofs.InnerLemmas.{inner_begun}
-use Rattle.st_lock.proofs.inner.Inner.unjournaled.Goals as goal
-
--- no port is open
-pub invariant_of-result : goal.invariant_of-result
-invariant_of-result g c = rw (c.unjournaled-cell.ensures.begun, c.new-ends.ensures.items) (inner_begun c.args.core)

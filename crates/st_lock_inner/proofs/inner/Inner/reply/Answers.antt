@@ -1,0 +1,21 @@
+use Rattle.st_core.specs.Callbacks.{callbacks_of}
+use Rattle.st_answers.specs.declared.command.Command.TheVariants as command
+use Rattle.st_scheduled.specs.Answered.{replied_as}
+use Rattle.st_cell.specs.Calls.{IsTold}
+use Rattle.st_cell.proofs.PostLemmas.{told_nothing}
+use Rattle.st_lock_inner.proofs.LeftLemmas.{called, err_cell, inner_called}
+use Rattle.st_lock_inner.proofs.inner.Inner.reply.Goals as goal
+
+-- nothing was posted
+pub invariant_of-self : goal.invariant_of-self
+invariant_of-self g c =
+    inner_called (IsTold (callbacks_of g.M.Module g.M.State.PartialEq.eq) c.self.inside.cell.cell (command.Reply c.args.tag c.args.content) (replied_as c.reply.result)) c.self.inside.cell c.reply.new.self c.self.inside.ends.items
+    (λ after does. told_nothing (callbacks_of g.M.Module g.M.State.PartialEq.eq) c.self.inside.cell.cell after (command.Reply c.args.tag c.args.content) (replied_as c.reply.result) does) c.reply.ensures.does c.self.invariant
+
+-- it does what a cell does
+pub returns-clause-does : goal.returns-clause-does
+returns-clause-does g c = rw (← c.self.view_is) (called (IsTold (callbacks_of g.M.Module g.M.State.PartialEq.eq) c.self.inside.cell.cell (command.Reply c.args.tag c.args.content) (replied_as c.reply.result)) c.self.inside.cell c.reply.new.self c.reply.ensures.does)
+
+-- and where it is refused, nothing
+pub returns-clause-unchanged : goal.returns-clause-unchanged
+returns-clause-unchanged g c = rw (← c.self.view_is) (err_cell c.reply.result c.self.inside.cell c.reply.new.self c.reply.ensures.unchanged)

@@ -1,0 +1,2 @@
+-- Lemmas on what a worker takes.
+pub mod RoundLemmas

@@ -1,0 +1,2 @@
+-- What a worker does.
+pub mod Round
