@@ -20,10 +20,10 @@ use Rattle.st_scheduled.specs.Answered.{is_counted}
 use Rattle.st_scheduled.specs.ScheduledMachine.{ScheduledMachine, is_token_of}
 use Rattle.st_scheduled.specs.Serving.{content_of, is_full, is_turn, needs_count, refused_with, takes_memory_as, told_as, told_on, served_on, Tells, Serves}
 use Rattle.st_scheduled.proofs.CountLemmas.{turn_counted}
-use Rattle.st_cell.specs.declared.next.Next.{Next}
-use Rattle.st_cell.specs.declared.next.Next.TheVariants.{Again, Rest}
-use Rattle.st_cell.specs.declared.source.Source.{Source}
-use Rattle.st_cell.specs.declared.source.Source.TheVariants as source
+use Rattle.st_scheduled.specs.declared.next.Next.{Next}
+use Rattle.st_scheduled.specs.declared.next.Next.TheVariants.{Again, Rest}
+use Rattle.st_journal.specs.declared.source.Source.{Source}
+use Rattle.st_journal.specs.declared.source.Source.TheVariants as source
 use Rattle.st_cell.specs.Calls.{call_takes_memory, counted_at, done_as, given_as, told_by, post_by, served_at, Posts, IsToldBy, IsServed, TurnsBy, Turns, TakesOutBy, TakesOut}
 use Rattle.st_cell.specs.Cell.{CellState}
 use Rattle.st_cell.proofs.CallLemmas.{turn_done, turn_refused}

@@ -5,7 +5,7 @@ use Rattle.std.specs.Prelude.{Result, Ok, Err, OnErr, IfErr}
 use Rattle.st_events.specs.declared.refused.Refused.{Refused}
 use Rattle.st_events.specs.declared.token.Token.{Token}
 use Rattle.st_core.specs.Callbacks.{Callbacks}
-use Rattle.st_cell.specs.declared.next.Next.{Next}
+use Rattle.st_scheduled.specs.declared.next.Next.{Next}
 use Rattle.st_cell.specs.Calls.{Turns}
 use Rattle.st_cell.specs.Cell.{CellState, IsJournaled, IsOpen, count_for}
 use Rattle.st_cell.proofs.CallLemmas.{turns_returned}

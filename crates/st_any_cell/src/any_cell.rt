@@ -7,7 +7,7 @@ ghost use Rattle.st_scheduled.specs.Answered.{posted_as, ticked_as, replied_as, 
 ghost use Rattle.st_scheduled.specs.ScheduledMachine.{id_of, token_of};
 ghost use Rattle.st_cell.specs.Calls.{Posts, IsTold, Turns, TakesOut, Delivers, opened, cut};
 ghost use Rattle.st_cell.specs.Cell.{cell_at_first, IsJournaled, IsOpen, count_for};
-ghost use Rattle.st_cell.specs.Journal.{posts_of};
+ghost use Rattle.st_journal.specs.Journal.{posts_of};
 ghost use Rattle.st_any_cell.specs.AnyCell.{any_at_first, Leaves};
 
 use crate::bare::Bare;

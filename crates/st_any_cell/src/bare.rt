@@ -7,7 +7,7 @@ ghost use Rattle.st_core.specs.Lawful.{IsLawful};
 ghost use Rattle.st_scheduled.specs.declared.step_answer.StepAnswer.{StepAnswer};
 ghost use Rattle.st_scheduled.specs.Answered.{posted_as, served_as, ticked_as, replied_as, collected_as, stopped_as};
 ghost use Rattle.st_scheduled.specs.ScheduledMachine.{is_token_of};
-ghost use Rattle.st_cell.specs.declared.next.Next.TheVariants as next;
+ghost use Rattle.st_scheduled.specs.declared.next.Next.TheVariants as next;
 ghost use Rattle.st_cell.specs.Calls.{counted_at, Posts, IsServed, IsTold, Turns, TakesOut, Delivers, done_as, opened, look_of, IsJournalOf};
 ghost use Rattle.st_cell.specs.Cell.{cell_at_first, IsOpen, count_for};
 ghost use Rattle.st_any_cell.specs.AnyCell.{bare_cell, IsCutBehind};

@@ -20,11 +20,11 @@ use Rattle.st_scheduled.specs.Answered.{is_counted}
 use Rattle.st_scheduled.specs.ScheduledMachine.{ScheduledMachine, is_token_of, has_event, has_message}
 use Rattle.st_scheduled.specs.Serving.{content_of, refused_with, takes_memory_as, retired, served_idle, told_on, served_on, Serves}
 use Rattle.st_scheduled.proofs.CountLemmas.{turn_counted}
-use Rattle.st_cell.specs.declared.journal_entry.JournalEntry.{JournalEntry}
-use Rattle.st_cell.specs.declared.next.Next.{Next}
-use Rattle.st_cell.specs.declared.next.Next.TheVariants.{Again, Rest}
-use Rattle.st_cell.specs.declared.source.Source.{Source}
-use Rattle.st_cell.specs.declared.source.Source.TheVariants as source
+use Rattle.st_journal.specs.declared.journal_entry.JournalEntry.{JournalEntry}
+use Rattle.st_scheduled.specs.declared.next.Next.{Next}
+use Rattle.st_scheduled.specs.declared.next.Next.TheVariants.{Again, Rest}
+use Rattle.st_journal.specs.declared.source.Source.{Source}
+use Rattle.st_journal.specs.declared.source.Source.TheVariants as source
 use Rattle.st_cell.specs.Cell.{CellState, JournaledState, HasRoom}
 use Rattle.st_cell.specs.Calls.{kept_answer, entry_of, call_takes_memory, with_entry, done_as, next_as, MeetsCall, IsServed, TurnsBy, Turns}
 

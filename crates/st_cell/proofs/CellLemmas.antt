@@ -32,13 +32,13 @@ use Rattle.st_scheduled.specs.Serving.{is_turn, told_on, served_on}
 use Rattle.st_scheduled.proofs.CountLemmas.{IsCountedOf, told_counted, served_counted, told_limit, served_limit}
 use Rattle.st_scheduled.proofs.ServedMachines.{told_follows, served_serves, first_for_work}
 use Rattle.st_scheduled.proofs.ToldLemmas.{only_turns, refused_told, refused_served}
-use Rattle.st_cell.specs.declared.journal_entry.JournalEntry.{JournalEntry}
-use Rattle.st_cell.specs.declared.next.Next.{Next}
-use Rattle.st_cell.specs.declared.source.Source.{Source}
-use Rattle.st_cell.specs.declared.source.Source.TheVariants as source
+use Rattle.st_journal.specs.declared.journal_entry.JournalEntry.{JournalEntry}
+use Rattle.st_scheduled.specs.declared.next.Next.{Next}
+use Rattle.st_journal.specs.declared.source.Source.{Source}
+use Rattle.st_journal.specs.declared.source.Source.TheVariants as source
 use Rattle.st_cell.specs.Calls.{kept_answer, entry_of, with_entry, counted_at, told_by, post_by, served_at, next_as, given_as, delivered_as, MeetsCall, Posts, IsToldBy, IsTold, TurnsBy, Turns, TakesOutBy, TakesOut, Delivers, opened, cut}
 use Rattle.st_cell.specs.Cell.{CellState, cell_at_first, IsOpen, count_for, AreCounted, IsJournaled}
-use Rattle.st_cell.specs.Journal.{is_port, commands_of, answers_of, AreNumbered, IsReplay, posts_of}
+use Rattle.st_journal.specs.Journal.{is_port, commands_of, answers_of, AreNumbered, IsReplay, posts_of}
 use Rattle.st_cell.proofs.JournalLemmas.{numbered_more, one_more, none_more}
 
 -- what is so of either of two is so of what is the one at success and the other at a refusal

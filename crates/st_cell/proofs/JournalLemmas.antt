@@ -7,9 +7,9 @@ use Rattle.st_answers.specs.declared.answer.Answer.TheVariants as answer
 use Rattle.st_answers.specs.declared.command.Command.{Command}
 use Rattle.st_answers.specs.declared.command.Command.TheVariants as command
 use Rattle.st_answers.specs.declared.entry.Entry.{Entry}
-use Rattle.st_cell.specs.declared.journal_entry.JournalEntry.{JournalEntry}
-use Rattle.st_cell.specs.declared.post.Post.{Post}
-use Rattle.st_cell.specs.Journal.{numbers_of, is_port, AreNumbered, posted_as, posted_by, posted_in, posts_of}
+use Rattle.st_journal.specs.declared.journal_entry.JournalEntry.{JournalEntry}
+use Rattle.st_journal.specs.declared.post.Post.{Post}
+use Rattle.st_journal.specs.Journal.{numbers_of, is_port, AreNumbered, posted_as, posted_by, posted_in, posts_of}
 
 module _ {S C : Type 0} where
   -- ---- numbers

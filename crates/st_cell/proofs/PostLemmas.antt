@@ -16,14 +16,14 @@ use Rattle.st_scheduled.specs.declared.step_answer.StepAnswer.TheVariants as ste
 use Rattle.st_scheduled.specs.Answered.{posted_as, is_counted}
 use Rattle.st_scheduled.specs.ScheduledMachine.{ScheduledMachine, is_token_of}
 use Rattle.st_scheduled.specs.Serving.{told_on, served_on}
-use Rattle.st_cell.specs.declared.journal_entry.JournalEntry.{JournalEntry}
-use Rattle.st_cell.specs.declared.next.Next.{Next}
-use Rattle.st_cell.specs.declared.post.Post.{Post}
-use Rattle.st_cell.specs.declared.source.Source.{Source}
-use Rattle.st_cell.specs.declared.source.Source.TheVariants as source
+use Rattle.st_journal.specs.declared.journal_entry.JournalEntry.{JournalEntry}
+use Rattle.st_scheduled.specs.declared.next.Next.{Next}
+use Rattle.st_journal.specs.declared.post.Post.{Post}
+use Rattle.st_journal.specs.declared.source.Source.{Source}
+use Rattle.st_journal.specs.declared.source.Source.TheVariants as source
 use Rattle.st_cell.specs.Calls.{kept_answer, entry_of, counted_at, given_as, delivered_as, Posts, IsToldBy, IsTold, TurnsBy, Turns, TakesOutBy, TakesOut, Delivers}
 use Rattle.st_cell.specs.Cell.{CellState, HasPosted, HasPostedNothing}
-use Rattle.st_cell.specs.Journal.{is_port, posts_of}
+use Rattle.st_journal.specs.Journal.{is_port, posts_of}
 use Rattle.st_cell.proofs.CellLemmas.{none_by}
 use Rattle.st_cell.proofs.JournalLemmas.{posts-append, none_more}
 

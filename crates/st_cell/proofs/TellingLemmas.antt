@@ -21,9 +21,9 @@ use Rattle.st_scheduled.specs.declared.step_answer.StepAnswer.TheVariants as ste
 use Rattle.st_scheduled.specs.Answered.{answered_by, is_refused, is_counted}
 use Rattle.st_scheduled.specs.ScheduledMachine.{ScheduledMachine, is_token_of, has_message}
 use Rattle.st_scheduled.specs.Serving.{content_of, refused_with, takes_memory_as, is_full, needs_count, retired, told_as, told_on}
-use Rattle.st_cell.specs.declared.journal_entry.JournalEntry.{JournalEntry}
-use Rattle.st_cell.specs.declared.source.Source.{Source}
-use Rattle.st_cell.specs.declared.source.Source.TheVariants as source
+use Rattle.st_journal.specs.declared.journal_entry.JournalEntry.{JournalEntry}
+use Rattle.st_journal.specs.declared.source.Source.{Source}
+use Rattle.st_journal.specs.declared.source.Source.TheVariants as source
 use Rattle.st_cell.specs.Cell.{CellState, JournaledState, HasRoom}
 use Rattle.st_cell.specs.Calls.{kept_answer, entry_of, call_takes_memory, counted_at, given_as, told_by, Posts, IsToldBy, IsTold, TurnsBy, Turns, TakesOutBy, TakesOut}
 use Rattle.st_cell.proofs.CallLemmas.{unkept, meets_with}

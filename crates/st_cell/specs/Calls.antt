@@ -20,14 +20,14 @@ use Rattle.st_scheduled.specs.Answered.{answered_by, is_counted, wants_numbers}
 use Rattle.st_scheduled.specs.ScheduledMachine.{ScheduledMachine, is_token_of, has_message}
 use Rattle.st_scheduled.specs.Serving.{content_of, refused_with, told_on, served_on}
 use Rattle.st_cell.specs.declared.journal.Journal.{Journal}
-use Rattle.st_cell.specs.declared.journal_entry.JournalEntry.{JournalEntry}
+use Rattle.st_journal.specs.declared.journal_entry.JournalEntry.{JournalEntry}
 use Rattle.st_cell.specs.declared.look.Look.{Look}
-use Rattle.st_cell.specs.declared.next.Next.{Next}
-use Rattle.st_cell.specs.declared.next.Next.TheVariants.{Again, Rest}
-use Rattle.st_cell.specs.declared.source.Source.{Source}
-use Rattle.st_cell.specs.declared.source.Source.TheVariants as source
+use Rattle.st_scheduled.specs.declared.next.Next.{Next}
+use Rattle.st_scheduled.specs.declared.next.Next.TheVariants.{Again, Rest}
+use Rattle.st_journal.specs.declared.source.Source.{Source}
+use Rattle.st_journal.specs.declared.source.Source.TheVariants as source
 use Rattle.st_cell.specs.Cell.{CellState, count_for}
-use Rattle.st_cell.specs.Journal.{posts_of, numbers_of}
+use Rattle.st_journal.specs.Journal.{posts_of, numbers_of}
 
 -- ---- entries
 -- the answer that the journal keeps: that of a command that was counted

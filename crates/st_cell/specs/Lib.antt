@@ -1,4 +1,3 @@
--- What a journal says, what a machine with a journal is, and what its calls answer and leave.
-pub mod Journal
+-- What a machine with a journal is, and what its calls answer and leave.
 pub mod Cell
 pub mod Calls

@@ -176,11 +176,7 @@ impl<M: Module> Journaled<M> {
         } }
         ensures places { self.new.places ≡ self.old.places }
     {
-        self.journal.push_reserved(JournalEntry {
-            number: self.scheduled.count(),
-            source,
-            command,
-            answer,
-        });
+        let number = self.scheduled.count();
+        JournalEntry::write(&mut self.journal, number, source, command, answer);
     }
 }

@@ -4,7 +4,7 @@ ghost use Rattle.st_core.specs.Accounting.{IsAccounted};
 ghost use Rattle.st_core.specs.Callbacks.{callbacks_of};
 ghost use Rattle.st_scheduled.specs.ScheduledMachine.{HasTokenForWork};
 ghost use Rattle.st_cell.specs.Cell.{IsJournaled, IsOpen, count_for};
-ghost use Rattle.st_cell.specs.Journal.{IsReplay, AreNumbered, answers_of, posts_of};
+ghost use Rattle.st_journal.specs.Journal.{IsReplay, AreNumbered, answers_of, posts_of};
 
 use crate::Cell;
 use st_events::Module;

@@ -3,7 +3,7 @@ ghost use Rattle.std.specs.Prelude.{◌≡◌, ◌≤◌, [], ◌++◌, length, 
 ghost use Rattle.st_events.specs.declared.refusal.Refusal.TheVariants.{NoMemory, Exhausted};
 ghost use Rattle.st_cell.specs.Calls.{opened, look_of, cut, IsJournalOf};
 ghost use Rattle.st_cell.specs.Cell.{IsOpen, count_for, HasRoom};
-ghost use Rattle.st_cell.specs.Journal.{numbers_of, posts_of};
+ghost use Rattle.st_journal.specs.Journal.{numbers_of, posts_of};
 
 use crate::copying::copied_entries;
 use crate::journaled::{EntryOf, Journaled};

@@ -6,7 +6,7 @@ ghost use Rattle.st_scheduled.specs.declared.step_answer.StepAnswer.{StepAnswer}
 ghost use Rattle.st_scheduled.specs.Answered.{posted_as, ticked_as, served_as, replied_as, collected_as, stopped_as, is_counted, wants_numbers};
 ghost use Rattle.st_scheduled.specs.ScheduledMachine.{is_token_of};
 ghost use Rattle.st_scheduled.specs.Serving.{served_on, Serves, Tells};
-ghost use Rattle.st_cell.specs.declared.next.Next.TheVariants as next;
+ghost use Rattle.st_scheduled.specs.declared.next.Next.TheVariants as next;
 ghost use Rattle.st_cell.specs.Calls.{Posts, IsToldBy, IsTold, IsServed, Turns, done_as, counted_at};
 ghost use Rattle.st_cell.specs.Cell.{IsOpen, count_for, HasRoom};
 
@@ -260,11 +260,7 @@ impl<M: Module> Journaled<M> {
     fn next(&self, token: Token) -> Next
         ensures { result ≡ (if is_some self.now.cell.scheduled.token then next.Again token else next.Rest) }
     {
-        if self.scheduled.has_token() {
-            Next::Again(token)
-        } else {
-            Next::Rest
-        }
+        self.scheduled.next(token)
     }
 
     /// A port has posted one event more.

@@ -19,9 +19,9 @@ use Rattle.st_answers.specs.declared.done.Done.{Done}
 use Rattle.st_answers.specs.declared.done.Done.TheVariants.{Finished, PutOff, Ended}
 use Rattle.st_answers.specs.declared.entry.Entry.TheVariants as entry
 use Rattle.st_answers.specs.declared.turned.Turned.TheVariants.{Reported, Idle}
-use Rattle.st_cell.specs.declared.journal_entry.JournalEntry.{JournalEntry}
-use Rattle.st_cell.specs.declared.source.Source.{Source}
-use Rattle.st_cell.specs.declared.source.Source.TheVariants as source
+use Rattle.st_journal.specs.declared.journal_entry.JournalEntry.{JournalEntry}
+use Rattle.st_journal.specs.declared.source.Source.{Source}
+use Rattle.st_journal.specs.declared.source.Source.TheVariants as source
 use Rattle.st_diagram.specs.Diagram.{mermaid_of, dot_of}
 use Rattle.st_diagram.specs.Sequence.{sequence_of}
 

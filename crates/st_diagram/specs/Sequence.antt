@@ -13,9 +13,9 @@ use Rattle.st_answers.specs.declared.entry.Entry.{Entry}
 use Rattle.st_answers.specs.declared.entry.Entry.TheVariants as entry
 use Rattle.st_answers.specs.declared.report.Report.{Report}
 use Rattle.st_answers.specs.declared.turned.Turned.TheVariants.{Reported}
-use Rattle.st_cell.specs.declared.journal_entry.JournalEntry.{JournalEntry}
-use Rattle.st_cell.specs.declared.source.Source.{Source}
-use Rattle.st_cell.specs.declared.source.Source.TheVariants as source
+use Rattle.st_journal.specs.declared.journal_entry.JournalEntry.{JournalEntry}
+use Rattle.st_journal.specs.declared.source.Source.{Source}
+use Rattle.st_journal.specs.declared.source.Source.TheVariants as source
 
 -- the first words: the machine is the participant m, shown by this label
 abbrev pub head_with : List ℕ → List ℕ

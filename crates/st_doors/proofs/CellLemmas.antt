@@ -22,9 +22,9 @@ use Rattle.st_scheduled.specs.Serving.{content_of, refused_with, hands_out, is_f
 use Rattle.st_events.proofs.ComparedLemmas.{same_number}
 use Rattle.st_scheduled.proofs.TokensCompared.{some_is, same_id_self}
 use Rattle.st_cell.specs.Calls.{MeetsCall, Turns, entry_of, kept_answer, next_as, served_at}
-use Rattle.st_cell.specs.declared.next.Next.{Next}
-use Rattle.st_cell.specs.declared.source.Source.{Source}
-use Rattle.st_cell.specs.declared.source.Source.TheVariants as source
+use Rattle.st_scheduled.specs.declared.next.Next.{Next}
+use Rattle.st_journal.specs.declared.source.Source.{Source}
+use Rattle.st_journal.specs.declared.source.Source.TheVariants as source
 use Rattle.st_doors.specs.contracts.door.DoorModule.TheImpl.{ghosts}
 use Rattle.st_doors.specs.contracts.door_state.DoorStatePartialEq.TheImpl.{eq-value}
 use Rattle.st_doors.specs.declared.door_content.DoorContent.{DoorContent}

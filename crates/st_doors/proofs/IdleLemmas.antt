@@ -9,7 +9,7 @@ use Rattle.st_events.specs.declared.machine_id.MachineId.{MachineId}
 use Rattle.st_events.specs.declared.message.Message.{Message}
 use Rattle.st_outbox.specs.Outbox.{first_message, has_messages}
 use Rattle.st_scheduled.proofs.TokensCompared.{ids_same}
-use Rattle.st_cell.specs.declared.source.Source.{Source}
+use Rattle.st_journal.specs.declared.source.Source.{Source}
 use Rattle.st_doors.specs.declared.door_content.DoorContent.{DoorContent}
 use Rattle.st_doors.specs.declared.door_state.DoorState.TheVariants.{Locked}
 use Rattle.st_doors.specs.declared.service.Service.{Service}

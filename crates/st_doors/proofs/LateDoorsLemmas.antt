@@ -17,8 +17,8 @@ use Rattle.st_events.specs.declared.refusal.Refusal.TheVariants.{Stopped}
 use Rattle.st_outbox.specs.declared.outbox.Outbox.{Outbox}
 use Rattle.st_outbox.specs.Outbox.{has_messages}
 use Rattle.st_scheduled.specs.ScheduledMachine.{same_id}
-use Rattle.st_cell.specs.declared.source.Source.{Source}
-use Rattle.st_cell.specs.declared.source.Source.TheVariants as source
+use Rattle.st_journal.specs.declared.source.Source.{Source}
+use Rattle.st_journal.specs.declared.source.Source.TheVariants as source
 use Rattle.st_doors.specs.declared.door_content.DoorContent.{DoorContent}
 use Rattle.st_doors.specs.Doors.{DoorAnswer, DoorMachine, History, IsFirst, IsKept, KeptDoor, NamedDoor, SameLabels, all_expired_of, count_in, door_callbacks, door_named, door_of, door_told_by, expired_of, has_name, history_told, is_over, is_ready_door, kept_of, kept_told_by, names_of, slots_of, ticked_doors, told_door, told_kept, without_door}
 use Rattle.st_doors.specs.Entries.{DoorCellState, door_in, machine_in, past_in}

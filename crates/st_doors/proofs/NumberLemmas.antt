@@ -5,7 +5,7 @@ use Rattle.std.proofs.lemmas.List.{map-append}
 use Rattle.std.proofs.lemmas.Slice.Eq.{bytes_eq-Decides}
 use Rattle.st_core.specs.Run.{step_of}
 use Rattle.st_answers.specs.declared.command.Command.{Command}
-use Rattle.st_cell.specs.declared.source.Source.{Source}
+use Rattle.st_journal.specs.declared.source.Source.{Source}
 use Rattle.st_events.specs.declared.machine_id.MachineId.{MachineId}
 use Rattle.st_events.proofs.ComparedLemmas.{same_number}
 use Rattle.st_scheduled.proofs.TokensCompared.{and_false}

@@ -18,7 +18,7 @@ use Rattle.st_events.specs.declared.event.Event.{Event}
 use Rattle.st_events.specs.declared.machine_id.MachineId.{MachineId}
 use Rattle.st_events.specs.declared.refusal.Refusal.{Refusal}
 use Rattle.st_events.specs.declared.tag.Tag.{Tag}
-use Rattle.st_cell.specs.declared.source.Source.{Source}
+use Rattle.st_journal.specs.declared.source.Source.{Source}
 use Rattle.st_doors.specs.contracts.door.DoorModule.TheImpl.{ghosts}
 use Rattle.st_doors.specs.contracts.door_state.DoorStatePartialEq.TheImpl.{eq-value}
 use Rattle.st_doors.specs.declared.door.Door.{Door}

@@ -13,9 +13,9 @@ use Rattle.st_answers.specs.declared.command.Command.TheVariants as command
 use Rattle.st_answers.specs.declared.entry.Entry.TheVariants.{Call, Cast}
 use Rattle.st_answers.specs.declared.turned.Turned.TheVariants.{Reported, Idle}
 use Rattle.st_scheduled.specs.Serving.{hands_out}
-use Rattle.st_cell.specs.declared.journal_entry.JournalEntry.{JournalEntry}
-use Rattle.st_cell.specs.declared.source.Source.{Source}
-use Rattle.st_cell.specs.declared.source.Source.TheVariants as source
+use Rattle.st_journal.specs.declared.journal_entry.JournalEntry.{JournalEntry}
+use Rattle.st_journal.specs.declared.source.Source.{Source}
+use Rattle.st_journal.specs.declared.source.Source.TheVariants as source
 use Rattle.st_doors.specs.declared.door_content.DoorContent.TheVariants.{Button, CodeLength, Length, Nothing, Relay}
 use Rattle.st_requests.specs.declared.collected.Collected.{Collected}
 use Rattle.st_requests.specs.declared.collected.Collected.TheVariants.{Waiting, Reply, Stopped, Gone}

@@ -12,7 +12,7 @@ use Rattle.st_answers.specs.declared.command.Command.{Command}
 use Rattle.st_doors.specs.Doors.{NamedDoor, DoorAnswer, DoorMachine, History, KeptDoor, door_callbacks, door_named, recorded, source_of, DoorEntry}
 use Rattle.st_doors.specs.Past.{with_entries}
 use Rattle.st_cell.specs.Cell.{CellState, IsOpen}
-use Rattle.st_cell.specs.declared.source.Source.{Source}
+use Rattle.st_journal.specs.declared.source.Source.{Source}
 use Rattle.st_scheduled.specs.ScheduledMachine.{ScheduledMachine}
 
 -- what contracts see of a door's `Core`

@@ -9,8 +9,8 @@ use Rattle.st_events.specs.declared.machine_id.MachineId.{MachineId}
 use Rattle.st_events.specs.declared.message.Message.{Message}
 use Rattle.st_outbox.specs.Outbox.{first_message}
 use Rattle.st_scheduled.specs.ScheduledMachine.{same_id}
-use Rattle.st_cell.specs.declared.source.Source.{Source}
-use Rattle.st_cell.specs.declared.source.Source.TheVariants as source
+use Rattle.st_journal.specs.declared.source.Source.{Source}
+use Rattle.st_journal.specs.declared.source.Source.TheVariants as source
 use Rattle.st_doors.specs.declared.door_content.DoorContent.{DoorContent}
 use Rattle.st_doors.specs.declared.places.Places.{Places}
 use Rattle.st_doors.specs.declared.service.Service.{Service}

@@ -8,7 +8,7 @@ ghost use Rattle.st_outbox.specs.Outbox.{first_message};
 ghost use Rattle.st_scheduled.specs.ScheduledMachine.{HasTokenForWork, token_of};
 ghost use Rattle.st_scheduled.specs.Serving.{is_full};
 ghost use Rattle.st_cell.specs.Cell.{IsOpen};
-ghost use Rattle.st_cell.specs.declared.source.Source.TheVariants as source;
+ghost use Rattle.st_journal.specs.declared.source.Source.TheVariants as source;
 ghost use Rattle.st_doors.specs.Doors.{door_callbacks, serves};
 ghost use Rattle.st_doors.specs.Entries.{HasTold, HasToldBy, IsWhole, history_in, machine_in, past_in};
 ghost use Rattle.st_doors.specs.Settling.{CanServe, command_for, message_from, source_for};

@@ -3,8 +3,8 @@ use Rattle.std.specs.Prelude.{Bool, true, false, if◌then◌else◌, Some, None
 use Rattle.st_events.specs.declared.refusal.Refusal.{Refusal}
 use Rattle.st_events.specs.declared.refusal.Refusal.TheVariants.{Exhausted, Moment, NoMemory}
 use Rattle.st_events.specs.declared.token.Token.{Token}
-use Rattle.st_cell.specs.declared.next.Next.{Next}
-use Rattle.st_cell.specs.declared.next.Next.TheVariants.{Again, Rest}
+use Rattle.st_scheduled.specs.declared.next.Next.{Next}
+use Rattle.st_scheduled.specs.declared.next.Next.TheVariants.{Again, Rest}
 use Rattle.st_hall.specs.declared.served.Served.{Served}
 
 -- a machine that refused a turn for this reason has its token outstanding still

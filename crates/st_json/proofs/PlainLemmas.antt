@@ -34,9 +34,9 @@ use Rattle.st_answers.specs.declared.entry.Entry.TheVariants as entry
 use Rattle.st_answers.specs.declared.report.Report.{Report}
 use Rattle.st_answers.specs.declared.turned.Turned.{Turned}
 use Rattle.st_answers.specs.declared.turned.Turned.TheVariants.{Reported, Idle}
-use Rattle.st_cell.specs.declared.journal_entry.JournalEntry.{JournalEntry}
-use Rattle.st_cell.specs.declared.source.Source.{Source}
-use Rattle.st_cell.specs.declared.source.Source.TheVariants as source
+use Rattle.st_journal.specs.declared.journal_entry.JournalEntry.{JournalEntry}
+use Rattle.st_journal.specs.declared.source.Source.{Source}
+use Rattle.st_journal.specs.declared.source.Source.TheVariants as source
 use Rattle.st_json.specs.Forms.{number_data, named_data, pair_data, list_data, option_data, result_data}
 use Rattle.st_json.specs.Events.{id_data, tag_data, timer_data, time_data, decision_data, kind_data, refusal_data, refused_data, message_data, collected_data}
 use Rattle.st_json.specs.Reports.{done_data, setting_data, call_data, last_members, report_data, turned_data}

@@ -18,9 +18,9 @@ use Rattle.st_answers.specs.declared.command.Command.TheVariants as command
 use Rattle.st_answers.specs.declared.done.Done.TheVariants.{Finished}
 use Rattle.st_answers.specs.declared.entry.Entry.TheVariants as entry
 use Rattle.st_answers.specs.declared.turned.Turned.TheVariants.{Reported}
-use Rattle.st_cell.specs.declared.journal_entry.JournalEntry.{JournalEntry}
-use Rattle.st_cell.specs.declared.source.Source.{Source}
-use Rattle.st_cell.specs.declared.source.Source.TheVariants as source
+use Rattle.st_journal.specs.declared.journal_entry.JournalEntry.{JournalEntry}
+use Rattle.st_journal.specs.declared.source.Source.{Source}
+use Rattle.st_journal.specs.declared.source.Source.TheVariants as source
 use Rattle.st_json.specs.Forms.{number_data}
 use Rattle.st_json.specs.Entries.{entry_data}
 

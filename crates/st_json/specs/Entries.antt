@@ -7,9 +7,9 @@ use Rattle.st_answers.specs.declared.command.Command.{Command}
 use Rattle.st_answers.specs.declared.command.Command.TheVariants as command
 use Rattle.st_answers.specs.declared.entry.Entry.{Entry}
 use Rattle.st_answers.specs.declared.entry.Entry.TheVariants as entry
-use Rattle.st_cell.specs.declared.journal_entry.JournalEntry.{JournalEntry}
-use Rattle.st_cell.specs.declared.source.Source.{Source}
-use Rattle.st_cell.specs.declared.source.Source.TheVariants as source
+use Rattle.st_journal.specs.declared.journal_entry.JournalEntry.{JournalEntry}
+use Rattle.st_journal.specs.declared.source.Source.{Source}
+use Rattle.st_journal.specs.declared.source.Source.TheVariants as source
 use Rattle.st_json.specs.Forms.{number_data, named_data, pair_data, option_data, result_data}
 use Rattle.st_json.specs.Events.{id_data, tag_data, refusal_data, refused_data, message_data, collected_data}
 use Rattle.st_json.specs.Reports.{turned_data}

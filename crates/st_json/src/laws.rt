@@ -1,7 +1,7 @@
 //! Laws of entries as JSON. Each is shown once, and calling it does nothing.
 ghost use Rattle.std.specs.Prelude.{ℕ, List};
 ghost use Rattle.serde_json.specs.Read.{max_depth};
-ghost use Rattle.st_cell.specs.declared.journal_entry.JournalEntry.{JournalEntry};
+ghost use Rattle.st_journal.specs.declared.journal_entry.JournalEntry.{JournalEntry};
 ghost use Rattle.st_json.specs.Entries.{entry_data};
 ghost use Rattle.st_json.specs.Lines.{IsPlain, ArePlain};
 

@@ -3,7 +3,7 @@ use Rattle.std.proofs.Common.{◌≡◌, ℕ, ◌+◌, ◌-◌, List, [], ◌∷
 use Rattle.std.specs.Prelude.{Option, Some, None, IfSome, slice_get}
 use Rattle.std.specs.Global.{Box}
 use Rattle.std.proofs.lemmas.List.{map-append, length-map}
-use Rattle.st_cell.specs.declared.post.Post.{Post}
+use Rattle.st_journal.specs.declared.post.Post.{Post}
 use Rattle.st_claim_lock.specs.Holders.{claim_of, Claims, HasNothingOut, HasOut}
 use Rattle.st_claim_lock.specs.declared.holder.Holder.{Holder}
 use Rattle.st_post_counter.specs.Endpoint.{CounterId, EndpointState}

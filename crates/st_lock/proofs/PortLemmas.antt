@@ -30,7 +30,7 @@ use Rattle.st_cell.specs.declared.journal.Journal.{Journal}
 use Rattle.st_cell.specs.declared.look.Look.{Look}
 use Rattle.st_cell.specs.Calls.{IsJournalOf, Posts, look_of}
 use Rattle.st_cell.specs.Cell.{CellState, count_for, IsJournaled, IsOpen}
-use Rattle.st_cell.specs.declared.post.Post.{Post}
+use Rattle.st_journal.specs.declared.post.Post.{Post}
 use Rattle.st_claim_lock.specs.Holders.{lock_id, lock_of, claim_of, Claims, HasOut}
 use Rattle.st_claim_lock.specs.declared.holder.Holder.{Holder}
 use Rattle.st_post_counter.specs.Endpoint.{EndpointState}

@@ -13,7 +13,7 @@ use Rattle.st_cell.specs.Calls.{Delivers, IsJournalOf, IsTold, Posts, TakesOut, 
 use Rattle.st_cell.specs.Cell.{CellState, IsJournaled, IsOpen, count_for}
 use Rattle.st_cell.specs.declared.journal.Journal.{Journal}
 use Rattle.st_cell.specs.declared.look.Look.{Look}
-use Rattle.st_cell.specs.declared.next.Next.{Next}
+use Rattle.st_scheduled.specs.declared.next.Next.{Next}
 use Rattle.st_lock_inner.specs.Service.{Serves}
 use Rattle.st_lock.specs.declared.machine.Machine.{Machine}
 use Rattle.st_lock.specs.declared.vacant_machine.VacantMachine.{VacantMachine}

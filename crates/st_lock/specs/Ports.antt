@@ -2,7 +2,7 @@
 use Rattle.std.specs.Prelude.{◌≡◌, List, [], ◌∷◌, ◌++◌, length}
 use Rattle.std.specs.Arc.{arc_value}
 use Rattle.st_events.specs.declared.machine_id.MachineId.{MachineId}
-use Rattle.st_cell.specs.declared.post.Post.{Post}
+use Rattle.st_journal.specs.declared.post.Post.{Post}
 use Rattle.st_claim_lock.specs.Holders.{lock_id, lock_of, Claims}
 use Rattle.st_post_counter.specs.Seen.{IsPart}
 use Rattle.st_lock.specs.Claims.{claim}

@@ -4,7 +4,7 @@ ghost use Rattle.std.specs.Arc.{arc_value};
 ghost use Rattle.st_events.specs.declared.refusal.Refusal.TheVariants.{NoMemory};
 ghost use Rattle.st_core.specs.Callbacks.{callbacks_of};
 ghost use Rattle.st_scheduled.specs.Answered.{posted_as};
-ghost use Rattle.st_cell.specs.Journal.{numbers_of};
+ghost use Rattle.st_journal.specs.Journal.{numbers_of};
 ghost use Rattle.st_lock_inner.specs.Inner.{EndsWith};
 ghost use Rattle.st_lock.specs.Machines.{id_of, IsLookAt, PostsSomewhere};
 ghost use Rattle.st_lock.specs.Ports.{posted};

@@ -8,10 +8,10 @@ use Rattle.std.proofs.lemmas.Option.{slice_get_read, slice_get_within, slice_get
 use Rattle.std.proofs.Math.Seq.{drop-length, get_or-append_seam}
 use Rattle.st_events.specs.declared.machine_id.MachineId.{MachineId}
 use Rattle.st_core.specs.MachineState.{Machine}
-use Rattle.st_cell.specs.declared.post.Post.{Post}
+use Rattle.st_journal.specs.declared.post.Post.{Post}
 use Rattle.st_cell.specs.Calls.{opened, cut}
 use Rattle.st_cell.specs.Cell.{CellState, IsOpen, count_for, HasPosted, HasPostedNothing}
-use Rattle.st_cell.specs.Journal.{posts_of, numbers_of}
+use Rattle.st_journal.specs.Journal.{posts_of, numbers_of}
 use Rattle.st_post_counter.specs.Endpoint.{CounterId, EndpointState}
 use Rattle.st_post_counter.specs.Seen.{whole, Begins}
 use Rattle.st_lock_inner.specs.Inner.{EndsWith, InnerState, counters_of, inner_at_first, IsEnd, IsInner, HasEnd}

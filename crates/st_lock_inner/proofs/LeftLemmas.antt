@@ -8,8 +8,8 @@ use Rattle.st_core.specs.Callbacks.{Callbacks}
 use Rattle.st_scheduled.specs.declared.posted.Posted.{Posted}
 use Rattle.st_scheduled.specs.Answered.{posted_as}
 use Rattle.st_scheduled.specs.ScheduledMachine.{is_token_of}
-use Rattle.st_cell.specs.declared.next.Next.{Next}
-use Rattle.st_cell.specs.declared.post.Post.{Post}
+use Rattle.st_scheduled.specs.declared.next.Next.{Next}
+use Rattle.st_journal.specs.declared.post.Post.{Post}
 use Rattle.st_cell.specs.Calls.{cut, next_as, served_at, Posts, TakesOut, Turns, TurnsBy}
 use Rattle.st_cell.specs.Cell.{CellState, count_for, HasPosted, HasPostedNothing}
 use Rattle.st_cell.proofs.PostLemmas.{posts_one}

@@ -1,9 +1,9 @@
 -- A machine's cell beside the machine's endpoints on the counters of its ports.
 use Rattle.std.specs.Prelude.{◌≡◌, ◌⊎◌, ℕ, ◌-◌, ◌<◌, ◌&&◌, Bool, Some, List, [], drop, length, map, nat_le, nat_lt, slice_get}
-use Rattle.st_cell.specs.declared.post.Post.{Post}
+use Rattle.st_journal.specs.declared.post.Post.{Post}
 use Rattle.st_cell.specs.Calls.{cut}
 use Rattle.st_cell.specs.Cell.{CellState, cell_at_first, count_for}
-use Rattle.st_cell.specs.Journal.{posts_of}
+use Rattle.st_journal.specs.Journal.{posts_of}
 use Rattle.st_core.specs.Choice.{waiting_of}
 use Rattle.st_core.specs.MachineState.{Machine}
 use Rattle.st_post_counter.specs.Endpoint.{CounterId, EndpointState}

@@ -6,7 +6,7 @@ use Rattle.st_events.specs.declared.token.Token.{Token}
 use Rattle.st_core.specs.Callbacks.{Callbacks}
 use Rattle.st_cell.specs.Calls.{TakesOut, Turns}
 use Rattle.st_cell.specs.Cell.{CellState}
-use Rattle.st_cell.specs.declared.next.Next.{Next}
+use Rattle.st_scheduled.specs.declared.next.Next.{Next}
 use Rattle.st_lock_inner.specs.declared.service.Service.{Service}
 use Rattle.st_lock_inner.specs.declared.service.Service.TheVariants.{Sent, Turned}
 

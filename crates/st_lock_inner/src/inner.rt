@@ -7,7 +7,7 @@ ghost use Rattle.st_scheduled.specs.Answered.{posted_as, ticked_as, replied_as, 
 ghost use Rattle.st_scheduled.specs.ScheduledMachine.{token_of};
 ghost use Rattle.st_cell.specs.Calls.{Posts, IsTold, Turns, TakesOut, Delivers, opened, look_of, cut, is_removable, IsJournalOf};
 ghost use Rattle.st_cell.specs.Cell.{cell_at_first, IsJournaled, IsOpen, count_for};
-ghost use Rattle.st_cell.specs.Journal.{numbers_of};
+ghost use Rattle.st_journal.specs.Journal.{numbers_of};
 ghost use Rattle.st_post_counter.specs.Seen.{whole, part, IsWhole, IsPart};
 ghost use Rattle.st_lock_inner.specs.Inner.{is_long};
 ghost use Rattle.st_lock_inner.specs.Service.{Serves, turned_as};

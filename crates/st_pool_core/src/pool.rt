@@ -1,5 +1,5 @@
 //! A pool, and each of its steps.
-ghost use Rattle.std.specs.Prelude.{◌≡◌, ◌↔◌, true, None};
+ghost use Rattle.std.specs.Prelude.{◌≡◌, None};
 ghost use Rattle.st_events.specs.declared.refusal.Refusal.TheVariants.{NoMemory, NotPossible};
 ghost use Rattle.st_core.specs.Callbacks.{callbacks_of};
 ghost use Rattle.st_pool_core.specs.declared.step.Step.TheVariants as step;
@@ -45,13 +45,6 @@ fn no_memory<S, C>() -> StepAnswer<S, C>
     ensures { result ≡ refused_with NoMemory None }
 {
     StepAnswer::refused(Refusal::NoMemory, None)
-}
-
-/// Says whether a refusal is one for want of memory.
-fn is_no_memory(refusal: Refusal) -> bool
-    ensures { result ≡ true ↔ refusal ≡ NoMemory }
-{
-    matches!(refusal, Refusal::NoMemory)
 }
 
 impl<M: Module> Pool<M> {
@@ -196,17 +189,13 @@ impl<M: Module> Pool<M> {
         } = message;
         match self.machines.post(target, Entry::Info, content) {
             Ok(posted) => StepAnswer::posted(Ok(posted)),
-            Err(refused) if is_no_memory(refused.refusal) => {
-                let message = Message {
-                    sender,
-                    number,
-                    target,
-                    content: refused.value,
-                };
-                self.transit.set(worker, Some(message));
-                no_memory()
-            }
-            Err(refused) => StepAnswer::Lost(refused.refusal),
+            Err(refused) => match StepAnswer::undelivered(sender, number, target, refused) {
+                Ok(lost) => lost,
+                Err(message) => {
+                    self.transit.set(worker, Some(message));
+                    no_memory()
+                }
+            },
         }
     }
 }

@@ -12,8 +12,8 @@ use Rattle.st_answers.specs.declared.command.Command.TheVariants as command
 use Rattle.st_core.specs.Callbacks.{Callbacks}
 use Rattle.st_core.specs.MachineState.{Machine}
 use Rattle.st_core.specs.Run.{takes_memory, without_memory, is_refusal, step_on, Does, Runs}
-use Rattle.st_cell.specs.declared.journal_entry.JournalEntry.{JournalEntry}
-use Rattle.st_cell.specs.Journal.{commands_of, answers_of}
+use Rattle.st_journal.specs.declared.journal_entry.JournalEntry.{JournalEntry}
+use Rattle.st_journal.specs.Journal.{commands_of, answers_of}
 use Rattle.st_replay.specs.Replay.{found_no_memory, FoundMemory, next, after, answers_as, agreeing}
 
 -- ---- counts and lists

@@ -7,7 +7,7 @@ use Rattle.st_answers.specs.declared.answer.Answer.TheVariants as answer
 use Rattle.st_core.specs.Callbacks.{Callbacks}
 use Rattle.st_core.specs.MachineState.{Machine}
 use Rattle.st_core.specs.Run.{step_on}
-use Rattle.st_cell.specs.declared.journal_entry.JournalEntry.{JournalEntry}
+use Rattle.st_journal.specs.declared.journal_entry.JournalEntry.{JournalEntry}
 use Rattle.st_replay.specs.declared.replayed.Replayed.{Replayed}
 use Rattle.st_replay.specs.declared.replayed.Replayed.TheVariants as replayed
 

@@ -5,8 +5,8 @@ ghost use Rattle.st_answers.specs.declared.answer.Answer.{Answer};
 ghost use Rattle.st_core.specs.Callbacks.{Callbacks};
 ghost use Rattle.st_core.specs.MachineState.{Machine};
 ghost use Rattle.st_core.specs.Run.{Runs};
-ghost use Rattle.st_cell.specs.declared.journal_entry.JournalEntry.{JournalEntry};
-ghost use Rattle.st_cell.specs.Journal.{commands_of, answers_of};
+ghost use Rattle.st_journal.specs.declared.journal_entry.JournalEntry.{JournalEntry};
+ghost use Rattle.st_journal.specs.Journal.{commands_of, answers_of};
 ghost use Rattle.st_replay.specs.Replay.{FoundMemory, after, agreeing};
 
 use st_core::Module;

@@ -2,6 +2,7 @@
 //! It knows nothing of other machines, of run queues and of who holds the token.
 #![tactic(auto)]
 
+mod next;
 mod outstanding;
 mod posted;
 mod scheduled_machine;
@@ -10,6 +11,7 @@ mod step_answer;
 mod telling;
 mod ticked;
 
+pub use next::Next;
 pub use outstanding::Outstanding;
 pub use posted::Posted;
 pub use scheduled_machine::ScheduledMachine;

@@ -1,11 +1,12 @@
 //! A machine that workers serve.
-ghost use Rattle.std.specs.Prelude.{◌≡◌, is_some, IfOk, IfErr};
+ghost use Rattle.std.specs.Prelude.{◌≡◌, is_some, IfOk, IfErr, if◌then◌else◌};
 ghost use Rattle.st_events.specs.declared.refusal.Refusal.TheVariants.{NoMemory};
 ghost use Rattle.std.specs.Option.{option_to_list};
 ghost use Rattle.st_scheduled.specs.ScheduledMachine.{id_of, token_of, is_token_of, is_callers, callers_token, moved, has_work};
+ghost use Rattle.st_scheduled.specs.declared.next.Next.TheVariants as next;
 ghost use Rattle.st_scheduled.specs.Serving.{is_full, woken, wake_of, scheduled_at_first};
 
-use crate::Outstanding;
+use crate::{Next, Outstanding};
 use st_core::{Core, Snapshot};
 use st_events::{MachineId, Module, NUMBER_LIMIT, Refusal, Token};
 use std::marker::Model;
@@ -106,6 +107,19 @@ impl<M: Module> ScheduledMachine<M> {
         ensures { result ≡ is_some self.now.token }
     {
         self.token.is_some()
+    }
+
+    /// What becomes of the token by which it was served.
+    ///
+    /// Ours: docs/DECISIONS.md, Tokens.
+    pub fn next(&self, token: Token) -> Next
+        ensures { result ≡ (if is_some self.now.token then next.Again token else next.Rest) }
+    {
+        if self.has_token() {
+            Next::Again(token)
+        } else {
+            Next::Rest
+        }
     }
 
     /// Says whether a token is its outstanding one.

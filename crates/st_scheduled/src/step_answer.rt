@@ -1,11 +1,13 @@
 //! What a step of a pool, or a call of one machine, is answered.
-ghost use Rattle.std.specs.Prelude.{◌≡◌};
+ghost use Rattle.std.specs.Prelude.{◌≡◌, ◌↔◌, true, IfOk, IfErr};
+ghost use Rattle.st_events.specs.declared.refusal.Refusal.TheVariants.{NoMemory};
 ghost use Rattle.st_scheduled.specs.Serving.{refused_with};
+ghost use Rattle.st_scheduled.specs.declared.step_answer.StepAnswer.TheVariants as said;
 ghost use Rattle.st_scheduled.specs.Answered.{posted_as, ticked_as, served_as, replied_as, collected_as, stopped_as, taken_out_as};
 
 use crate::{Posted, Served, Ticked};
 use st_core::{Module, Report};
-use st_events::{Message, Refusal, Refused, Token};
+use st_events::{MachineId, Message, Refusal, Refused, Token};
 use st_requests::Collected;
 
 /// What a step is answered at a machine of this module.
@@ -143,4 +145,39 @@ impl<S, C> StepAnswer<S, C> {
             Err(refusal) => StepAnswer::refused(refusal, None),
         }
     }
+}
+
+impl<S, C: Drop> StepAnswer<S, C> {
+    /// What comes of it that a message, of this sender and number, was refused by its target: it is lost for this reason.
+    /// Where memory was wanted and there was none, the message comes back, to be delivered again.
+    ///
+    /// Ours: docs/DECISIONS.md, Messages.
+    pub fn undelivered(
+        sender: MachineId,
+        number: u64,
+        target: MachineId,
+        refused: Refused<C>,
+    ) -> Result<StepAnswer<S, C>, Message<C>>
+        ensures lost { IfOk result (λ answer. (answer ≡ said.Lost refused.refusal) × (refused.refusal ≡ NoMemory → ⊥)) }
+
+        ensures again { IfErr result (λ message. (refused.refusal ≡ NoMemory) × (message ≡ record { sender = sender; number = number; target = target; content = refused.value })) }
+    {
+        if is_no_memory(refused.refusal) {
+            Err(Message {
+                sender,
+                number,
+                target,
+                content: refused.value,
+            })
+        } else {
+            Ok(StepAnswer::Lost(refused.refusal))
+        }
+    }
+}
+
+/// Says whether a refusal is one for want of memory.
+fn is_no_memory(refusal: Refusal) -> bool
+    ensures { result ≡ true ↔ refusal ≡ NoMemory }
+{
+    matches!(refusal, Refusal::NoMemory)
 }

@@ -3,7 +3,7 @@ use Rattle.std.specs.Prelude.{◌≡◌, ℕ, Result, Ok, Err}
 use Rattle.st_events.specs.declared.machine_id.MachineId.{MachineId}
 use Rattle.st_core.specs.Callbacks.{Callbacks}
 use Rattle.st_answers.specs.declared.entry.Entry.{Entry}
-use Rattle.st_cell.specs.declared.post.Post.{Post}
+use Rattle.st_journal.specs.declared.post.Post.{Post}
 use Rattle.st_scheduled.specs.declared.posted.Posted.{Posted}
 use Rattle.st_lock.specs.Bounded.{PostsWithin}
 use Rattle.st_lock.specs.Ports.{PortState, posted}

@@ -1,6 +1,6 @@
 -- The report of a turn.
 use Rattle.std.specs.Prelude.{Option, Some, None, Ok, Result}
-use Rattle.st_cell.specs.declared.journal_entry.JournalEntry.{JournalEntry}
+use Rattle.st_journal.specs.declared.journal_entry.JournalEntry.{JournalEntry}
 use Rattle.st_answers.specs.declared.answer.Answer.{Answer}
 use Rattle.st_answers.specs.declared.answer.Answer.TheVariants as answer
 use Rattle.st_answers.specs.declared.report.Report.{Report}

@@ -2,7 +2,7 @@
 use Rattle.std.proofs.Common.{◌≡◌, ℕ, ◌+◌, ◌≤◌, ◌^◌, ◌<◌, List, [], ◌∷◌, ◌++◌, length, get_or, drop, suc, sym, ap, ◌∙◌, add-one, arith, append_assoc, append-nil}
 use Rattle.std.proofs.Math.Seq.{drop-cons}
 use Rattle.std.proofs.lemmas.List.{drop_all}
-use Rattle.st_cell.specs.declared.journal_entry.JournalEntry.{JournalEntry}
+use Rattle.st_journal.specs.declared.journal_entry.JournalEntry.{JournalEntry}
 use Rattle.st_trace.specs.Entries.{latest_after}
 use Rattle.st_trace.specs.declared.totals.Totals.{Totals}
 use Rattle.st_trace.specs.Trace.{entry_line, entry_lines, summary_line}

@@ -21,8 +21,8 @@ use Rattle.st_answers.specs.declared.done.Done.TheVariants.{Finished, PutOff, En
 use Rattle.st_answers.specs.declared.entry.Entry.{Entry}
 use Rattle.st_answers.specs.declared.entry.Entry.TheVariants as entry
 use Rattle.st_answers.specs.declared.turned.Turned.TheVariants.{Reported}
-use Rattle.st_cell.specs.declared.journal_entry.JournalEntry.{JournalEntry}
-use Rattle.st_cell.specs.declared.source.Source.TheVariants as source
+use Rattle.st_journal.specs.declared.journal_entry.JournalEntry.{JournalEntry}
+use Rattle.st_journal.specs.declared.source.Source.TheVariants as source
 use Rattle.st_trace.specs.Trace.{entry_line, trace_of}
 use Rattle.st_trace.specs.Totals.{totals_of}
 

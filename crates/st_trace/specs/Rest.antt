@@ -18,9 +18,9 @@ use Rattle.st_answers.specs.declared.done.Done.TheVariants.{Started, Finished, P
 use Rattle.st_answers.specs.declared.entry.Entry.{Entry}
 use Rattle.st_answers.specs.declared.entry.Entry.TheVariants as entry
 use Rattle.st_answers.specs.declared.report.Report.{Report}
-use Rattle.st_cell.specs.declared.journal_entry.JournalEntry.{JournalEntry}
-use Rattle.st_cell.specs.declared.source.Source.{Source}
-use Rattle.st_cell.specs.declared.source.Source.TheVariants as source
+use Rattle.st_journal.specs.declared.journal_entry.JournalEntry.{JournalEntry}
+use Rattle.st_journal.specs.declared.source.Source.{Source}
+use Rattle.st_journal.specs.declared.source.Source.TheVariants as source
 use Rattle.st_trace.specs.Columns.{hyphen}
 use Rattle.st_trace.specs.Entries.{report_as}
 

@@ -1,7 +1,7 @@
 use Rattle.std.proofs.Common.{[], ◌∷◌, arith, sym, ap, ◌∙◌, append-nil}
 use Rattle.std.proofs.lemmas.List.{take_all}
 use Rattle.std.specs.Option.{option_to_list}
-use Rattle.st_cell.specs.Journal.{numbers_of, posts_of}
+use Rattle.st_journal.specs.Journal.{numbers_of, posts_of}
 use Rattle.st_cell.proofs.JournalLemmas.{numbers_next}
 use Rattle.st_cell.proofs.reading.numbers_in.Goals as goal
 use Rattle.st_cell.proofs.reading.numbers_in.Goals.{in-Some+in_ok-push, in_default}

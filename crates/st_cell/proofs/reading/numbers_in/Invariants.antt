@@ -1,5 +1,5 @@
 use Rattle.std.proofs.Common.{◌≡◌, take}
-use Rattle.st_cell.specs.Journal.{numbers_of, posts_of}
+use Rattle.st_journal.specs.Journal.{numbers_of, posts_of}
 use Rattle.st_cell.proofs.reading.numbers_in.Given as goal
 
 -- the numbers so far

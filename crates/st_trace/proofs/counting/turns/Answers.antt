@@ -2,7 +2,7 @@ use Rattle.std.proofs.Common.{rules, inl, length, ap, ◌∙◌}
 use Rattle.std.proofs.lemmas.Iterator.{YieldsList-from_slice}
 use Rattle.std.proofs.lemmas.Iterator.Consumers.{YieldsList-at, YieldsList-from_filter, count_from_yields_List}
 use Rattle.std.proofs.lemmas.List.Sums.{length-filter}
-use Rattle.st_cell.specs.declared.journal_entry.JournalEntry.{JournalEntry}
+use Rattle.st_journal.specs.declared.journal_entry.JournalEntry.{JournalEntry}
 use Rattle.st_trace.specs.Totals.{is_turn}
 use Rattle.st_trace.proofs.TraceLemmas.{in_word}
 use Rattle.st_trace.proofs.counting.turns.Goals as goal

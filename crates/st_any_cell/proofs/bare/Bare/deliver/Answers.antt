@@ -6,7 +6,7 @@ use Rattle.st_answers.specs.declared.command.Command.TheVariants as command
 use Rattle.st_answers.specs.declared.entry.Entry.TheVariants.{Info}
 use Rattle.st_core.specs.Callbacks.{callbacks_of}
 use Rattle.st_scheduled.specs.Answered.{posted_as}
-use Rattle.st_cell.specs.declared.source.Source.TheVariants as source
+use Rattle.st_journal.specs.declared.source.Source.TheVariants as source
 use Rattle.st_cell.specs.Calls.{Delivers}
 use Rattle.st_any_cell.specs.AnyCell.{bare, bare_cell, IsCutBehind}
 use Rattle.st_any_cell.proofs.BareLemmas.{bare_told, told_takes}

@@ -1,7 +1,7 @@
 use Rattle.st_answers.specs.declared.command.Command.TheVariants as command
 use Rattle.st_core.specs.Callbacks.{callbacks_of}
 use Rattle.st_scheduled.specs.Answered.{stopped_as}
-use Rattle.st_cell.specs.declared.source.Source.TheVariants as source
+use Rattle.st_journal.specs.declared.source.Source.TheVariants as source
 use Rattle.st_any_cell.proofs.BareLemmas.{bare_told, stop_free}
 use Rattle.st_any_cell.proofs.bare.Bare.stop.Goals as goal
 

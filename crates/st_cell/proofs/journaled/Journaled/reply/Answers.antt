@@ -5,7 +5,7 @@ use Rattle.st_core.specs.Callbacks.{callbacks_of}
 use Rattle.st_scheduled.specs.declared.step_answer.StepAnswer.TheVariants as step
 use Rattle.st_scheduled.specs.Answered.{replied_as}
 use Rattle.st_scheduled.specs.Serving.{refused_with}
-use Rattle.st_cell.specs.declared.source.Source.TheVariants as source
+use Rattle.st_journal.specs.declared.source.Source.TheVariants as source
 use Rattle.st_cell.proofs.TellingLemmas.{room_told, told_unwritten, told_untaken, told_unprepared, told_written, room_more, places_got, room_written, room_unwritten}
 use Rattle.st_cell.proofs.journaled.Journaled.reply.Goals as goal
 

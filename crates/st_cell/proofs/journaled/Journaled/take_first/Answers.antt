@@ -5,7 +5,7 @@ use Rattle.st_core.specs.Callbacks.{callbacks_of}
 use Rattle.st_scheduled.specs.declared.step_answer.StepAnswer.TheVariants as step
 use Rattle.st_scheduled.specs.Answered.{taken_out_as}
 use Rattle.st_scheduled.specs.Serving.{refused_with}
-use Rattle.st_cell.specs.declared.source.Source.TheVariants as source
+use Rattle.st_journal.specs.declared.source.Source.TheVariants as source
 use Rattle.st_cell.proofs.TellingLemmas.{room_told, told_left, told_untaken, told_unprepared, told_written, kept_told, room_more, places_got, room_written, room_left}
 use Rattle.st_cell.proofs.journaled.Journaled.take_first.Goals as goal
 

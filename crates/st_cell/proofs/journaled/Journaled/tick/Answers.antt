@@ -7,7 +7,7 @@ use Rattle.st_scheduled.specs.declared.step_answer.StepAnswer.TheVariants as ste
 use Rattle.st_scheduled.specs.Answered.{ticked_as}
 use Rattle.st_scheduled.specs.Serving.{refused_with}
 use Rattle.st_scheduled.proofs.LeftStates.{tick_ended}
-use Rattle.st_cell.specs.declared.source.Source.TheVariants as source
+use Rattle.st_journal.specs.declared.source.Source.TheVariants as source
 use Rattle.st_cell.specs.Calls.{IsTold}
 use Rattle.st_cell.proofs.CallLemmas.{got_places}
 use Rattle.st_cell.proofs.TellingLemmas.{room_told, told_unwritten, told_untaken, told_unprepared, told_written, written_after, room_more, room_written, room_got}

@@ -3,7 +3,7 @@ use Rattle.std.specs.Prelude.{IfOk}
 use Rattle.std.specs.Arc.{arc_value}
 use Rattle.st_core.specs.Callbacks.{callbacks_of}
 use Rattle.st_cell.specs.Cell.{IsOpen, count_for}
-use Rattle.st_cell.specs.Journal.{numbers_of}
+use Rattle.st_journal.specs.Journal.{numbers_of}
 use Rattle.st_claim_lock.specs.Holders.{lock_id}
 use Rattle.st_lock_inner.specs.Inner.{EndsWith, InnerState, HasEnd, counters_of}
 use Rattle.st_lock.specs.Machines.{id_of}

@@ -1,8 +1,8 @@
 use Rattle.std.proofs.Common.{◌≡◌, ℕ, ◌-◌, List, refl, ap, sym, ◌∙◌, subst}
-use Rattle.st_cell.specs.declared.post.Post.{Post}
+use Rattle.st_journal.specs.declared.post.Post.{Post}
 use Rattle.st_cell.specs.Calls.{look_of}
 use Rattle.st_cell.specs.Cell.{IsOpen, count_for}
-use Rattle.st_cell.specs.Journal.{numbers_of, posts_of}
+use Rattle.st_journal.specs.Journal.{numbers_of, posts_of}
 use Rattle.st_lock_inner.specs.Inner.{EndsWith, InnerState, counters_of}
 use Rattle.st_lock_inner.proofs.InnerLemmas.{found_at, inner_same, counters_set, numbers_end}
 use Rattle.st_lock_inner.proofs.inner.Inner.look.Goals as goal

@@ -1,7 +1,7 @@
 use Rattle.std.proofs.Common.{Ok, Err, ◌≡◌, ℕ, ◌+◌, ◌-◌, ◌≤◌, List, [], ◌∷◌, ◌++◌, length, refl, ap, sym, ◌∙◌, subst, arith, length-append, set}
 use Rattle.st_core.specs.Callbacks.{callbacks_of}
 use Rattle.st_scheduled.specs.Answered.{posted_as}
-use Rattle.st_cell.specs.declared.post.Post.{Post}
+use Rattle.st_journal.specs.declared.post.Post.{Post}
 use Rattle.st_cell.specs.Calls.{Posts}
 use Rattle.st_cell.specs.Cell.{IsOpen, count_for}
 use Rattle.st_post_counter.specs.Seen.{whole, part, Begins}

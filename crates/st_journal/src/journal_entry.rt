@@ -1,10 +1,10 @@
 //! An entry of a journal.
-ghost use Rattle.std.specs.Prelude.{◌≡◌};
+ghost use Rattle.std.specs.Prelude.{◌≡◌, ◌<◌, ◌∷◌, [], ◌++◌, length, vec_capacity};
 ghost use Rattle.std.specs.Option.{option_to_list};
-ghost use Rattle.st_cell.specs.Journal.{numbers_of, posted_in};
+ghost use Rattle.st_journal.specs.Journal.{numbers_of, posted_in};
 
 use crate::Source;
-use st_core::{Answer, Command};
+use st_answers::{Answer, Command};
 
 /// One command that a machine took, with what it answered.
 ///
@@ -19,6 +19,30 @@ pub struct JournalEntry<S, C> {
     pub command: Command<C>,
     /// What the machine answered.
     pub answer: Answer<S, C>,
+}
+
+impl<S: Drop, C: Drop> JournalEntry<S, C> {
+    /// Writes an entry behind those of a journal, which has a place for it. It takes no memory.
+    ///
+    /// Ours: docs/DECISIONS.md, Journals.
+    pub fn write(
+        journal: &mut Vec<JournalEntry<S, C>>,
+        number: u64,
+        source: Source,
+        command: Command<C>,
+        answer: Answer<S, C>,
+    )
+        requires { length journal.old.items < vec_capacity journal.old }
+        ensures written { journal.new.items ≡ journal.old.items ++ record { number = number; source = source; command = command; answer = answer } ∷ [] }
+        ensures places { vec_capacity journal.new ≡ vec_capacity journal.old }
+    {
+        journal.push_reserved(JournalEntry {
+            number,
+            source,
+            command,
+            answer,
+        });
+    }
 }
 
 impl<S, C> JournalEntry<S, C> {

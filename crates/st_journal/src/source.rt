@@ -1,6 +1,6 @@
 //! Where an entry of a journal came from.
 ghost use Rattle.std.specs.Prelude.{◌≡◌};
-ghost use Rattle.st_cell.specs.Journal.{is_port};
+ghost use Rattle.st_journal.specs.Journal.{is_port};
 
 use st_events::MachineId;
 

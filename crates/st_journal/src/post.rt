@@ -1,6 +1,6 @@
 //! An event that was posted.
 
-use st_core::Entry;
+use st_answers::Entry;
 
 /// An event that was posted: its number, how it was posted, and its content.
 ///
