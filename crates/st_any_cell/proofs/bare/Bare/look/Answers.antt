@@ -2,10 +2,6 @@ use Rattle.std.proofs.Common.{refl}
 use Rattle.std.proofs.lemmas.Result.{err_from_is_err_and}
 use Rattle.st_any_cell.proofs.bare.Bare.look.Goals as goal
 
--- the port is open
-pub count_for-requires : goal.count_for-requires
-count_for-requires g c = c.requires
-
 -- each field is read off the machine, and there are no numbers
 pub returns-clause-look : goal.returns-clause-look
 returns-clause-look g c =

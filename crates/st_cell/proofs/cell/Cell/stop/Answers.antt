@@ -7,10 +7,6 @@ use Rattle.st_cell.proofs.CellLemmas.{is_told_kept, told_unchanged, told_open}
 use Rattle.st_cell.proofs.PostLemmas.{told_nothing}
 use Rattle.st_cell.proofs.cell.Cell.stop.Goals as goal
 
--- there is a place for the entry
-pub stop-requires : goal.stop-requires
-stop-requires g c = c.self.invariant.room
-
 -- it stays a cell
 pub invariant_of-self : goal.invariant_of-self
 invariant_of-self g c = record {

@@ -19,10 +19,6 @@ returns-clause-look g c =
       ← c.self.view_is,
     ) refl
 
--- the port is open
-pub count_for-requires : goal.count_for-requires
-count_for-requires g c = c.requires
-
 pub returns-clause-refusals : goal.returns-clause-refusals
 returns-clause-refusals g c = tt
 
