@@ -17,16 +17,17 @@ returns-in-Ok g c =
     c.in-Ok.posted c.post.new.self (sym c.take.ensures.message ∙ c.in-Some.is) (rw c.in-Ok.is at c.post.ensures))
 
 -- there was no memory, and the worker carries it still
-pub returns-in-Err : goal.returns-in-Err
-returns-in-Err g c =
-    rw (← c.self.view_is, c.no_memory.ensures, c.set.ensures, c.in-Some.ensures.left) (delivers-again (callbacks_of g.M.Module g.M.State.PartialEq.eq)
+pub returns-in-Err-undelivered : goal.returns-in-Err-undelivered
+returns-in-Err-undelivered g c =
+    let again = c.in-Err-undelivered.ensures.again in
+    rw (← c.self.view_is, c.no_memory.ensures, c.set.ensures, again.1, c.in-Some.ensures.left) (delivers-again (callbacks_of g.M.Module g.M.State.PartialEq.eq)
     (record { machines = c.self.inside.machines; queues = c.self.inside.queues; transit = c.self.inside.transit }) c.args.worker c.in-Some.message
-    c.in-Err.refused c.post.new.self (sym c.take.ensures.message ∙ c.in-Some.is) (c.is_no_memory.ensures.0 c.if-is_no_memory.true) (rw c.in-Err.is at c.post.ensures))
+    c.in-Err.refused c.post.new.self (sym c.take.ensures.message ∙ c.in-Some.is) again.0 (rw c.in-Err.is at c.post.ensures))
 
 -- its target is not there, or refused it
-pub returns-in-Err-2 : goal.returns-in-Err-2
-returns-in-Err-2 g c =
-    rw (← c.self.view_is, c.in-Some.ensures.left) (delivers-refused (callbacks_of g.M.Module g.M.State.PartialEq.eq)
+pub returns-in-Ok-undelivered : goal.returns-in-Ok-undelivered
+returns-in-Ok-undelivered g c =
+    let lost = c.in-Ok-undelivered.ensures.lost in
+    rw (← c.self.view_is, lost.0, c.in-Some.ensures.left) (delivers-refused (callbacks_of g.M.Module g.M.State.PartialEq.eq)
     (record { machines = c.self.inside.machines; queues = c.self.inside.queues; transit = c.self.inside.transit }) c.args.worker c.in-Some.message
-    c.in-Err.refused c.post.new.self (sym c.take.ensures.message ∙ c.in-Some.is)
-    (λ same. let is = c.is_no_memory.ensures.1 same in let not = c.if-is_no_memory.false in cc) (rw c.in-Err.is at c.post.ensures))
+    c.in-Err.refused c.post.new.self (sym c.take.ensures.message ∙ c.in-Some.is) lost.1 (rw c.in-Err.is at c.post.ensures))
