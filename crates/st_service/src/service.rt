@@ -74,12 +74,22 @@ where
         let Ok(start) = Instant::now(&rt) else {
             return Err(AllocError);
         };
-        let keeps = options.journals.are_kept() || observer.observes();
-        let ground = Ground::new(rt, alloc, start, keeps)?;
-        let served = ground.served(rt, alloc, observer, options.journals.limit())?;
-        let pool = TickedPool::start(rt, alloc, workers, &served, &ground.ticker)?;
-        let link = ground.link(rt, alloc, pool.pool().scheduler()?, &served)?;
-        let Ground { hall, ticker, .. } = ground;
+        let Ok(ground) = Ground::new(rt, alloc, start, options.journals, observer) else {
+            return Err(AllocError);
+        };
+        let pool = TickedPool::start(rt, alloc, workers, &ground.served, &ground.ticker);
+        let Ok(pool) = pool else {
+            return Err(AllocError);
+        };
+        let Ok(link) = ground.link(rt, alloc, pool.pool()) else {
+            return Err(AllocError);
+        };
+        let Ground {
+            hall,
+            ticker,
+            served,
+            ..
+        } = ground;
         Ok(Service {
             rt,
             alloc,

@@ -34,12 +34,23 @@ where
         ensures joined { HasEnded self.new.pool }
     {
         self.link.close();
-        let end = self.pool.close()?;
+        let Ok(end) = self.pool.close() else {
+            return Err(AllocError);
+        };
         self.shutting.take_over(end);
+        match self.finish(reason) {
+            Ok(()) => Ok(self.told()),
+            Err(none) => Err(none),
+        }
+    }
+
+    /// What is left is handled, handed out and stopped.
+    fn finish(&mut self, reason: Reason) -> Result<(), AllocError>
+        ensures same { self.new.pool ≡ self.old.pool }
+    {
         self.serve_rest()?;
         self.hand_out_all()?;
-        self.stop_each(reason)?;
-        Ok(self.told())
+        self.stop_each(reason)
     }
 
     /// What waits is handled, up to so many turns.
