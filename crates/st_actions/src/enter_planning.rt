@@ -35,9 +35,12 @@ pub fn plan_enter<C: Drop>(
         return Err(AllocFailed { value: actions });
     };
     let Ok(mut replies) = SmallListBuilder::with_reserved(alloc, count) else {
+        drop(noted);
         return Err(AllocFailed { value: actions });
     };
     let Ok(mut settings) = SmallListBuilder::with_reserved(alloc, count) else {
+        drop(replies);
+        drop(noted);
         return Err(AllocFailed { value: actions });
     };
     // The last action comes first, for of all that is asked of one timer the last decides.

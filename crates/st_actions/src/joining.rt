@@ -44,21 +44,31 @@ pub fn join<C: Drop>(
         });
     };
     let Ok(mut inserts) = reserved_for(alloc, &first.inserts, &second.inserts) else {
+        drop(replies);
         return Err(AllocFailed {
             value: (first, second),
         });
     };
     let Ok(mut settings) = reserved_for(alloc, &first.requests, &second.requests) else {
+        drop(inserts);
+        drop(replies);
         return Err(AllocFailed {
             value: (first, second),
         });
     };
     let Ok(mut sends) = reserved_for(alloc, &first.sends, &second.sends) else {
+        drop(settings);
+        drop(inserts);
+        drop(replies);
         return Err(AllocFailed {
             value: (first, second),
         });
     };
     let Ok(later) = timers_of(alloc, &second.requests) else {
+        drop(sends);
+        drop(settings);
+        drop(inserts);
+        drop(replies);
         return Err(AllocFailed {
             value: (first, second),
         });

@@ -35,15 +35,25 @@ pub fn plan<C: Drop>(
         return Err(AllocFailed { value: actions });
     };
     let Ok(mut replies) = SmallListBuilder::with_reserved(alloc, count) else {
+        drop(noted);
         return Err(AllocFailed { value: actions });
     };
     let Ok(mut inserts) = SmallListBuilder::with_reserved(alloc, count) else {
+        drop(replies);
+        drop(noted);
         return Err(AllocFailed { value: actions });
     };
     let Ok(mut settings) = SmallListBuilder::with_reserved(alloc, count) else {
+        drop(inserts);
+        drop(replies);
+        drop(noted);
         return Err(AllocFailed { value: actions });
     };
     let Ok(mut sends) = SmallListBuilder::with_reserved(alloc, count) else {
+        drop(settings);
+        drop(inserts);
+        drop(replies);
+        drop(noted);
         return Err(AllocFailed { value: actions });
     };
     // The last action comes first: of the postpones the last decides, and of all that is asked of one timer.
