@@ -1,11 +1,11 @@
-//! What a cell is asked, and what it answers.
-use super::begun::ID;
+//! What a cell or a shared machine is asked, and what it answers.
+use super::reading::Reading;
 use st_core::{Collected, Entry, MachineId, Message, Reason, Refusal, Refused, Tag};
 use st_events::Token;
 use st_lock::{Journal, Look, Next, Service};
 use st_scheduled::{Posted, Ticked};
 
-/// A call of a cell, which can be made again.
+/// A call of a cell or of a shared machine, which can be made again.
 #[derive(Clone, Copy)]
 pub enum Asked {
     Port,
@@ -22,10 +22,27 @@ pub enum Asked {
     Stop(Reason),
     Look(u64),
     Journal(&'static str),
+    HandOut(&'static str),
     Cut,
     Ports,
     Token,
     Removable,
+    Read,
+    Count,
+}
+
+impl Asked {
+    /// Says whether this is what a look shows that takes no memory, so that it is never refused.
+    pub fn is_read(&self) -> bool {
+        match self {
+            Asked::Ports => true,
+            Asked::Token => true,
+            Asked::Removable => true,
+            Asked::Read => true,
+            Asked::Count => true,
+            _ => false,
+        }
+    }
 }
 
 /// An answer that is compared as a whole.
@@ -44,11 +61,13 @@ pub enum Answered {
     Ports(usize),
     Token(Option<Token>),
     Removable(bool),
+    Read(Reading),
+    Count(u64),
     /// There is no look.
     Unseen(Refusal),
-    /// There is no copy of the journal.
+    /// There is no copy of the journal, and it is not handed out.
     Uncopied(Refusal),
-    /// No call was made, for the port is not open.
+    /// No call was made: the port is not open, or this is not told.
     NotOpen,
     /// What no call answers: a look or a copy is wanted, which is compared part by part.
     InParts,
@@ -75,26 +94,26 @@ impl Answered {
     }
 }
 
-/// A message to the machine.
-fn delivered(sender: MachineId, number: u64, content: u32) -> Message<u32> {
+/// A message to the machine of this id.
+fn delivered(id: MachineId, sender: MachineId, number: u64, content: u32) -> Message<u32> {
     Message {
         sender,
         number,
-        target: ID,
+        target: id,
         content,
     }
 }
 
-/// What a call answers that is refused, with what it was given. The last three are never refused, and have no such
-/// answer.
-pub fn refused(asked: Asked, refusal: Refusal) -> Answered {
+/// What a call of the machine of this id answers that is refused, with what it was given. What is only read is never
+/// refused, and has no such answer.
+pub fn refused(id: MachineId, asked: Asked, refusal: Refusal) -> Answered {
     match asked {
         Asked::Port => Answered::Port(Err(refusal)),
         Asked::Post(_, _, content) => Answered::Posted(Err(Refused::new(refusal, content))),
         Asked::Turn(token, _) => Answered::Turned(Err(Refused::new(refusal, token))),
         Asked::TakeOut(token) => Answered::TakenOut(Err(Refused::new(refusal, token))),
         Asked::Deliver(sender, number, content) => {
-            let message = delivered(sender, number, content);
+            let message = delivered(id, sender, number, content);
             Answered::Delivered(Err(Refused::new(refusal, message)))
         }
         Asked::Serve(token, _) => Answered::Turned(Err(Refused::new(refusal, token))),
@@ -103,9 +122,9 @@ pub fn refused(asked: Asked, refusal: Refusal) -> Answered {
         Asked::Reply(_, content) => Answered::Replied(Err(Refused::new(refusal, content))),
         Asked::Stop(_) => Answered::Stopped(Err(refusal)),
         Asked::Look(_) => Answered::Unseen(refusal),
-        Asked::Journal(_) => Answered::Uncopied(refusal),
+        Asked::Journal(_) | Asked::HandOut(_) => Answered::Uncopied(refusal),
         Asked::Cut => Answered::Cut(Err(refusal)),
-        Asked::Ports | Asked::Token | Asked::Removable => Answered::NotOpen,
+        _ => Answered::NotOpen,
     }
 }
 
@@ -123,6 +142,15 @@ impl Given {
         match self {
             Given::Answer(answered) => answered.refusal(),
             _ => None,
+        }
+    }
+
+    /// Says whether a call was made, and not refused.
+    pub fn is_done(&self) -> bool {
+        match self {
+            Given::Answer(Answered::NotOpen) => false,
+            Given::Answer(answered) => answered.refusal().is_none(),
+            _ => true,
         }
     }
 
@@ -152,7 +180,7 @@ pub fn looked(look: Result<Look<u32, u32>, Refusal>) -> Given {
     }
 }
 
-/// What a copy of the journal came to.
+/// What it came to that the journal was copied or handed out.
 pub fn copied(journal: Result<Journal<u32, u32>, Refusal>) -> Given {
     match journal {
         Ok(journal) => Given::Journal(journal),

@@ -1,14 +1,9 @@
-//! How a cell of a test begins.
+//! How a cell or a machine of a test begins.
 use super::host::{Host, got, holds};
-use super::pair::Pair;
-use super::plain::{OTHER, Plain};
-use super::row::Row;
-use super::twin::{snapshot_of, steps};
-use st_core::{
-    Answer, Command, Core, Entry, MachineId, MachineState, Refusal, Refused, Start, Tag,
-};
+use super::kept::Kept;
+use super::twin::{Twin, snapshot_of, started, steps};
+use st_core::{Answer, Command, Entry, MachineId, MachineState, Refusal, Tag};
 use st_events::Token;
-use st_lock::Cell;
 use std::alloc::Global;
 use std::process::Abort;
 
@@ -80,130 +75,74 @@ pub fn is_made_again(rt: &Host<impl Abort>, refusal: Refusal) {
     rt.retry();
 }
 
-/// Makes the call of a start, at the moment 0. Where it finds no memory, it is made again.
-fn start(
-    rt: &Host<impl Abort>,
-    alloc: Global,
-    id: MachineId,
-    first: u64,
-) -> Result<Start<Plain>, Refused<Plain>> {
-    holds(rt, "the first number is above 0", first >= 1);
-    holds(rt, "the first number is below 2^63", first < 1 << 63);
-    let refused = match Core::start_from(alloc, Plain, id, &(), 0, first) {
-        Ok(started) => return Ok(started),
-        Err(refused) => refused,
-    };
-    if refused.refusal != Refusal::NoMemory {
-        return Err(refused);
-    }
-    rt.retry();
-    Core::start_from(alloc, Plain, id, &(), 0, first)
+/// How a cell begins: the id of its machine, the number that the first event gets, the contents of the casts that were
+/// posted, and the token, if it is issued one.
+#[derive(Clone, Copy)]
+pub struct Begin {
+    pub id: MachineId,
+    pub first: u64,
+    pub contents: &'static [u32],
+    pub wake: Option<Token>,
 }
 
-/// The machine that was started.
-fn running(rt: &impl Abort, started: Start<Plain>) -> Core<Plain> {
-    match started {
-        Start::Running(core, report) => {
-            drop(report);
-            core
-        }
-        Start::Ignored | Start::Stopped(_) => panic!(rt; "there is no machine"),
-    }
+/// The machine has just started.
+pub static AT_FIRST: Begin = Begin {
+    id: ID,
+    first: 1,
+    contents: &[],
+    wake: None,
+};
+
+/// Posts a cast to a machine.
+fn casts<U: Twin>(rt: &Host<impl Abort>, machine: &mut U, content: u32) {
+    let post = Command::Post(Entry::Cast, content);
+    let answer = steps(rt, machine, &post);
+    drop(post);
+    let is_posted = matches!(&answer, Answer::Post(Ok(_)));
+    drop(answer);
+    holds(rt, "it is posted", is_posted);
 }
 
-/// A machine of this id whose first event gets this number, and to which casts with these contents were posted.
-fn machine_of(
-    rt: &Host<impl Abort>,
-    alloc: Global,
-    id: MachineId,
-    first: u64,
-    contents: &[u32],
-) -> Core<Plain> {
-    let started = got(rt, "the machine is started", start(rt, alloc, id, first));
-    let mut core = running(rt, started);
-    for content in contents {
-        let post = Command::Post(Entry::Cast, *content);
-        let answer = steps(rt, &mut core, &post);
-        drop(post);
-        let is_posted = matches!(&answer, Answer::Post(Ok(_)));
-        drop(answer);
-        holds(rt, "it is posted", is_posted);
+/// A machine that has begun.
+pub fn machine<U: Twin>(rt: &Host<impl Abort>, alloc: Global, begin: &Begin) -> U {
+    let mut machine = started(rt, alloc, begin.id, begin.first);
+    for content in begin.contents {
+        casts(rt, &mut machine, *content);
     }
-    core
-}
-
-/// A machine whose first event gets this number, and to which casts with these contents were posted.
-pub fn machine(rt: &Host<impl Abort>, alloc: Global, first: u64, contents: &[u32]) -> Core<Plain> {
-    machine_of(rt, alloc, ID, first, contents)
+    machine
 }
 
 /// Makes a cell of a machine, which is equal to this base. Where it finds no memory, the machine comes back as it was,
 /// and the call is made again.
-fn cell_of(
+fn cell_of<T: Kept>(
     rt: &Host<impl Abort>,
     alloc: Global,
-    core: Core<Plain>,
+    machine: T::Machine,
     base: &MachineState<u32, u32, u32>,
-) -> (Cell<Plain>, Option<Token>) {
-    let refused = match Cell::new(alloc, core) {
+) -> (T, Option<Token>) {
+    let refused = match T::begin(alloc, machine) {
         Ok(begun) => return begun,
         Err(refused) => refused,
     };
     is_made_again(rt, refused.refusal);
-    let mut core = refused.value;
-    let now = snapshot_of(rt, &mut core);
+    let mut machine = refused.value;
+    let now = snapshot_of(rt, &mut machine);
     let is_as_before = now == *base;
     drop(now);
     holds(rt, "a refusal changes nothing", is_as_before);
     got(
         rt,
         "one allocation alone is refused",
-        Cell::new(alloc, core),
+        T::begin(alloc, machine),
     )
 }
 
-/// A cell over a machine, and a machine that has begun alike. This is its token, if it is issued one.
-fn beside(
-    rt: &Host<impl Abort>,
-    alloc: Global,
-    core: Core<Plain>,
-    mut twin: Core<Plain>,
-    wake: Option<Token>,
-) -> Pair {
+/// A cell that has begun, and a machine that has begun alike.
+pub fn begun<T: Kept>(rt: &Host<impl Abort>, alloc: Global, begin: &Begin) -> (T, T::Machine) {
+    let mut twin: T::Machine = machine(rt, alloc, begin);
     let base = snapshot_of(rt, &mut twin);
-    let (cell, token) = cell_of(rt, alloc, core, &base);
+    let (cell, token) = cell_of(rt, alloc, machine(rt, alloc, begin), &base);
     drop(base);
-    holds(rt, "the token at first", token == wake);
-    Pair { cell, twin }
-}
-
-/// A cell whose machine gives its first event this number, and to which casts with these contents were posted; this is
-/// its token, if it is issued one. And a machine that has begun alike.
-pub fn begun(
-    rt: &Host<impl Abort>,
-    alloc: Global,
-    first: u64,
-    contents: &[u32],
-    wake: Option<Token>,
-) -> Pair {
-    let twin = machine(rt, alloc, first, contents);
-    let core = machine(rt, alloc, first, contents);
-    beside(rt, alloc, core, twin, wake)
-}
-
-/// A cell whose machine has just started, and a machine that has begun alike.
-pub fn just_begun(rt: &Host<impl Abort>, alloc: Global) -> Pair {
-    begun(rt, alloc, 1, [].as_slice(), None)
-}
-
-/// The same, of the machine to which messages are sent.
-pub fn other_just_begun(rt: &Host<impl Abort>, alloc: Global) -> Pair {
-    let twin = machine_of(rt, alloc, OTHER, 1, [].as_slice());
-    let core = machine_of(rt, alloc, OTHER, 1, [].as_slice());
-    beside(rt, alloc, core, twin, None)
-}
-
-/// Plays lists of rows over a cell that has just begun; its journal is cut behind each.
-pub fn plays_at_first(rt: &Host<impl Abort>, alloc: Global, lists: &[&'static [Row]]) {
-    just_begun(rt, alloc).plays_all(rt, lists);
+    holds(rt, "the token at first", token == begin.wake);
+    (cell, twin)
 }

@@ -1,6 +1,7 @@
 //! A machine is posted events and served, and its journal is cut.
 use super::asked::Asked;
-use super::begun::{TOKEN_1, TOKEN_2, TOKEN_5, plays_at_first};
+use super::begun::{TOKEN_1, TOKEN_2, TOKEN_5};
+use super::celled::plays_at_first;
 use super::did::FINISHED;
 use super::host::Host;
 use super::row::{Post, Row, Sight};

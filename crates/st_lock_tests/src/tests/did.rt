@@ -1,6 +1,6 @@
 //! What a turn is to do.
 use super::shows::shows;
-use st_core::{Call, Decision, Done, Kind, Report, Tag, Timer};
+use st_core::{Call, Decision, Done, Kind, Report, Tag, Time, Timer};
 use std::process::Abort;
 
 /// The event that a turn is to handle: its number and its kind.
@@ -24,6 +24,12 @@ pub const FINISHED: Did = Did {
     inserted: &[],
     set: &[],
     sent: &[],
+};
+
+/// The state time-out is set for 5.
+pub const SET: Did = Did {
+    set: &[(Timer::State, Decision::Set(Time::After(5)))],
+    ..FINISHED
 };
 
 /// The first message is sent.

@@ -1,6 +1,7 @@
 //! Machines end, and requests are answered and collected.
 use super::asked::Asked;
-use super::begun::{REQUEST_1, REQUEST_2, REQUEST_3, TOKEN_0, TOKEN_1, plays_at_first};
+use super::begun::{REQUEST_1, REQUEST_2, REQUEST_3, TOKEN_0, TOKEN_1};
+use super::celled::plays_at_first;
 use super::did::{Did, ENDED, FINISHED};
 use super::host::Host;
 use super::row::{Row, Sight};

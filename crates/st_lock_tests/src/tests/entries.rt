@@ -1,5 +1,6 @@
 //! Each entry of a journal, as it is written.
-use super::begun::{REQUEST_1, TOKEN_1, TOKEN_8, plays_at_first};
+use super::begun::{REQUEST_1, TOKEN_1, TOKEN_8};
+use super::celled::plays_at_first;
 use super::did::{Did, FINISHED, PUT_OFF};
 use super::host::Host;
 use super::row::{Row, Sight};

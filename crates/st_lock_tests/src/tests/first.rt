@@ -1,6 +1,7 @@
 //! Machines that have an event at first, and machines that come to the last numbers.
 use super::asked::Asked;
-use super::begun::{ID, TOKEN_0, TOKEN_1, TOKEN_3, begun};
+use super::begun::{Begin, ID, TOKEN_0, TOKEN_1, TOKEN_3};
+use super::celled::plays_from;
 use super::did::{Did, FINISHED};
 use super::host::Host;
 use super::plain::OTHER;
@@ -43,11 +44,18 @@ static EVENT_FIRST: [Row; 6] = [
     Row::Copies("front", 0),
 ];
 
+/// There is an event already.
+static WITH_EVENT: Begin = Begin {
+    id: ID,
+    first: 1,
+    contents: &[2],
+    wake: Some(TOKEN_0),
+};
+
 #[test]
 fn an_event_comes_first(rt: HostRuntime) {
     let rt = Host::new(rt);
-    let pair = begun(&rt, rt.alloc(), 1, [2].as_slice(), Some(TOKEN_0));
-    pair.plays_all(&rt, &[EVENT_FIRST.as_slice()]);
+    plays_from(&rt, rt.alloc(), &WITH_EVENT, &[EVENT_FIRST.as_slice()]);
     rt.end();
 }
 
@@ -68,11 +76,18 @@ static LAST_GIVEN: [Row; 6] = [
     Row::Refuses(Asked::Post(1, Entry::Call, 8), Refusal::Exhausted),
 ];
 
+/// The first event gets the last number.
+static AT_LAST: Begin = Begin {
+    id: ID,
+    first: LAST,
+    contents: &[],
+    wake: None,
+};
+
 #[test]
 fn the_last_number_is_given_once(rt: HostRuntime) {
     let rt = Host::new(rt);
-    let pair = begun(&rt, rt.alloc(), LAST, [].as_slice(), None);
-    pair.plays_all(&rt, &[LAST_GIVEN.as_slice()]);
+    plays_from(&rt, rt.alloc(), &AT_LAST, &[LAST_GIVEN.as_slice()]);
     rt.end();
 }
 
@@ -97,10 +112,22 @@ static NUMBERS_WANTED: [Row; 8] = [
     Row::HasToken(None),
 ];
 
+/// The first event gets the last number but one.
+static AT_LAST_BUT_ONE: Begin = Begin {
+    id: ID,
+    first: LAST_BUT_ONE,
+    contents: &[],
+    wake: None,
+};
+
 #[test]
 fn a_turn_without_numbers_keeps_its_token(rt: HostRuntime) {
     let rt = Host::new(rt);
-    let pair = begun(&rt, rt.alloc(), LAST_BUT_ONE, [].as_slice(), None);
-    pair.plays_all(&rt, &[NUMBERS_WANTED.as_slice()]);
+    plays_from(
+        &rt,
+        rt.alloc(),
+        &AT_LAST_BUT_ONE,
+        &[NUMBERS_WANTED.as_slice()],
+    );
     rt.end();
 }

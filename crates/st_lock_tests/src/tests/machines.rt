@@ -8,7 +8,8 @@ use super::host::Host;
 use super::memory::EACH_CALL;
 use super::plain::OTHER;
 use super::row::Row;
-use super::shared::{plays_filled, plays_shared};
+use super::shared::plays_shared;
+use super::way::{FILLED, FILLED_UNJOURNALED, NEW, NEW_UNJOURNALED};
 use st_core::{Kind, Refusal};
 use st_events::Token;
 use st_lock::Next;
@@ -17,7 +18,7 @@ use st_lock::Next;
 fn a_machine_by_rows(rt: HostRuntime) {
     let threads = rt;
     let rt = Host::new(rt);
-    plays_shared(&rt, &threads, rt.alloc(), true, &[UNTIL_A_STOP.as_slice()]);
+    plays_shared(&rt, threads, rt.alloc(), NEW, &[UNTIL_A_STOP.as_slice()]);
     rt.end();
 }
 
@@ -25,11 +26,11 @@ fn a_machine_by_rows(rt: HostRuntime) {
 fn a_machines_journal_is_cut(rt: HostRuntime) {
     let threads = rt;
     let rt = Host::new(rt);
-    plays_filled(
+    plays_shared(
         &rt,
-        &threads,
+        threads,
         rt.alloc(),
-        true,
+        FILLED,
         &[BEFORE_A_CUT.as_slice(), AFTER_A_CUT.as_slice()],
     );
     rt.end();
@@ -39,7 +40,7 @@ fn a_machines_journal_is_cut(rt: HostRuntime) {
 fn each_call_of_a_machine_is_made_again(rt: HostRuntime) {
     let threads = rt;
     let rt = Host::new(rt);
-    plays_shared(&rt, &threads, rt.alloc(), true, &[EACH_CALL.as_slice()]);
+    plays_shared(&rt, threads, rt.alloc(), NEW, &[EACH_CALL.as_slice()]);
     rt.end();
 }
 
@@ -81,7 +82,7 @@ static SERVED: [Row; 17] = [
 fn a_machine_is_served(rt: HostRuntime) {
     let threads = rt;
     let rt = Host::new(rt);
-    plays_shared(&rt, &threads, rt.alloc(), true, &[SERVED.as_slice()]);
+    plays_shared(&rt, threads, rt.alloc(), NEW, &[SERVED.as_slice()]);
     rt.end();
 }
 
@@ -89,7 +90,13 @@ fn a_machine_is_served(rt: HostRuntime) {
 fn a_machine_without_a_journal_by_rows(rt: HostRuntime) {
     let threads = rt;
     let rt = Host::new(rt);
-    plays_filled(&rt, &threads, rt.alloc(), false, &[UNTIL_A_STOP.as_slice()]);
+    plays_shared(
+        &rt,
+        threads,
+        rt.alloc(),
+        FILLED_UNJOURNALED,
+        &[UNTIL_A_STOP.as_slice()],
+    );
     rt.end();
 }
 
@@ -97,7 +104,13 @@ fn a_machine_without_a_journal_by_rows(rt: HostRuntime) {
 fn each_call_of_a_machine_without_a_journal_is_made_again(rt: HostRuntime) {
     let threads = rt;
     let rt = Host::new(rt);
-    plays_shared(&rt, &threads, rt.alloc(), false, &[EACH_CALL.as_slice()]);
+    plays_shared(
+        &rt,
+        threads,
+        rt.alloc(),
+        NEW_UNJOURNALED,
+        &[EACH_CALL.as_slice()],
+    );
     rt.end();
 }
 
@@ -105,6 +118,12 @@ fn each_call_of_a_machine_without_a_journal_is_made_again(rt: HostRuntime) {
 fn a_machine_without_a_journal_is_served(rt: HostRuntime) {
     let threads = rt;
     let rt = Host::new(rt);
-    plays_shared(&rt, &threads, rt.alloc(), false, &[SERVED.as_slice()]);
+    plays_shared(
+        &rt,
+        threads,
+        rt.alloc(),
+        NEW_UNJOURNALED,
+        &[SERVED.as_slice()],
+    );
     rt.end();
 }

@@ -1,18 +1,13 @@
 //! Each call where one allocation is refused: nothing that can be read changes, and it is made again.
 use super::asked::Asked;
-use super::begun::{REQUEST_1, TOKEN_1, TOKEN_5, plays_at_first};
-use super::did::{Did, FINISHED, SENT};
+use super::begun::{REQUEST_1, TOKEN_1, TOKEN_5};
+use super::celled::plays_at_first;
+use super::did::{FINISHED, SENT, SET};
 use super::host::Host;
 use super::plain::OTHER;
 use super::row::{Row, Sight};
-use st_core::{Decision, Entry, Kind, Refusal, Time, Timer};
+use st_core::{Entry, Kind, Refusal, Timer};
 use st_lock::Next;
-
-/// The state time-out is set.
-const SET: Did = Did {
-    set: &[(Timer::State, Decision::Set(Time::After(5)))],
-    ..FINISHED
-};
 
 /// Each call, one after another.
 pub static EACH_CALL: [Row; 16] = [

@@ -1,6 +1,7 @@
 //! Messages are sent, taken out and delivered.
 use super::asked::Asked;
-use super::begun::{TOKEN_1, TOKEN_2, plays_at_first};
+use super::begun::{TOKEN_1, TOKEN_2};
+use super::celled::plays_at_first;
 use super::did::{FINISHED, SENT, SENT_TWO};
 use super::ended::TOO_LATE;
 use super::host::Host;

@@ -6,7 +6,7 @@ ghost use Rattle.st_events.specs.declared.enter_outcome.EnterOutcome.TheVariants
 ghost use Rattle.st_events.specs.declared.init.Init.TheVariants as init;
 ghost use Rattle.st_events.specs.declared.kind.Kind.TheVariants.{Call, Cast, Info, Timeout, Internal};
 ghost use Rattle.st_events.specs.declared.outcome.Outcome.{Outcome};
-ghost use Rattle.st_events.specs.declared.outcome.Outcome.TheVariants.{KeepStateAndData, Stop};
+ghost use Rattle.st_events.specs.declared.outcome.Outcome.TheVariants.{KeepStateAndData, NextState, Stop};
 ghost use Rattle.st_events.specs.declared.time.Time.TheVariants.{After};
 ghost use Rattle.st_events.specs.declared.timer.Timer.TheVariants.{State as StateTimer};
 
@@ -42,7 +42,7 @@ fn does_both(
     Ok(Outcome::KeepStateAndData(actions))
 }
 
-/// States, data and contents are numbers. The state is 0 and the data 7, and `terminate` answers the data.
+/// States, data and contents are numbers. The state is 0 at first and the data 7, and `terminate` answers the data.
 ///
 /// | Content | Outcome |
 /// |---|---|
@@ -55,6 +55,7 @@ fn does_both(
 /// | 7 | inserts 0 as internal twice |
 /// | 10 | sends 3 to the other machine |
 /// | 11 | sends 3 and then 4 to it |
+/// | 12 | leads to the state 1 |
 /// | other | keeps both |
 #[derive(Clone, Copy)]
 pub struct Plain;
@@ -86,7 +87,8 @@ impl Module for Plain {
         else (if content == 7 then KeepStateAndData (NextEvent Internal 0 ∷ NextEvent Internal 0 ∷ [])
         else (if content == 10 then KeepStateAndData (Send (record { slot = 1; serial = 2 }) 3 ∷ [])
         else (if content == 11 then KeepStateAndData (Send (record { slot = 1; serial = 2 }) 3 ∷ Send (record { slot = 1; serial = 2 }) 4 ∷ [])
-        else KeepStateAndData [])))))))) };
+        else (if content == 12 then NextState 1 held []
+        else KeepStateAndData []))))))))) };
 
     ghost enters_is = { λ plain. false };
 
@@ -104,7 +106,7 @@ impl Module for Plain {
         kind: Kind,
         content: &u32,
         _state: u32,
-        _held: &u32,
+        held: &u32,
     ) -> Result<Outcome<u32, u32, u32>, AllocError> {
         match *content {
             1 => Ok(Outcome::Stop(9, None)),
@@ -127,6 +129,7 @@ impl Module for Plain {
             ),
             10 => does(alloc, Action::Send(OTHER, 3)),
             11 => does_both(alloc, Action::Send(OTHER, 3), Action::Send(OTHER, 4)),
+            12 => Ok(Outcome::NextState(1, *held, Actions::new(alloc))),
             _ => Ok(Outcome::KeepStateAndData(Actions::new(alloc))),
         }
     }

@@ -1,14 +1,13 @@
 //! A message of one cell is delivered to another, and stands in the journals of both.
-use super::asked::{Answered, Asked};
-use super::begun::{TOKEN_1, is_made_again, just_begun, other_just_begun};
-use super::host::{Host, got, holds};
-use super::plain::{OTHER, Plain};
-use super::traced::{answers, prints};
-use st_core::{Entry, Message};
+use super::begun::{Begin, ID, TOKEN_1};
+use super::celled::{plays_at_first, plays_from};
+use super::did::{SENT, SET};
+use super::host::Host;
+use super::plain::OTHER;
+use super::row::Row;
+use st_core::{Entry, Kind};
 use st_events::Token;
-use st_lock::{Cell, Next};
-use st_scheduled::Posted;
-use std::process::Abort;
+use st_lock::Next;
 
 /// The token that the other machine is issued.
 const OTHERS_TOKEN: Token = Token {
@@ -33,70 +32,34 @@ machine 1 2 b
 summary posts 1 turns 1 finished 1 put_off 0
 ";
 
-/// Has a cell send a message.
-fn sends(rt: &Host<impl Abort>, cell: &mut Cell<Plain>) {
-    let posted = Posted {
-        number: 1,
-        wake: Some(TOKEN_1),
-    };
-    let post = Asked::Post(1, Entry::Cast, 10);
-    let next = Next::Again(TOKEN_1);
-    answers(rt, cell, Asked::Port, Answered::Port(Ok(1)));
-    answers(rt, cell, post, Answered::Posted(Ok(posted)));
-    let turn = Asked::Turn(TOKEN_1, 0);
-    answers(rt, cell, turn, Answered::Turned(Ok(next)));
-}
+/// A cell sends a message to the other machine: the first one, with the content 3. It is taken out.
+static SENDS: [Row; 5] = [
+    Row::Opens(1),
+    Row::Posts(1, (1, Entry::Cast, 10), 1, Some(TOKEN_1)),
+    Row::Turns(2, TOKEN_1, 0, Next::Again(TOKEN_1), (1, Kind::Cast), SENT),
+    Row::Takes(3, TOKEN_1, 1, 3),
+    Row::Prints("a", SENDER),
+];
 
-/// Takes out the first message of a cell. Where there is no memory, it is taken out again.
-fn taken_out(rt: &Host<impl Abort>, cell: &mut Cell<Plain>) -> Message<u32> {
-    let taken = match cell.take_out(TOKEN_1) {
-        Ok(taken) => taken,
-        Err(refused) => {
-            is_made_again(rt, refused.refusal);
-            let again = cell.take_out(refused.value);
-            got(rt, "one allocation alone is refused", again)
-        }
-    };
-    taken.expect(rt, "there is a message")
-}
+/// The other machine has just started.
+static OTHER_AT_FIRST: Begin = Begin {
+    id: OTHER,
+    first: 1,
+    contents: &[],
+    wake: None,
+};
 
-/// Delivers a message to the cell to which it is sent. Where there is no memory, it comes back, and is delivered again.
-fn delivered(rt: &Host<impl Abort>, cell: &mut Cell<Plain>, message: Message<u32>) -> Posted {
-    let is_for_it = message.target == cell.core().id();
-    holds(rt, "it is sent to this cell", is_for_it);
-    match cell.deliver(message) {
-        Ok(posted) => posted,
-        Err(refused) => {
-            is_made_again(rt, refused.refusal);
-            let again = cell.deliver(refused.value);
-            got(rt, "one allocation alone is refused", again)
-        }
-    }
-}
-
-/// Has a cell handle the message that comes to it.
-fn gets(rt: &Host<impl Abort>, cell: &mut Cell<Plain>, message: Message<u32>) {
-    let posted = delivered(rt, cell, message);
-    let wanted = Posted {
-        number: 1,
-        wake: Some(OTHERS_TOKEN),
-    };
-    holds(rt, "the event and the token", posted == wanted);
-    let turn = Asked::Turn(OTHERS_TOKEN, 0);
-    answers(rt, cell, turn, Answered::Turned(Ok(Next::Rest)));
-}
+/// The cell of the other machine gets that message.
+static GETS: [Row; 3] = [
+    Row::Delivers(1, (ID, 1, 3), 1, Some(OTHERS_TOKEN)),
+    Row::Turns(2, OTHERS_TOKEN, 0, Next::Rest, (1, Kind::Info), SET),
+    Row::Prints("b", TARGET),
+];
 
 #[test]
 fn a_message_goes_from_cell_to_cell(rt: HostRuntime) {
     let rt = Host::new(rt);
-    let mut sender = just_begun(&rt, rt.alloc());
-    let mut target = other_just_begun(&rt, rt.alloc());
-    sends(&rt, &mut sender.cell);
-    let message = taken_out(&rt, &mut sender.cell);
-    gets(&rt, &mut target.cell, message);
-    prints(&rt, rt.alloc(), &sender.cell, "a", SENDER);
-    prints(&rt, rt.alloc(), &target.cell, "b", TARGET);
-    drop(target);
-    drop(sender);
+    plays_at_first(&rt, rt.alloc(), &[SENDS.as_slice()]);
+    plays_from(&rt, rt.alloc(), &OTHER_AT_FIRST, &[GETS.as_slice()]);
     rt.end();
 }

@@ -1,69 +1,77 @@
 //! Tests of st_replay: journals of cells are replayed from a machine that began alike, as they are and with an entry
 //! changed by hand, with memory and while an allocation is refused, where the replay goes on with the rest.
 
-mod begun;
 mod changes;
-mod plain;
-mod player;
 mod told;
 
-use super::host::{Host, got, holds, same};
-use begun::{cell, is_made_again, machine};
+use super::asked::Asked;
+use super::begun::{AT_FIRST, ID, REQUEST_1, TOKEN_1, TOKEN_8, begun, machine};
+use super::host::{Host, same};
+use super::kept::Kept;
+use super::plain::Plain;
+use super::twin::Twin;
 use changes::{Change, apply};
-use player::Player;
-use st_cell::{Entry, PlainList};
+use st_cell::{Cell, Entry, PlainList, Tag, Token};
 use st_replay::Replayed;
 use std::alloc::Global;
 use std::process::Abort;
-use told::{Line, Teller, Told};
+use told::{Line, journal_of, opens};
+
+/// The token that is issued for the second event.
+const TOKEN_4: Token = Token {
+    machine: ID,
+    wake: 4,
+};
+
+/// The token that is issued for the third event.
+const TOKEN_6: Token = Token {
+    machine: ID,
+    wake: 6,
+};
+
+/// The token that is issued for the fifth event.
+const TOKEN_10: Token = Token {
+    machine: ID,
+    wake: 10,
+};
+
+/// The request of the second call.
+const REQUEST_6: Tag = Tag {
+    machine: ID,
+    request: 6,
+};
 
 /// A day of a machine. Events and time-outs get the numbers 1, 2 and so on: the calls have 1 and 6.
-static DAY: [Told; 16] = [
-    Told::Post(Entry::Call, 2),
-    Told::Turn(1),
-    Told::Collect(1),
-    Told::Post(Entry::Cast, 1),
-    Told::Turn(2),
-    Told::Post(Entry::Cast, 3),
-    Told::Turn(3),
-    Told::Tick(8),
-    Told::Turn(8),
-    Told::Post(Entry::Cast, 4),
-    Told::Turn(9),
-    Told::TakeOut,
-    Told::Post(Entry::Call, 0),
-    Told::Turn(10),
-    Told::Reply(6, 60),
-    Told::Stop(3),
+static DAY: [Asked; 16] = [
+    Asked::Post(1, Entry::Call, 6),
+    Asked::Turn(TOKEN_1, 1),
+    Asked::Collect(REQUEST_1),
+    Asked::Post(1, Entry::Cast, 12),
+    Asked::Turn(TOKEN_4, 2),
+    Asked::Post(1, Entry::Cast, 3),
+    Asked::Turn(TOKEN_6, 3),
+    Asked::Tick(8),
+    Asked::Turn(TOKEN_8, 8),
+    Asked::Post(1, Entry::Cast, 10),
+    Asked::Turn(TOKEN_10, 9),
+    Asked::TakeOut(TOKEN_10),
+    Asked::Post(1, Entry::Call, 0),
+    Asked::Turn(TOKEN_10, 10),
+    Asked::Reply(REQUEST_6, 60),
+    Asked::Stop(3),
 ];
 
-/// Tells a cell commands. What finds no memory is told again.
-fn tell_all<T: Teller>(rt: &Host<impl Abort>, cell: &mut T, all: &[Told]) {
-    for told in all {
-        if let Err(refusal) = cell.tell(*told) {
-            is_made_again(rt, refusal);
-            holds(rt, "it is told", cell.tell(*told).is_ok());
-        }
-    }
-}
+/// How a replay ends, and the state in which it leaves the machine.
+type End = (Replayed, u32);
 
-/// The entries of a cell, which are handed out. Where that finds no memory, it is asked again.
-fn handed_out<T: Teller>(rt: &Host<impl Abort>, cell: &mut T) -> PlainList<Line> {
-    match cell.hand_out() {
-        Ok(entries) => entries,
-        Err(refusal) => {
-            is_made_again(rt, refusal);
-            got(rt, "one allocation alone is refused", cell.hand_out())
-        }
-    }
-}
-
-/// The entries of commands that a cell was told.
-fn journal_of<T: Teller>(rt: &Host<impl Abort>, cell: &mut T, all: &[Told]) -> PlainList<Line> {
-    tell_all(rt, cell, all);
-    let entries = handed_out(rt, cell);
-    same(rt, "each command has its entry", &entries.len(), &all.len());
-    entries
+/// What is replayed of the day, and how that ends.
+#[derive(Clone, Copy)]
+enum Row {
+    /// The whole day, with a change.
+    Whole(Change, End),
+    /// The day, handed out in two parts. A machine replays one and then the other; and another machine begins with the
+    /// second.
+    Parts(End, End, End),
 }
 
 /// How a replay ended that went on behind so many entries.
@@ -74,155 +82,167 @@ fn behind(before: usize, rest: Replayed) -> Replayed {
     }
 }
 
-/// Replays entries on a machine. Where it finds no memory, it goes on with the rest.
-fn replayed<P: Player>(
+/// Replays entries on a machine: how that ends, and the state in which it leaves the machine. Where it finds no memory,
+/// it goes on with the rest.
+fn replayed<U: Twin>(
     rt: &Host<impl Abort>,
     alloc: Global,
-    player: &mut P,
+    player: &mut U,
     entries: &[Line],
-) -> Replayed {
-    match player.replay(alloc, entries) {
-        Replayed::NoMemory(agreed) => {
+) -> End {
+    match player.replay_all(alloc, entries) {
+        (Replayed::NoMemory(agreed), _) => {
             rt.retry();
             let rest = entries.get(agreed..).expect(rt, "there are so many");
-            behind(agreed, player.replay(alloc, rest))
+            let (ended, state) = player.replay_all(alloc, rest);
+            (behind(agreed, ended), state)
         }
-        other => other,
+        end => end,
     }
 }
 
-/// A change of the day's journal, how the replay ends, and the state in which it leaves the machine.
-type Row = (Change, Replayed, u32);
+/// Looks how the replay of entries ends, and in which state it leaves the machine.
+fn ends<U: Twin>(
+    rt: &Host<impl Abort>,
+    alloc: Global,
+    row: usize,
+    player: &mut U,
+    entries: &[Line],
+    wanted: End,
+) {
+    let found = replayed(rt, alloc, player, entries);
+    same(rt, "the row and its end", &(row, found), &(row, wanted));
+}
 
 /// The entries of the day of a cell, changed.
-fn changed<T: Teller>(rt: &Host<impl Abort>, mut cell: T, change: Change) -> Vec<Line> {
+fn changed<T: Kept>(rt: &Host<impl Abort>, mut cell: T, change: Change) -> Vec<Line> {
+    opens(rt, &mut cell);
     let mut entries = journal_of(rt, &mut cell, DAY.as_slice()).into_vec();
     drop(cell);
     apply(&mut entries, change);
     entries
 }
 
-/// Replays entries: how that ends, and the state in which it leaves the machine.
-fn ended<P: Player>(
+/// The replay of the day with a change ends so.
+fn whole_ends<T: Kept>(
     rt: &Host<impl Abort>,
     alloc: Global,
-    mut player: P,
-    entries: &[Line],
-) -> (Replayed, u32) {
-    let ended = replayed(rt, alloc, &mut player, entries);
-    let state = player.state();
+    row: usize,
+    change: Change,
+    wanted: End,
+) {
+    let (cell, mut player): (T, T::Machine) = begun(rt, alloc, &AT_FIRST);
+    let entries = changed(rt, cell, change);
+    ends(rt, alloc, row, &mut player, entries.as_slice(), wanted);
     drop(player);
-    (ended, state)
-}
-
-/// Replays the day with a change: how that ends, and the state in which it leaves the machine.
-fn ends(rt: &Host<impl Abort>, alloc: Global, change: Change) -> (Replayed, u32) {
-    let entries = changed(rt, cell(rt, alloc), change);
-    let found = ended(rt, alloc, machine(rt, alloc), entries.as_slice());
     drop(entries);
-    found
 }
 
-/// The replays of the day, changed as each row says, end as it says.
-fn rows_end(rt: &Host<impl Abort>, alloc: Global, rows: &[Row]) {
-    for (row, (change, ended, state)) in rows.iter().enumerate() {
-        let found = ends(rt, alloc, *change);
-        same(
-            rt,
-            "the row and its end",
-            &(row, found),
-            &(row, (*ended, *state)),
-        );
+/// The entries of the day of a cell in two parts.
+fn in_parts<T: Kept>(rt: &Host<impl Abort>, mut cell: T) -> (PlainList<Line>, PlainList<Line>) {
+    let (morning, evening) = DAY.split_at(7);
+    opens(rt, &mut cell);
+    let first = journal_of(rt, &mut cell, morning);
+    let second = journal_of(rt, &mut cell, evening);
+    drop(cell);
+    (first, second)
+}
+
+/// The replays of the day in two parts end so.
+fn parts_end<T: Kept>(rt: &Host<impl Abort>, alloc: Global, row: usize, wanted: (End, End, End)) {
+    let (cell, mut player): (T, T::Machine) = begun(rt, alloc, &AT_FIRST);
+    let mut other: T::Machine = machine(rt, alloc, &AT_FIRST);
+    let (first, second) = in_parts(rt, cell);
+    ends(rt, alloc, row, &mut player, first.as_slice(), wanted.0);
+    drop(first);
+    ends(rt, alloc, row, &mut player, second.as_slice(), wanted.1);
+    drop(player);
+    ends(rt, alloc, row, &mut other, second.as_slice(), wanted.2);
+    drop(other);
+    drop(second);
+}
+
+/// The replays end as the rows say.
+fn rows_end<T: Kept>(rt: &Host<impl Abort>, alloc: Global, rows: &[Row]) {
+    for (place, row) in rows.iter().enumerate() {
+        match *row {
+            Row::Whole(change, end) => whole_ends::<T>(rt, alloc, place, change, end),
+            Row::Parts(first, second, other) => parts_end::<T>(
+                rt,
+                alloc,
+                place,
+                (first, second, other),
+            ),
+        }
     }
 }
+
+/// The replays of a cell's journals end as the rows say.
+fn replays_end(rt: &Host<impl Abort>, alloc: Global, rows: &[Row]) {
+    rows_end::<Cell<Plain>>(rt, alloc, rows);
+}
+
+/// The day is replayed as it is.
+static AS_IT_IS: [Row; 1] = [Row::Whole(Change::None, (Replayed::Same, 1))];
 
 #[test]
 fn the_journal_of_a_cell_is_what_its_machine_does(rt: HostRuntime) {
     let rt = Host::new(rt);
-    rows_end(&rt, rt.alloc(), &[(Change::None, Replayed::Same, 1)]);
+    replays_end(&rt, rt.alloc(), AS_IT_IS.as_slice());
     rt.end();
 }
 
 /// One entry says something else than the machine does. With another content the turn differs, and not the post.
 static SAID: [Row; 5] = [
-    (Change::Number(0, 2), Replayed::Differs(0), 0),
-    (Change::NoMemory(0), Replayed::Differs(0), 0),
-    (Change::After(4, 2), Replayed::Differs(4), 1),
-    (Change::Content(3, 0), Replayed::Differs(4), 0),
-    (Change::Expired(7, 2), Replayed::Differs(7), 1),
+    Row::Whole(Change::Number(0, 2), (Replayed::Differs(0), 0)),
+    Row::Whole(Change::NoMemory(0), (Replayed::Differs(0), 0)),
+    Row::Whole(Change::After(4, 2), (Replayed::Differs(4), 1)),
+    Row::Whole(Change::Content(3, 0), (Replayed::Differs(4), 0)),
+    Row::Whole(Change::Expired(7, 2), (Replayed::Differs(7), 1)),
 ];
 
 #[test]
 fn the_first_entry_that_differs_is_named(rt: HostRuntime) {
     let rt = Host::with_memory(rt);
-    rows_end(&rt, rt.alloc(), SAID.as_slice());
+    replays_end(&rt, rt.alloc(), SAID.as_slice());
     rt.end_with_memory();
 }
 
 /// Entries stand elsewhere, or are not there. A collect may change places with the post of another event.
 static PLACES: [Row; 4] = [
-    (Change::Swapped(3), Replayed::Differs(3), 0),
-    (Change::Swapped(2), Replayed::Same, 1),
-    (Change::Dropped(0), Replayed::Differs(0), 0),
-    (Change::Dropped(15), Replayed::Same, 1),
+    Row::Whole(Change::Swapped(3), (Replayed::Differs(3), 0)),
+    Row::Whole(Change::Swapped(2), (Replayed::Same, 1)),
+    Row::Whole(Change::Dropped(0), (Replayed::Differs(0), 0)),
+    Row::Whole(Change::Dropped(15), (Replayed::Same, 1)),
 ];
 
 #[test]
 fn an_entry_is_missed_where_the_machine_does_otherwise_without_it(rt: HostRuntime) {
     let rt = Host::with_memory(rt);
-    rows_end(&rt, rt.alloc(), PLACES.as_slice());
+    replays_end(&rt, rt.alloc(), PLACES.as_slice());
     rt.end_with_memory();
 }
+
+/// The entry of a turn says something else, behind others.
+static BEHIND_OTHERS: [Row; 1] = [Row::Whole(Change::After(8, 0), (Replayed::Differs(8), 1))];
 
 #[test]
 fn a_replay_goes_on_behind_a_want_of_memory(rt: HostRuntime) {
     let rt = Host::new(rt);
-    rows_end(
-        &rt,
-        rt.alloc(),
-        &[(Change::After(8, 0), Replayed::Differs(8), 1)],
-    );
+    replays_end(&rt, rt.alloc(), BEHIND_OTHERS.as_slice());
     rt.end();
 }
 
-/// Looks how the replay of a part ends, and in which state it leaves the machine.
-fn part_ends<P: Player>(
-    rt: &Host<impl Abort>,
-    alloc: Global,
-    player: &mut P,
-    part: &PlainList<Line>,
-    wanted: (Replayed, u32),
-) {
-    let ended = replayed(rt, alloc, player, part.as_slice());
-    same(rt, "the part's end", &(ended, player.state()), &wanted);
-}
-
 /// The day's journal is handed out in two parts. A machine replays both; another one does not begin with the second.
-fn parts_end<T: Teller, P: Player>(
-    rt: &Host<impl Abort>,
-    alloc: Global,
-    mut cell: T,
-    mut player: P,
-    mut other: P,
-) {
-    let (morning, evening) = DAY.split_at(7);
-    let first = journal_of(rt, &mut cell, morning);
-    let second = journal_of(rt, &mut cell, evening);
-    drop(cell);
-    part_ends(rt, alloc, &mut player, &first, (Replayed::Same, 1));
-    drop(first);
-    part_ends(rt, alloc, &mut player, &second, (Replayed::Same, 1));
-    drop(player);
-    part_ends(rt, alloc, &mut other, &second, (Replayed::Differs(0), 0));
-    drop(other);
-    drop(second);
-}
+static IN_PARTS: [Row; 1] = [Row::Parts(
+    (Replayed::Same, 1),
+    (Replayed::Same, 1),
+    (Replayed::Differs(0), 0),
+)];
 
 #[test]
 fn a_journal_that_was_handed_out_in_parts_is_replayed_part_after_part(rt: HostRuntime) {
     let rt = Host::new(rt);
-    let alloc = rt.alloc();
-    let (player, other) = (machine(&rt, alloc), machine(&rt, alloc));
-    parts_end(&rt, alloc, cell(&rt, alloc), player, other);
+    replays_end(&rt, rt.alloc(), IN_PARTS.as_slice());
     rt.end();
 }

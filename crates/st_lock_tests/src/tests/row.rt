@@ -1,8 +1,8 @@
 //! Rows: a call, what it is to answer, and the entry that it is to have.
 use super::asked::{Answered, Asked, refused};
-use super::begun::ID;
 use super::did::{Did, Handled};
 use super::plain::OTHER;
+use super::reading::Reading;
 use st_cell::Source;
 use st_core::{Answer, Collected, Command, Entry, MachineId, Message, Reason, Refusal, Tag};
 use st_events::Token;
@@ -43,10 +43,10 @@ pub type Post = (u64, Entry, u32);
 /// What is delivered: the message's sender, its number and its content.
 pub type Delivery = (MachineId, u64, u32);
 
-/// A message of the machine to the other one, with this number and this content.
-fn message(number: u64, content: u32) -> Message<u32> {
+/// A message of the machine of this id to the other one, with this number and this content.
+fn message(id: MachineId, number: u64, content: u32) -> Message<u32> {
     Message {
-        sender: ID,
+        sender: id,
         number,
         target: OTHER,
         content,
@@ -98,6 +98,11 @@ pub enum Row {
     Looks(u64, Sight),
     /// A copy of the journal, with a label; the machine had seen this moment before the first entry.
     Copies(&'static str, u64),
+    /// What is printed of the journal, with a label.
+    Prints(&'static str, &'static str),
+    /// The journal is handed out, with a label: the machine had seen this moment before the first entry, and the entries
+    /// have these numbers. It is the last row of a list.
+    HandsOut(&'static str, u64, &'static [u64]),
     /// The journal is cut.
     Cuts,
     /// So many ports are open.
@@ -106,6 +111,10 @@ pub enum Row {
     HasToken(Option<Token>),
     /// The machine can be removed, or cannot.
     Removable(bool),
+    /// What is read of the machine.
+    Reads(Reading),
+    /// So many commands were told in all, and the machine had seen this moment before the first entry of the journal.
+    Counts(u64, u64),
     /// A call is refused, and gives back what it was given.
     Refuses(Asked, Refusal),
 }
@@ -134,18 +143,34 @@ impl Row {
             Row::ServesRest(token, now) => Asked::Serve(token, now),
             Row::Stays(token, now) => Asked::Turn(token, now),
             Row::TakesNone(token) => Asked::TakeOut(token),
-            Row::Looks(port, _) => Asked::Look(port),
-            Row::Copies(label, _) => Asked::Journal(label),
-            Row::Cuts => Asked::Cut,
-            Row::HasPorts(_) => Asked::Ports,
-            Row::HasToken(_) => Asked::Token,
-            Row::Removable(_) => Asked::Removable,
             Row::Refuses(asked, _) => asked,
+            _ => self.read(),
         }
     }
 
-    /// What the call is to answer; a look and a copy are compared part by part.
-    pub fn answer(&self) -> Answered {
+    /// The call, where it is about the journal or only reads.
+    fn read(&self) -> Asked {
+        match *self {
+            Row::Looks(port, _) => Asked::Look(port),
+            Row::Copies(label, _) => Asked::Journal(label),
+            Row::Prints(label, _) => Asked::Journal(label),
+            Row::HandsOut(label, _, _) => Asked::HandOut(label),
+            Row::HasPorts(_) => Asked::Ports,
+            Row::HasToken(_) => Asked::Token,
+            Row::Removable(_) => Asked::Removable,
+            Row::Reads(_) => Asked::Read,
+            Row::Counts(_, _) => Asked::Count,
+            _ => Asked::Cut,
+        }
+    }
+
+    /// Says whether the journal is handed out.
+    pub fn hands_out(&self) -> bool {
+        matches!(self, Row::HandsOut(_, _, _))
+    }
+
+    /// What the call is to answer of the machine of this id.
+    pub fn answer(&self, id: MachineId) -> Answered {
         match *self {
             Row::Opens(number) => Answered::Port(Ok(number)),
             Row::Posts(_, _, number, wake) => Answered::Posted(Ok(Posted { number, wake })),
@@ -160,24 +185,34 @@ impl Row {
             Row::Waits(_) => Answered::Collected(Ok(Collected::Waiting)),
             Row::Misses(_) => Answered::Collected(Ok(Collected::Gone)),
             Row::Takes(_, _, number, content) | Row::ServesMessage(_, _, _, number, content) => {
-                Answered::TakenOut(Ok(Some(message(number, content))))
+                Answered::TakenOut(Ok(Some(message(id, number, content))))
             }
             Row::Delivers(_, _, number, wake) => Answered::Delivered(Ok(Posted { number, wake })),
             Row::ServesTurn(_, _, _, next, _, _) => Answered::Turned(Ok(next)),
             Row::Rests(_, _) | Row::ServesRest(_, _) => Answered::Turned(Ok(Next::Rest)),
             Row::Stays(token, _) => Answered::Turned(Ok(Next::Again(token))),
             Row::TakesNone(_) => Answered::TakenOut(Ok(None)),
-            Row::Looks(_, _) | Row::Copies(_, _) => Answered::InParts,
+            Row::Refuses(asked, refusal) => refused(id, asked, refusal),
+            _ => self.shown(),
+        }
+    }
+
+    /// What the call is to answer that is about the journal or only reads; a look and a journal are compared part by
+    /// part.
+    fn shown(&self) -> Answered {
+        match *self {
             Row::Cuts => Answered::Cut(Ok(())),
             Row::HasPorts(ports) => Answered::Ports(ports),
             Row::HasToken(token) => Answered::Token(token),
             Row::Removable(can) => Answered::Removable(can),
-            Row::Refuses(asked, refusal) => refused(asked, refusal),
+            Row::Reads(reading) => Answered::Read(reading),
+            Row::Counts(count, _) => Answered::Count(count),
+            _ => Answered::InParts,
         }
     }
 
-    /// The entry that the call is to have, if it is to have one.
-    pub fn line(&self) -> Option<Line> {
+    /// The entry that the call of the machine of this id is to have, if it is to have one.
+    pub fn line(&self, id: MachineId) -> Option<Line> {
         match *self {
             Row::Posts(number, (port, how, content), event, _) => Some(Line {
                 number,
@@ -190,7 +225,7 @@ impl Row {
                 number,
                 source: Source::Caller,
                 command: Command::TakeOut,
-                told: Told::Answer(Answer::TakeOut(Some(message(sent, content)))),
+                told: Told::Answer(Answer::TakeOut(Some(message(id, sent, content)))),
             }),
             Row::Delivers(number, (sender, sent, content), event, _) => Some(Line {
                 number,
@@ -256,6 +291,8 @@ impl Row {
             Row::CollectsReason(_, _, _) => true,
             Row::Looks(_, _) => true,
             Row::Copies(_, _) => true,
+            Row::Prints(_, _) => true,
+            Row::HandsOut(_, _, _) => true,
             Row::Cuts => true,
             Row::Refuses(Asked::Turn(_, _), Refusal::Exhausted) => true,
             _ => false,

@@ -1,8 +1,9 @@
 //! Threads that share a machine: each posts through a port of its own, or waits for a reply.
-use super::begun::{machine, tag};
+use super::begun::{AT_FIRST, machine, tag};
 use super::host::{Host, got, holds};
 use super::plain::Plain;
-use st_lock::{Collected, Entry, Machine, Port, Posted};
+use super::posting::Posting;
+use st_lock::{Collected, Entry, Machine, Port};
 use std::alloc::Global;
 use std::process::Abort;
 use std::sync::atomic::{AtomicU64, Ordering};
@@ -14,7 +15,7 @@ const LOOKS: u32 = 5_000;
 
 /// A machine that has just started, which threads may share.
 fn begun_shared(rt: &Host<impl Abort>, alloc: Global) -> Arc<Machine<Plain>> {
-    let core = machine(rt, alloc, 1, [].as_slice());
+    let core = machine(rt, alloc, &AT_FIRST);
     let (machine, token) = got(rt, "a machine", Machine::new(alloc, core));
     holds(rt, "it has no work", token == None);
     Arc::new(alloc, machine).expect(rt, "there is memory")
@@ -25,45 +26,24 @@ fn port(rt: &impl Abort, threads: &impl Wait, machine: &Arc<Machine<Plain>>) -> 
     got(rt, "a port", Machine::port(machine, threads))
 }
 
-/// Posts a cast, and answers its number; 0 where it was refused.
-fn cast(rt: &impl Wait, port: &mut Port<Plain>, content: u32) -> u64 {
-    match port.post(rt, Entry::Cast, content) {
-        Ok(Posted { number, .. }) => number,
-        Err(_) => 0,
-    }
-}
-
 /// Posts a hundred casts.
-fn cast_hundred(rt: &impl Wait, mut port: Port<Plain>, content: u32) -> Port<Plain> {
+fn cast_hundred<P: Posting>(threads: &impl Wait, mut port: P, content: u32) -> P {
     for _ in 0..100 {
-        cast(rt, &mut port, content);
+        let _ = port.post_one(threads, Entry::Cast, content);
     }
     port
 }
 
-/// Says whether numbers rise.
-fn rise(numbers: &[u64]) -> bool {
-    let mut last = 0;
-    for number in numbers {
-        if *number <= last {
-            return false;
-        }
-        last = *number;
-    }
-    true
-}
-
 /// Looks that a hundred of four hundred casts were posted through a port, with numbers that rise.
-fn is_one_of_four(rt: &impl Abort, threads: &impl Wait, port: &mut Port<Plain>) {
-    holds(rt, "it has posted 100", port.count() == 100);
-    let look = got(rt, "a look", port.look(threads));
-    holds(rt, "100 are mine", look.mine == 100);
-    holds(rt, "there are 400 entries", look.entries == 400);
-    holds(rt, "400 wait", look.waiting == 400);
-    let numbers = look.numbers.as_slice();
-    holds(rt, "100 numbers are mine", numbers.len() == 100);
-    holds(rt, "the numbers rise", rise(numbers));
-    drop(look);
+fn is_one_of_four<P: Posting>(rt: &impl Abort, threads: &impl Wait, mut port: P) {
+    let seen = got(rt, "a look", port.glance(threads));
+    drop(port);
+    holds(rt, "it has posted 100", seen.count == 100);
+    holds(rt, "100 are mine", seen.mine == 100);
+    holds(rt, "there are 400 entries", seen.entries == 400);
+    holds(rt, "400 wait", seen.waiting == 400);
+    holds(rt, "100 numbers are mine", seen.numbers == 100);
+    holds(rt, "the numbers rise", seen.rise);
 }
 
 #[test]
@@ -83,9 +63,8 @@ fn four_threads_post_through_ports_of_their_own(rt: HostRuntime) {
     for child in children {
         ports.push(child.join(&threads)).expect(&rt, "a place");
     }
-    for mut port in ports {
-        is_one_of_four(&rt, &threads, &mut port);
-        drop(port);
+    for port in ports {
+        is_one_of_four(&rt, &threads, port);
     }
     drop(machine);
     rt.end_with_memory();
@@ -120,10 +99,10 @@ fn lets_them_sleep(threads: &impl Wait, machine: &Machine<Plain>, begun: &Atomic
 }
 
 /// Posts the machine's first two requests.
-fn calls_twice(rt: &impl Abort, threads: &impl Wait, port: &mut Port<Plain>) {
+fn calls_twice<P: Posting>(rt: &impl Abort, threads: &impl Wait, port: &mut P) {
     for number in 1..3 {
-        let posted = got(rt, "the call", port.post(threads, Entry::Call, 0));
-        holds(rt, "the request's number", posted.number == number);
+        let posted = port.post_one(threads, Entry::Call, 0);
+        holds(rt, "the request's number", posted == Some(number));
     }
 }
 
@@ -166,22 +145,17 @@ fn one_waits_for_a_reply_and_another_for_the_end(rt: HostRuntime) {
 
 /// Looks at the last casts: one more through the port of a thread that has ended, and one through a new port, after two
 /// hundred casts through two ports, of which one was dropped.
-fn are_the_last(
-    rt: &impl Abort,
-    threads: &impl Wait,
-    machine: &Arc<Machine<Plain>>,
-    old: Port<Plain>,
-) {
-    let mut second = old;
-    let mut third = port(rt, threads, machine);
-    holds(rt, "the number 201", cast(threads, &mut second, 10) == 201);
-    holds(rt, "the number 202", cast(threads, &mut third, 12) == 202);
-    let look = got(rt, "a look", third.look(threads));
-    holds(rt, "one is the new port's", look.mine == 1);
-    holds(rt, "there are 202 entries", look.entries == 202);
-    holds(rt, "the old port has posted 101", second.count() == 101);
-    holds(rt, "the new port has posted 1", third.count() == 1);
-    drop(look);
+fn are_the_last<P: Posting>(rt: &impl Abort, threads: &impl Wait, mut second: P, mut third: P) {
+    let cast = second.post_one(threads, Entry::Cast, 10);
+    holds(rt, "the number 201", cast == Some(201));
+    let cast = third.post_one(threads, Entry::Cast, 12);
+    holds(rt, "the number 202", cast == Some(202));
+    let seen = got(rt, "a look", third.glance(threads));
+    holds(rt, "one is the new port's", seen.mine == 1);
+    holds(rt, "there are 202 entries", seen.entries == 202);
+    holds(rt, "the new port has posted 1", seen.count == 1);
+    let seen = got(rt, "a look", second.glance(threads));
+    holds(rt, "the old port has posted 101", seen.count == 101);
     drop(third);
     drop(second);
 }
@@ -196,7 +170,8 @@ fn a_port_that_is_dropped_harms_nobody(rt: HostRuntime) {
     let child = thread::spawn(&threads, move || cast_hundred(&threads, second, 10));
     drop(cast_hundred(&threads, first, 11));
     let second = child.expect(&rt, "a thread").join(&threads);
-    are_the_last(&rt, &threads, &machine, second);
+    let third = port(&rt, &threads, &machine);
+    are_the_last(&rt, &threads, second, third);
     drop(machine);
     rt.end_with_memory();
 }

@@ -1,27 +1,76 @@
-//! A machine that is told what a cell's journal says.
+//! A machine by itself, which is told what a cell's journal says.
 use super::begun::is_made_again;
-use super::host::{Host, holds};
+use super::host::{Host, got, holds};
 use super::plain::Plain;
-use st_core::{Answer, Command, Core, MachineState, Refusal};
+use st_core::{Answer, Command, Core, MachineId, MachineState, Refusal, Start};
 use st_lock::JournalEntry;
+use st_replay::{Replayed, replay};
+use std::alloc::Global;
 use std::process::Abort;
 
 /// A machine by itself.
 pub trait Twin: Drop {
+    /// One of this id that has started at the moment 0, and whose first event gets this number; or why there is none.
+    fn try_start(
+        rt: &Host<impl Abort>,
+        alloc: Global,
+        id: MachineId,
+        first: u64,
+    ) -> Result<Self, Refusal>;
+
     /// Does one command.
     fn do_step(&mut self, command: Command<u32>) -> Answer<u32, u32>;
 
     /// The whole machine as a value, or that there is no memory for it.
     fn try_snapshot(&mut self) -> Result<MachineState<u32, u32, u32>, Refusal>;
+
+    /// Replays entries: how that ends, and the state in which it leaves the machine.
+    fn replay_all(&mut self, alloc: Global, entries: &[JournalEntry<u32, u32>]) -> (Replayed, u32);
 }
 
 impl Twin for Core<Plain> {
+    fn try_start(
+        rt: &Host<impl Abort>,
+        alloc: Global,
+        id: MachineId,
+        first: u64,
+    ) -> Result<Core<Plain>, Refusal> {
+        holds(rt, "the first number is above 0", first >= 1);
+        holds(rt, "the first number is below 2^63", first < 1 << 63);
+        match Core::start_from(alloc, Plain, id, &(), 0, first) {
+            Ok(Start::Running(core, report)) => {
+                drop(report);
+                Ok(core)
+            }
+            Ok(Start::Ignored) => Err(Refusal::NotPossible),
+            Ok(Start::Stopped(_)) => Err(Refusal::NotPossible),
+            Err(refused) => Err(refused.refusal),
+        }
+    }
+
     fn do_step(&mut self, command: Command<u32>) -> Answer<u32, u32> {
         self.step(command)
     }
 
     fn try_snapshot(&mut self) -> Result<MachineState<u32, u32, u32>, Refusal> {
         self.snapshot()
+    }
+
+    fn replay_all(&mut self, alloc: Global, entries: &[JournalEntry<u32, u32>]) -> (Replayed, u32) {
+        let replayed = replay(alloc, self, entries);
+        (replayed, self.state())
+    }
+}
+
+/// Starts a machine. Where it finds no memory, it is started again.
+pub fn started<U: Twin>(rt: &Host<impl Abort>, alloc: Global, id: MachineId, first: u64) -> U {
+    match U::try_start(rt, alloc, id, first) {
+        Ok(machine) => machine,
+        Err(refusal) => {
+            is_made_again(rt, refusal);
+            let again = U::try_start(rt, alloc, id, first);
+            got(rt, "one allocation alone is refused", again)
+        }
     }
 }
 
@@ -76,7 +125,7 @@ pub fn snapshot_of<U: Twin>(rt: &Host<impl Abort>, twin: &mut U) -> MachineState
 }
 
 /// Does the commands of a journal, and looks that each is answered as the journal says.
-pub fn replays<U: Twin>(rt: &Host<impl Abort>, twin: &mut U, entries: &[JournalEntry<u32, u32>]) {
+pub fn tells<U: Twin>(rt: &Host<impl Abort>, twin: &mut U, entries: &[JournalEntry<u32, u32>]) {
     for entry in entries {
         let answer = steps(rt, twin, &entry.command);
         let is_told = answer == entry.answer;

@@ -58,7 +58,7 @@ fn change_one(line: &mut Line, what: Change) {
         Change::After(_, state) => with_state(&mut line.answer, state),
         Change::Content(_, content) => with_command(line, Command::Post(Entry::Cast, content)),
         Change::NoMemory(_) => {
-            with_answer(line, Answer::Post(Err(Refused::new(Refusal::NoMemory, 2))));
+            with_answer(line, Answer::Post(Err(Refused::new(Refusal::NoMemory, 6))));
         }
         _ => {}
     }
