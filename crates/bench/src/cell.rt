@@ -133,19 +133,3 @@ pub fn call_in_cell<T: Celled>(cell: &mut T, count: u32, most: u32) -> Result<u6
     }
     Ok(replies)
 }
-
-/// Posts casts, so many, while others may post and serve too, and serves the machine by each token that it gets; where
-/// the journal has so many entries of its own, it is cut. It counts the casts that were posted.
-pub fn cast_beside<T: Celled>(cell: &mut T, count: u32, most: u32) -> Result<u64, Refusal> {
-    let mut posted = 0u64;
-    for _ in 0..count {
-        if let Some(Posted { wake, .. }) = cell.hand_in(Entry::Cast, Work::Keep)? {
-            posted = posted.saturating_add(1);
-            if let Some(token) = wake {
-                cell.serve(token)?;
-            }
-        }
-        cell.cut_at(most)?;
-    }
-    Ok(posted)
-}

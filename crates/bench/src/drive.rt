@@ -110,24 +110,6 @@ where
     Ok(turns)
 }
 
-/// Posts a cast, lets a millisecond pass and makes one turn, so many times.
-pub fn post_tick_and_turn<M: Module>(
-    core: &mut Core<M>,
-    content: M::Content,
-    count: u32,
-) -> Result<u64, Refusal>
-where
-    M::Content: Copy,
-{
-    let mut turns = 0u64;
-    for now in 0..count {
-        core.post(Entry::Cast, content)?;
-        core.tick_to(now as u64)?;
-        turns = turns.saturating_add(turn(core, now as u64)?);
-    }
-    Ok(turns)
-}
-
 /// Posts so many casts, and then makes all turns.
 pub fn post_all_and_turn<M: Module>(
     core: &mut Core<M>,
@@ -218,10 +200,4 @@ where
         turns = turns.saturating_add(post_and_turn(core, content, 0)?);
     }
     Ok(turns)
-}
-
-/// Ends a machine.
-pub fn end<M: Module>(core: &mut Core<M>) -> Result<u64, Refusal> {
-    core.stop(0)?;
-    Ok(1)
 }

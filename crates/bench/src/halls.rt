@@ -25,14 +25,29 @@ pub fn filled<R: Runtime>(
 ) -> Result<(Arc<Hall<Load, R>>, Vec<Port<Load>>), Refusal> {
     let hall = empty(rt, alloc)?;
     let mut ports = Vec::new(alloc);
-    for _ in 0..many {
-        if let Some(port) = started(&rt, &hall)? {
-            if ports.push(port).is_err() {
-                return Err(Refusal::NoMemory);
-            }
+    match fill(&rt, &hall, &mut ports, many) {
+        Ok(()) => Ok((hall, ports)),
+        Err(refusal) => {
+            drop(ports);
+            drop(hall);
+            Err(refusal)
         }
     }
-    Ok((hall, ports))
+}
+
+/// Starts so many machines, and puts a port of each behind the others.
+fn fill<R: Runtime>(
+    rt: &R,
+    hall: &Hall<Load, R>,
+    ports: &mut Vec<Port<Load>>,
+    many: u32,
+) -> Result<(), Refusal> {
+    for _ in 0..many {
+        if let Some(port) = started(rt, hall)? {
+            ports.push(port)?;
+        }
+    }
+    Ok(())
 }
 
 /// Starts a machine, and opens a port of it.

@@ -1,8 +1,8 @@
 //! What can be measured.
 use crate::cell::{Celled, call_in_cell, cast_in_cell, in_cell};
 use crate::drive::{
-    call_each, cycle, end, expire_each, finish_backwards, finish_in_order, post_all_and_turn,
-    post_and_turn, post_and_turn_each, post_tick_and_turn, started, take_out_each, turn_each,
+    call_each, cycle, expire_each, finish_backwards, finish_in_order, post_all_and_turn,
+    post_and_turn, post_and_turn_each, started, take_out_each, turn_each,
 };
 use crate::due::take_and_note_each;
 use crate::latch::{Latch, Press};
@@ -12,18 +12,18 @@ use crate::queue::pass;
 use crate::robbed_queue::RobbedQueue;
 use crate::rounds::rounds;
 use crate::services::{call_to_service, cast_to_service, insert_in_service};
-use crate::shared::{Shared, cast_in_threads, share};
+use crate::shared::{Shared, share};
 use crate::shared_queue::SharedQueue;
 use crate::turns::{ticked_turns, turns};
 use crate::watch::watch_each;
-use crate::workers::{call_to_pool, cast_to_pool, insert_by_workers, pass_by_workers};
+use crate::workers::{insert_by_workers, pass_by_workers};
 use st_core::{Core, MachineId, Refusal};
 use st_lock::Cell;
 use st_pool::Runtime;
 use st_runq::Lane;
 use std::alloc::Global;
 use std::rt::Clock;
-use std::sync::{Arc, Wait};
+use std::sync::Wait;
 
 /// The identity of a measured machine.
 const ID: MachineId = MachineId { slot: 0, serial: 1 };
@@ -35,8 +35,6 @@ pub enum Line {
     Casts,
     /// The same, while so many time-outs run.
     CastsBeside,
-    /// Casts that keep the state, with a tick before each turn.
-    CastsWithTicks,
     /// All casts are posted first.
     PostedFirst,
     /// Buttons of a door that do not open it: each sets the event time-out anew.
@@ -69,8 +67,6 @@ pub enum Line {
     Inserts,
     /// Events each of which inserts so many others in one list.
     InsertLists,
-    /// Machines that are started and stopped.
-    StartAndStop,
     /// Tokens that a worker puts into its own run queue and takes from it, while so many others wait there: those that
     /// come in order are counted.
     OwnQueue,
@@ -91,10 +87,6 @@ pub enum Line {
     PortCasts,
     /// The same with calls, whose replies are collected.
     PortCalls,
-    /// Casts by so many threads to one machine, each of which serves it by the tokens that it gets.
-    ThreadsOfOne,
-    /// Casts by so many threads, each to a machine of its own.
-    ThreadsApart,
     /// Rounds of a worker on whose own run queue so many tokens stand, and whose turns do nothing: those that serve a
     /// token are counted.
     Rounds,
@@ -105,22 +97,13 @@ pub enum Line {
     Turns,
     /// The same behind a ticker.
     TickedTurns,
-    /// Casts that keep the state, to a machine that a pool's one worker serves, and whose journal is cut where so many
-    /// were posted.
-    PoolCasts,
-    /// Calls of such a machine, each of which waits for its reply.
-    PoolCalls,
     /// Events that so many machines insert and handle, served by a pool of one worker.
     OneWorker,
-    /// The same by two workers.
-    TwoWorkers,
     /// The same by four workers.
     FourWorkers,
     /// A message that is handed round a ring of so many machines, so often, served by a pool of one worker: the entries of
     /// the journals are counted.
     RingByOne,
-    /// The same by two workers.
-    RingByTwo,
     /// The same by four workers.
     RingByFour,
     /// Casts that keep the state, to a machine of a service with one worker, whose journal has so many entries, or which keeps none
@@ -135,10 +118,9 @@ pub enum Line {
 }
 
 /// Each line by its name.
-pub static LINES: [(&str, Line); 46] = [
+pub static LINES: [(&str, Line); 38] = [
     ("casts", Line::Casts),
     ("casts-beside", Line::CastsBeside),
-    ("casts-with-ticks", Line::CastsWithTicks),
     ("posted-first", Line::PostedFirst),
     ("wrong-buttons", Line::WrongButtons),
     ("door-cycle", Line::DoorCycle),
@@ -154,7 +136,6 @@ pub static LINES: [(&str, Line); 46] = [
     ("settings", Line::Settings),
     ("inserts", Line::Inserts),
     ("insert-lists", Line::InsertLists),
-    ("start-and-stop", Line::StartAndStop),
     ("own-queue", Line::OwnQueue),
     ("steals", Line::Steals),
     ("shared-queue", Line::SharedQueue),
@@ -164,19 +145,13 @@ pub static LINES: [(&str, Line); 46] = [
     ("cell-calls", Line::CellCalls),
     ("port-casts", Line::PortCasts),
     ("port-calls", Line::PortCalls),
-    ("threads-of-one", Line::ThreadsOfOne),
-    ("threads-apart", Line::ThreadsApart),
     ("rounds", Line::Rounds),
     ("watch", Line::Watch),
     ("turns", Line::Turns),
     ("ticked-turns", Line::TickedTurns),
-    ("pool-casts", Line::PoolCasts),
-    ("pool-calls", Line::PoolCalls),
     ("pool-1", Line::OneWorker),
-    ("pool-2", Line::TwoWorkers),
     ("pool-4", Line::FourWorkers),
     ("ring-1", Line::RingByOne),
-    ("ring-2", Line::RingByTwo),
     ("ring-4", Line::RingByFour),
     ("service-casts", Line::ServiceCasts),
     ("service-calls", Line::ServiceCalls),
@@ -199,18 +174,12 @@ impl Line {
                 self.done_on_queue(&rt, alloc, count, more)
             }
             Line::PortCasts | Line::PortCalls => self.done_by_port(rt, alloc, count, more),
-            Line::ThreadsOfOne | Line::ThreadsApart => self.done_by_threads(rt, alloc, count, more),
             Line::Rounds => rounds(&rt, alloc, count, more),
             Line::Watch => watch_each(rt, alloc, count),
             Line::Turns => turns(rt, alloc, count, more),
             Line::TickedTurns => ticked_turns(rt, alloc, count, more),
-            Line::PoolCasts | Line::PoolCalls => self.done_by_client(rt, alloc, count, more),
-            Line::OneWorker | Line::TwoWorkers | Line::FourWorkers => {
-                self.done_by_workers(rt, alloc, count, more)
-            }
-            Line::RingByOne | Line::RingByTwo | Line::RingByFour => {
-                self.done_round(rt, alloc, count, more)
-            }
+            Line::OneWorker | Line::FourWorkers => self.done_by_workers(rt, alloc, count, more),
+            Line::RingByOne | Line::RingByFour => self.done_round(rt, alloc, count, more),
             Line::ServiceCasts | Line::ServiceCalls | Line::ServiceOfOne | Line::ServiceOfFour => {
                 self.done_by_service(rt, alloc, count, more)
             }
@@ -255,7 +224,6 @@ impl Line {
         match self {
             Line::WrongButtons | Line::DoorCycle => self.done_by_latch(alloc, count),
             Line::Machines => many_machines(alloc, count, more),
-            Line::StartAndStop => started_and_stopped(alloc, count),
             Line::Pool => play(alloc, count, more),
             Line::CellCasts | Line::CellCalls => self.done_in_cell(alloc, count, more),
             _ => self.done_by_load(alloc, count, more),
@@ -318,50 +286,6 @@ impl Line {
         }
     }
 
-    /// Does a line of so many threads.
-    fn done_by_threads<R: Runtime>(
-        self,
-        rt: R,
-        alloc: Global,
-        count: u32,
-        threads: u32,
-    ) -> Result<u64, Refusal> {
-        let mut machines = Vec::new(alloc);
-        for number in 0..threads {
-            let machine = match machines.last() {
-                Some(machine) if matches!(self, Line::ThreadsOfOne) => Arc::try_clone(machine)?,
-                _ => {
-                    let id = MachineId {
-                        slot: number as usize,
-                        serial: 1,
-                    };
-                    let Some(load) = started(alloc, Load, id, &0)? else {
-                        return Ok(0);
-                    };
-                    share(alloc, load)?
-                }
-            };
-            if machines.push(machine).is_err() {
-                return Err(Refusal::NoMemory);
-            }
-        }
-        cast_in_threads(rt, alloc, machines, count)
-    }
-
-    /// Does a line of a client of a machine that a worker serves.
-    fn done_by_client<R: Runtime>(
-        self,
-        rt: R,
-        alloc: Global,
-        count: u32,
-        more: u32,
-    ) -> Result<u64, Refusal> {
-        match self {
-            Line::PoolCasts => cast_to_pool(rt, alloc, count, more),
-            _ => call_to_pool(rt, alloc, count, more),
-        }
-    }
-
     /// Does a line of machines that workers serve.
     fn done_by_workers<R: Runtime>(
         self,
@@ -372,7 +296,6 @@ impl Line {
     ) -> Result<u64, Refusal> {
         match self {
             Line::OneWorker => insert_by_workers(rt, alloc, 1, count, more),
-            Line::TwoWorkers => insert_by_workers(rt, alloc, 2, count, more),
             _ => insert_by_workers(rt, alloc, 4, count, more),
         }
     }
@@ -387,7 +310,6 @@ impl Line {
     ) -> Result<u64, Refusal> {
         match self {
             Line::RingByOne => pass_by_workers(rt, alloc, 1, count, more),
-            Line::RingByTwo => pass_by_workers(rt, alloc, 2, count, more),
             _ => pass_by_workers(rt, alloc, 4, count, more),
         }
     }
@@ -439,7 +361,6 @@ impl Line {
     /// Does a line of a machine at which nothing else waits or runs.
     fn done_alone(self, core: &mut Core<Load>, count: u32) -> Result<u64, Refusal> {
         match self {
-            Line::CastsWithTicks => post_tick_and_turn(core, Work::Keep, count),
             Line::PostedFirst => post_all_and_turn(core, Work::Keep, count),
             Line::Calls => call_each(core, Work::Answer, count),
             Line::Sends => take_out_each(core, Work::Send(2), count),
@@ -504,21 +425,4 @@ fn started_in_cell(alloc: Global) -> Result<Option<Box<Cell<Load>>>, Refusal> {
         Some(load) => Ok(Some(in_cell(alloc, load)?)),
         None => Ok(None),
     }
-}
-
-/// Starts and stops a machine.
-fn start_and_stop(alloc: Global) -> Result<u64, Refusal> {
-    match started(alloc, Load, ID, &0)? {
-        Some(mut core) => end(&mut core),
-        None => Ok(0),
-    }
-}
-
-/// Starts and stops one machine after another.
-fn started_and_stopped(alloc: Global, count: u32) -> Result<u64, Refusal> {
-    let mut ended = 0u64;
-    for _ in 0..count {
-        ended = ended.saturating_add(start_and_stop(alloc)?);
-    }
-    Ok(ended)
 }

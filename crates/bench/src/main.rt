@@ -5,7 +5,6 @@
 #![tactic(auto)]
 
 mod cell;
-mod client;
 mod drive;
 mod due;
 mod halls;

@@ -78,6 +78,22 @@ fn call_each<R: Runtime + Clock>(port: &mut Ports<R>, count: u32) -> Result<u64,
     Ok(replies)
 }
 
+/// Starts a machine, casts so many times to it, and then calls it. Answers 1 where a reply came.
+fn cast_to_one<R: Runtime + Clock>(services: &Services<R>, count: u32) -> Result<u64, Refusal> {
+    let mut port = spawned(services)?;
+    let replied = cast_and_call(&mut port, count);
+    drop(port);
+    replied
+}
+
+/// Starts a machine, and calls it so many times. Answers how many replies came.
+fn call_one<R: Runtime + Clock>(services: &Services<R>, count: u32) -> Result<u64, Refusal> {
+    let mut port = spawned(services)?;
+    let replied = call_each(&mut port, count);
+    drop(port);
+    replied
+}
+
 /// Casts so many times to a machine that one worker serves, and then calls it. Answers whether it replied.
 pub fn cast_to_service<R: Runtime + Clock>(
     rt: R,
@@ -86,9 +102,7 @@ pub fn cast_to_service<R: Runtime + Clock>(
     entries: u32,
 ) -> Result<u64, Refusal> {
     let services = service(rt, alloc, 1, entries)?;
-    let mut port = spawned(&services)?;
-    let replied = cast_and_call(&mut port, count);
-    drop(port);
+    let replied = cast_to_one(&services, count);
     drop(services);
     replied
 }
@@ -101,24 +115,21 @@ pub fn call_to_service<R: Runtime + Clock>(
     entries: u32,
 ) -> Result<u64, Refusal> {
     let services = service(rt, alloc, 1, entries)?;
-    let mut port = spawned(&services)?;
-    let replied = call_each(&mut port, count);
-    drop(port);
+    let replied = call_one(&services, count);
     drop(services);
     replied
 }
 
-/// Starts so many machines, and answers their ports.
-fn ports_of<R: Runtime + Clock>(
-    alloc: Global,
+/// Starts so many machines, and puts a port of each behind the others.
+fn fill<R: Runtime + Clock>(
     services: &Services<R>,
+    ports: &mut Vec<Ports<R>>,
     many: u32,
-) -> Result<Vec<Ports<R>>, Refusal> {
-    let mut ports = Vec::new(alloc);
+) -> Result<(), Refusal> {
     for _ in 0..many {
         ports.push(spawned(services)?)?;
     }
-    Ok(ports)
+    Ok(())
 }
 
 /// Casts once through each port: its machine is to insert so many events.
@@ -168,8 +179,11 @@ pub fn insert_in_service<R: Runtime + Clock>(
     requires { (1 ≤ workers) × (workers ≤ 16) }
 {
     let services = service(rt, alloc, workers, 0)?;
-    let mut ports = ports_of(alloc, &services, many)?;
-    let replied = insert_and_call(&mut ports, count, many);
+    let mut ports = Vec::new(alloc);
+    let replied = match fill(&services, &mut ports, many) {
+        Ok(()) => insert_and_call(&mut ports, count, many),
+        Err(refusal) => Err(refusal),
+    };
     drop(ports);
     drop(services);
     replied

@@ -1,16 +1,11 @@
-//! Casts and calls of a machine that threads share, through ports, in one thread and in several.
-use crate::cell::{Celled, cast_beside};
+//! Casts and calls of a machine that threads may share, through a port, in one thread.
+use crate::cell::Celled;
 use crate::load::{Load, Work};
 use st_core::{Collected, Core, Entry, Refusal};
 use st_events::Token;
 use st_lock::{Machine, Next, Port, Posted};
 use std::alloc::Global;
 use std::sync::{Arc, Wait};
-use std::thread;
-use std::thread::Threads;
-
-/// How many entries of its own a thread makes before it cuts the journal.
-const MOST: u32 = 64;
 
 /// A machine that threads share, one of its ports, and how many entries were made through it since it cut the journal.
 #[derive(Drop)]
@@ -89,37 +84,4 @@ pub fn share(alloc: Global, core: Core<Load>) -> Result<Arc<Machine<Load>>, Refu
         },
         Err(refused) => Err(refused.refusal),
     }
-}
-
-/// Posts casts, so many, through a port of its own, and serves the machine by each token that it gets.
-fn cast_by_port<R: Wait + Drop>(
-    rt: R,
-    machine: Arc<Machine<Load>>,
-    count: u32,
-) -> Result<u64, Refusal> {
-    let mut shared = Shared::new(rt, machine)?;
-    cast_beside(&mut shared, count, MOST)
-}
-
-/// Each of these machines gets a thread that posts casts, so many, and serves it. It counts the casts.
-pub fn cast_in_threads<R: Wait + Threads + Copy + Send + Drop + 'static>(
-    rt: R,
-    alloc: Global,
-    machines: Vec<Arc<Machine<Load>>>,
-    count: u32,
-) -> Result<u64, Refusal> {
-    let mut children = Vec::new(alloc);
-    for machine in machines {
-        let Ok(child) = thread::spawn(&rt, move || cast_by_port(rt, machine, count)) else {
-            return Err(Refusal::NoMemory);
-        };
-        if children.push(child).is_err() {
-            return Err(Refusal::NoMemory);
-        }
-    }
-    let mut posted = 0u64;
-    for child in children {
-        posted = posted.saturating_add(child.join(&rt)?);
-    }
-    Ok(posted)
 }
