@@ -1,52 +1,63 @@
-//! How halls and their machines begin. All find memory.
+//! How halls and their machines begin.
 use super::host::{Host, got};
 use super::mark::Mark;
 use super::plain::Plain;
 use st_hall::{Hall, Machine, MachineId, Port, Registry, Started};
-use std::alloc::Global;
 use std::process::Abort;
 use std::sync::{Arc, Wait};
+
+/// The id of the first machine that is started in a place of its own.
+pub const FIRST: MachineId = MachineId { slot: 0, serial: 1 };
+
+/// The id of the second one.
+pub const SECOND: MachineId = MachineId { slot: 1, serial: 2 };
+
+/// The id of the third one.
+pub const THIRD: MachineId = MachineId { slot: 2, serial: 3 };
 
 /// The id of this place and serial.
 pub fn id(slot: usize, serial: u64) -> MachineId {
     MachineId { slot, serial }
 }
 
-/// A mark.
+/// A mark. Where there is no memory, it is made again.
 pub fn mark(rt: &Host<impl Abort + AllocGlobal>, is_patient: bool) -> Arc<Mark> {
-    Mark::new(rt.alloc(), is_patient).expect(rt, "a mark")
+    match Mark::new(rt.alloc(), is_patient) {
+        Ok(mark) => mark,
+        Err(_) => {
+            rt.retry();
+            Mark::new(rt.alloc(), is_patient).expect(rt, "one allocation alone is refused")
+        }
+    }
 }
 
-/// A hall with no machine.
+/// A hall without machines, which are to keep a journal, or none.
 pub fn hall<R: Wait + Drop>(
     rt: &Host<impl Abort + AllocGlobal>,
     threads: R,
-) -> Box<Hall<Plain, R>> {
-    rt.boxed(rt.alloc(), Hall::new(threads, Registry::new(rt.alloc())))
+    keeps: bool,
+) -> Hall<Plain, R> {
+    let registry = if keeps {
+        Registry::new(rt.alloc())
+    } else {
+        Registry::unjournaled(rt.alloc())
+    };
+    Hall::new(threads, registry)
 }
 
-/// A registry without machines, which keep a journal, or none.
-fn registry(alloc: Global, keeps: bool) -> Registry<Plain> {
-    if keeps {
-        return Registry::new(alloc);
-    }
-    Registry::unjournaled(alloc)
-}
-
-/// A hall with so many machines, which keep a journal, or none, from the slot 0 on, each with a serial one above its slot.
-pub fn filled<R: Wait + Drop>(
-    rt: &Host<impl Abort + AllocGlobal>,
-    threads: R,
+/// Starts so many machines in a hall without machines, from the slot 0 on, each with a serial one above its slot. They find
+/// memory.
+pub fn fill<R: Wait + Drop>(
+    rt: &impl Abort,
+    hall: &Hall<Plain, R>,
     mark: &Arc<Mark>,
     count: usize,
-    keeps: bool,
-) -> Arc<Hall<Plain, R>> {
-    let hall = Hall::new(threads, registry(rt.alloc(), keeps));
-    let hall = Arc::new(rt.alloc(), hall).expect(rt, "a hall");
+) {
     for _ in 0..count {
-        start(rt, &hall, mark, None);
+        let plain = Plain::new(mark).expect(rt, "an owner");
+        let started = got(rt, "it is started", hall.start(None, plain, &(), 0));
+        running(rt, started);
     }
-    hall
 }
 
 /// The id of a machine that was started, and has no work.
@@ -57,20 +68,8 @@ pub fn running(rt: &impl Abort, started: Started) -> MachineId {
     }
 }
 
-/// Starts a machine under a name, or under none, and answers its id.
-pub fn start<R: Wait + Drop>(
-    rt: &impl Abort,
-    hall: &Hall<Plain, R>,
-    mark: &Arc<Mark>,
-    name: Option<&str>,
-) -> MachineId {
-    let plain = Plain::new(mark).expect(rt, "an owner");
-    let started = got(rt, "it is started", hall.start(name, plain, &(), 0));
-    running(rt, started)
-}
-
-/// Opens a port of the machine of an id.
-fn opened<R: Wait + Drop>(
+/// Opens a port of the machine of an id, and finds memory.
+pub fn opened<R: Wait + Drop>(
     rt: &impl Abort,
     threads: &impl Wait,
     hall: &Hall<Plain, R>,
@@ -80,16 +79,6 @@ fn opened<R: Wait + Drop>(
     let port = Machine::port(&machine, threads).expect(rt, "a port");
     drop(machine);
     port
-}
-
-/// A port of the machine of an id.
-pub fn port<R: Wait + Drop>(
-    rt: &Host<impl Abort + AllocGlobal>,
-    threads: &impl Wait,
-    hall: &Hall<Plain, R>,
-    id: MachineId,
-) -> Box<Port<Plain>> {
-    rt.boxed(rt.alloc(), opened(rt, threads, hall, id))
 }
 
 /// A port of each of so many machines of a hall that was filled.

@@ -1,8 +1,8 @@
 //! Who calls a door.
-use super::doors::{Doors, only_port, port};
+use super::doors::{Doors, first_port, port};
 use super::host::Host;
 use super::tray::Tray;
-use st_client::{Called, Port, Refused, call};
+use st_client::{Called, Port, call};
 use st_door::{Door, DoorContent};
 use std::process::Abort;
 use std::sync::{Arc, Wait};
@@ -21,17 +21,8 @@ pub fn first_caller(
     doors: &mut Doors,
 ) -> Box<Caller> {
     let tray = Arc::new(rt.alloc(), Tray::new(rt.alloc(), true)).expect(rt, "a tray");
-    let port = only_port(rt, threads, doors);
+    let port = first_port(rt, threads, doors, &[None]);
     rt.boxed(rt.alloc(), Caller { port, tray })
-}
-
-/// What a call came to: the length that was replied, or the reason for which the door ended.
-fn came_to(called: &Result<Called<Door>, Refused<DoorContent>>) -> Result<usize, Option<u32>> {
-    match called {
-        Ok(Called::Reply(DoorContent::Length(length))) => Ok(*length),
-        Ok(Called::Stopped(reason)) => Err(Some(*reason)),
-        _ => Err(None),
-    }
 }
 
 impl Caller {
@@ -43,12 +34,16 @@ impl Caller {
         }
     }
 
-    /// What a call for the length of the code came to.
+    /// What a call for the length of the code came to: the length that was replied, or the reason for which the door ended.
     pub fn length(mut self, threads: &impl Wait) -> Result<usize, Option<u32>> {
         let content = DoorContent::CodeLength;
         let called = call(threads, &mut self.port, &*self.tray, content);
         drop(self);
-        let came = came_to(&called);
+        let came = match &called {
+            Ok(Called::Reply(DoorContent::Length(length))) => Ok(*length),
+            Ok(Called::Stopped(reason)) => Err(Some(*reason)),
+            _ => Err(None),
+        };
         drop(called);
         came
     }

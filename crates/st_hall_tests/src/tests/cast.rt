@@ -14,19 +14,6 @@ pub fn posts(rt: &impl Abort, threads: &impl Wait, port: &mut Port<Plain>) -> (u
     (posted.number, posted.wake.expect(rt, "it was at rest"))
 }
 
-/// Casts a content. If its token was issued, it is scheduled.
-fn casts(
-    rt: &impl Abort,
-    threads: &impl Wait,
-    port: &mut Port<Plain>,
-    scheduler: &Scheduler,
-    content: u32,
-) {
-    let sent = cast(threads, port, scheduler, content);
-    let sent = got(rt, "it is posted", sent);
-    holds(rt, "its token is scheduled", sent.left == None);
-}
-
 /// Which of two contents is cast to the machine of a place: one to every other machine.
 fn content_of(place: usize, contents: (u32, u32)) -> u32 {
     if place % 2 == 0 {
@@ -36,7 +23,7 @@ fn content_of(place: usize, contents: (u32, u32)) -> u32 {
     }
 }
 
-/// Casts through each of some ports one of two contents, in turn.
+/// Casts through each of some ports one of two contents, in turn. If a token was issued, it is scheduled.
 pub fn casts_each(
     rt: &impl Abort,
     threads: &impl Wait,
@@ -45,16 +32,10 @@ pub fn casts_each(
     contents: (u32, u32),
 ) {
     for (place, port) in ports.iter_mut().enumerate() {
-        casts(rt, threads, port, scheduler, content_of(place, contents));
+        let sent = cast(threads, port, scheduler, content_of(place, contents));
+        let sent = got(rt, "it is posted", sent);
+        holds(rt, "its token is scheduled", sent.left == None);
     }
-}
-
-/// Looks that a machine rests that has made so many entries, kept or not.
-fn is_at_rest(rt: &impl Abort, threads: &impl Wait, port: &mut Port<Plain>, entries: u64) {
-    let look = got(rt, "there is memory", port.look(threads));
-    holds(rt, "it has no work", look.waiting == 0);
-    holds(rt, "its entries", look.entries == entries);
-    drop(look);
 }
 
 /// Looks that the machines of some ports rest that have made so many entries each, kept or not.
@@ -65,23 +46,15 @@ pub fn are_at_rest(
     entries: u64,
 ) {
     for port in ports.iter_mut() {
-        is_at_rest(rt, threads, port, entries);
+        let look = got(rt, "there is memory", port.look(threads));
+        holds(rt, "it has no work", look.waiting == 0);
+        holds(rt, "its entries", look.entries == entries);
+        drop(look);
     }
 }
 
-/// Looks that a port has posted so many events, that its machine counts as many, and shows the numbers of those that it keeps.
-fn is_mine(rt: &impl Abort, threads: &impl Wait, port: &mut Port<Plain>, posts: u64, keeps: bool) {
-    let look = got(rt, "there is memory", port.look(threads));
-    holds(rt, "the posts of the port", port.count() == posts);
-    holds(rt, "they are mine", look.mine == posts);
-    let numbers = look.numbers.as_slice().len() as u64;
-    drop(look);
-    let kept = if keeps { posts } else { 0 };
-    holds(rt, "their numbers are mine", numbers == kept);
-}
-
-/// Casts twice more through each of some ports, which have posted so many events, with nobody to serve them. Their machines
-/// keep a journal, or none.
+/// Casts twice more through each of some ports, which have posted so many events, with nobody to serve them. Each port has
+/// posted as many then, its machine counts as many, and shows the numbers of those that it keeps, if it keeps a journal.
 pub fn casts_twice_more(
     rt: &impl Abort,
     threads: &impl Wait,
@@ -89,10 +62,17 @@ pub fn casts_twice_more(
     posts: u64,
     keeps: bool,
 ) {
+    let posts = posts.saturating_add(2);
+    let kept = if keeps { posts } else { 0 };
     for port in ports.iter_mut() {
         for _ in 0..2 {
             got(rt, "it is posted", port.post(threads, Entry::Cast, 1));
         }
-        is_mine(rt, threads, port, posts.saturating_add(2), keeps);
+        let look = got(rt, "there is memory", port.look(threads));
+        holds(rt, "the posts of the port", port.count() == posts);
+        holds(rt, "they are mine", look.mine == posts);
+        let numbers = look.numbers.as_slice().len() as u64;
+        drop(look);
+        holds(rt, "their numbers are mine", numbers == kept);
     }
 }

@@ -1,6 +1,6 @@
 //! Doors in a registry, and how they start.
 use super::again::is_made_again;
-use super::begun::id;
+use super::begun::{FIRST, id, running};
 use super::host::{Host, got, holds};
 use st_client::{Machine, MachineId, Port, Refusal, Refused};
 use st_door::{Digits, Door};
@@ -9,11 +9,12 @@ use std::alloc::Global;
 use std::process::Abort;
 use std::sync::{Arc, Wait};
 
-/// A registry of doors, and the code with which each is started.
+/// A registry of doors, the code with which each is started, and the door that was stopped last, which somebody keeps.
 #[derive(Drop)]
 pub struct Doors {
     pub registry: Registry<Door>,
     code: Digits,
+    pub stopped: Option<Arc<Machine<Door>>>,
 }
 
 /// What can be read of a registry with no memory: how many machines there are, and whose the names front, back and side
@@ -31,26 +32,27 @@ fn code(rt: &Host<impl Abort>, alloc: Global, digits: &[u8]) -> Digits {
     }
 }
 
-/// A registry with no door, for doors of this code.
-pub fn no_door_of(rt: &Host<impl Abort>, alloc: Global, digits: &[u8]) -> Box<Doors> {
+/// A registry with no door, for doors of a code of these digits.
+pub fn no_door(rt: &Host<impl Abort>, alloc: Global, digits: &[u8]) -> Box<Doors> {
     let doors = Doors {
         registry: Registry::new(alloc),
         code: code(rt, alloc, digits),
+        stopped: None,
     };
     rt.boxed(alloc, doors)
 }
 
-/// A registry with no door, for doors of the code 1 2 3 4.
-pub fn no_door(rt: &Host<impl Abort>, alloc: Global) -> Box<Doors> {
-    no_door_of(rt, alloc, &[1, 2, 3, 4])
-}
-
 impl Doors {
+    /// The id of a name.
+    pub fn whereis(&self, name: &str) -> Result<MachineId, Refusal> {
+        self.registry.whereis(name)
+    }
+
     /// What can be read of the registry with no memory.
     fn see(&self) -> Seen {
-        let front = self.registry.whereis("front");
-        let back = self.registry.whereis("back");
-        let side = self.registry.whereis("side");
+        let front = self.whereis("front");
+        let back = self.whereis("back");
+        let side = self.whereis("side");
         (self.registry.len(), [front, back, side])
     }
 
@@ -65,52 +67,28 @@ impl Doors {
     }
 }
 
-/// Starts a door again with the module that came back, where it was refused for want of memory.
-fn start_again(
-    rt: &Host<impl Abort>,
-    threads: &impl Wait,
-    doors: &mut Doors,
-    name: Option<&str>,
-    refused: Refused<Door>,
-) -> Result<Started, Refusal> {
-    if refused.refusal != Refusal::NoMemory {
-        return Err(refused.refusal);
-    }
-    rt.retry();
-    match doors.start(threads, name, refused.value) {
-        Ok(started) => Ok(started),
-        Err(refused) => Err(refused.refusal),
-    }
-}
-
-/// Starts a door under a name, or under none. A refusal changes nothing. Where there is no memory, it is started again.
+/// Starts a door under a name, or under none, and answers its id: it runs, and has no work. A refusal changes nothing. Where
+/// there is no memory, it is started again with the module that came back.
 pub fn start(
     rt: &Host<impl Abort>,
     threads: &impl Wait,
     doors: &mut Doors,
     name: Option<&str>,
-) -> Result<Started, Refusal> {
+) -> Result<MachineId, Refusal> {
     let before = doors.see();
-    match doors.start(threads, name, Door) {
-        Ok(started) => Ok(started),
-        Err(refused) => {
-            holds(rt, "a refusal changes nothing", doors.see() == before);
-            start_again(rt, threads, doors, name, refused)
-        }
+    let refused = match doors.start(threads, name, Door) {
+        Ok(started) => return Ok(running(rt, started)),
+        Err(refused) => refused,
+    };
+    holds(rt, "a refusal changes nothing", doors.see() == before);
+    if refused.refusal != Refusal::NoMemory {
+        return Err(refused.refusal);
     }
-}
-
-/// Starts a door under a name, or under none, and looks that it gets this id and has no work.
-pub fn starts(
-    rt: &Host<impl Abort>,
-    threads: &impl Wait,
-    doors: &mut Doors,
-    name: Option<&str>,
-    id: MachineId,
-) {
-    let wanted = Ok(Started::Running { id, wake: None });
-    let started = start(rt, threads, doors, name);
-    holds(rt, "it runs, and has no work", started == wanted);
+    rt.retry();
+    match doors.start(threads, name, refused.value) {
+        Ok(started) => Ok(running(rt, started)),
+        Err(refused) => Err(refused.refusal),
+    }
 }
 
 /// Opens a port. Where there is no memory, it is opened again.
@@ -128,11 +106,31 @@ pub fn port(
     }
 }
 
-/// Starts a door under no name, which is the only one, and answers a port of it.
-pub fn only_port(rt: &Host<impl Abort>, threads: &impl Wait, doors: &mut Doors) -> Port<Door> {
-    starts(rt, threads, doors, None, id(0, 1));
-    let machine = got(rt, "the machine is there", doors.registry.machine(id(0, 1)));
+/// A port of the door of an id.
+pub fn port_of(
+    rt: &Host<impl Abort>,
+    threads: &impl Wait,
+    doors: &Doors,
+    id: MachineId,
+) -> Port<Door> {
+    let machine = got(rt, "the machine is there", doors.registry.machine(id));
     let port = port(rt, threads, &machine);
     drop(machine);
     port
+}
+
+/// Starts the first doors of a registry, each under a name or under none, and answers a port of the first one. Their ids
+/// have the slots from 0 on, and serials one above the slots.
+pub fn first_port(
+    rt: &Host<impl Abort>,
+    threads: &impl Wait,
+    doors: &mut Doors,
+    names: &[Option<&str>],
+) -> Port<Door> {
+    for (slot, name) in names.iter().enumerate() {
+        let its = id(slot, (slot as u64).saturating_add(1));
+        let started = start(rt, threads, doors, *name);
+        holds(rt, "a door is started", started == Ok(its));
+    }
+    port_of(rt, threads, doors, FIRST)
 }

@@ -1,114 +1,77 @@
 //! One door, as a client has it.
-use super::doors::{Doors, no_door, only_port};
-use super::host::Host;
+use super::came::Came;
+use super::doors::Doors;
 use super::sending::Sending;
-use super::tray::Tray;
+use super::waker::Waker;
 use st_client::{
-    Called, Collected, Collection, Port, Refusal, Refused, Request, RequestId, Sent, Token, call,
-    cast, check, info, send_request,
+    Called, Collection, Port, Refused, Request, RequestId, Sent, call, cast, info, send_request,
 };
 use st_door::{Door, DoorContent};
-use std::alloc::Global;
 use std::mem;
-use std::process::Abort;
 use std::sync::Wait;
 
-/// A port of the only door of a registry, and the tray on which the door's token is put; the request that was sent last,
-/// and those that are gathered.
+/// A port of a door of a registry, and who schedules the door's token; the request that was sent last, and those that are
+/// gathered. The port that was used before it stays open.
 #[derive(Drop)]
 pub struct Doorway {
-    doors: Box<Doors>,
+    pub doors: Box<Doors>,
     pub port: Port<Door>,
-    pub tray: Tray,
+    pub before: Option<Port<Door>>,
+    pub waker: Waker,
     pub asked: Option<RequestId<Door>>,
     pub gathered: Collection<Door, char>,
 }
 
-/// A door to which nothing was sent, with a tray that is open or not.
-pub fn only_door(
-    rt: &Host<impl Abort>,
-    threads: &impl Wait,
-    alloc: Global,
-    is_open: bool,
-) -> Box<Doorway> {
-    let mut doors = no_door(rt, alloc);
-    let port = only_port(rt, threads, &mut doors);
-    let doorway = Doorway {
-        doors,
-        port,
-        tray: Tray::new(alloc, is_open),
-        asked: None,
-        gathered: Collection::new(alloc),
-    };
-    rt.boxed(alloc, doorway)
-}
-
 impl Doorway {
-    /// Keeps a request, and answers its event's number, with the token that is left.
-    fn keep(&mut self, id: RequestId<Door>, left: Option<Token>) -> Sent {
+    /// Keeps a request. Its event's number.
+    fn keep(&mut self, id: RequestId<Door>) -> u64 {
         let number = id.tag().request;
         drop(mem::replace(&mut self.asked, Some(id)));
-        Sent { number, left }
+        number
     }
 
-    /// Sends a request.
-    fn ask(
-        &mut self,
-        threads: &impl Wait,
-        content: DoorContent,
-    ) -> Result<Sent, Refused<DoorContent>> {
-        match send_request(threads, &mut self.port, &self.tray, content) {
-            Ok((id, left)) => Ok(self.keep(id, left)),
-            Err(refused) => Err(refused),
-        }
-    }
-
-    /// Keeps the request of a call that was not scheduled. A call that came to anything else has the number 0.
-    fn keep_unscheduled(&mut self, called: Called<Door>) -> Sent {
+    /// What a call came to. Where its request stands, that is kept.
+    fn keep_called(&mut self, called: Called<Door>) -> Came {
         match called {
-            Called::Unscheduled(id, left) => self.keep(id, Some(left)),
-            other => {
-                drop(other);
-                Sent {
-                    number: 0,
-                    left: None,
-                }
+            Called::Reply(content) => Came::Reply(content),
+            Called::Stopped(reason) => Came::Stopped(reason),
+            Called::Gone => Came::Gone,
+            Called::Uncollected(id, refusal) => {
+                self.keep(id);
+                Came::Uncollected(refusal)
             }
+            Called::Unscheduled(id, left) => Came::Unscheduled(self.keep(id), left),
         }
     }
 
-    /// Calls a door that nobody serves.
-    fn call(
-        &mut self,
-        threads: &impl Wait,
-        content: DoorContent,
-    ) -> Result<Sent, Refused<DoorContent>> {
-        match call(threads, &mut self.port, &self.tray, content) {
-            Ok(called) => Ok(self.keep_unscheduled(called)),
-            Err(refused) => Err(refused),
-        }
-    }
-
-    /// Posts an event.
+    /// Posts an event. A request is kept.
     pub fn send(
         &mut self,
         threads: &impl Wait,
         sending: Sending,
         content: DoorContent,
-    ) -> Result<Sent, Refused<DoorContent>> {
+    ) -> Result<Came, Refused<DoorContent>> {
         match sending {
-            Sending::Cast => cast(threads, &mut self.port, &self.tray, content),
-            Sending::Info => info(threads, &mut self.port, &self.tray, content),
-            Sending::Request => self.ask(threads, content),
-            Sending::Call => self.call(threads, content),
+            Sending::Cast => Came::of_sent(cast(threads, &mut self.port, &self.waker, content)),
+            Sending::Info => Came::of_sent(info(threads, &mut self.port, &self.waker, content)),
+            Sending::Request => {
+                match send_request(threads, &mut self.port, &self.waker, content) {
+                    Ok((id, left)) => {
+                        let number = self.keep(id);
+                        Ok(Came::Sent(Sent { number, left }))
+                    }
+                    Err(refused) => Err(refused),
+                }
+            }
+            Sending::Call => match call(threads, &mut self.port, &self.waker, content) {
+                Ok(called) => Ok(self.keep_called(called)),
+                Err(refused) => Err(refused),
+            },
         }
     }
 
-    /// Checks the request that was sent last. Where none was sent, there is no such machine.
-    pub fn check(&self, threads: &impl Wait) -> Result<Collected<DoorContent>, Refusal> {
-        match &self.asked {
-            Some(id) => check(threads, id),
-            None => Err(Refusal::NoSuchMachine),
-        }
+    /// How many requests are gathered.
+    pub fn size(&self) -> usize {
+        self.gathered.size()
     }
 }

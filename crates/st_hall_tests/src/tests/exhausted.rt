@@ -1,5 +1,5 @@
 //! A machine whose turns are refused, since its numbers are used up.
-use super::begun::{id, mark};
+use super::begun::{FIRST, mark};
 use super::cast::posts;
 use super::host::{Host, got, holds};
 use super::mark::Mark;
@@ -27,7 +27,7 @@ fn running(rt: &impl Abort, started: Start<Plain>) -> Core<Plain> {
 /// What a machine is made of that has one number left.
 fn core(rt: &Host<impl Abort + AllocGlobal>, mark: &Arc<Mark>) -> Core<Plain> {
     let plain = Plain::new(mark).expect(rt, "an owner");
-    let started = Core::start_from(rt.alloc(), plain, id(0, 1), &(), 0, LAST);
+    let started = Core::start_from(rt.alloc(), plain, FIRST, &(), 0, LAST);
     running(rt, got(rt, "it is started", started))
 }
 
@@ -60,21 +60,17 @@ fn posted(rt: &impl Abort, threads: &impl Wait, machine: &Arc<Machine<Plain>>) -
     token
 }
 
-/// A token goes round until its machine is stopped, and comes to rest then.
+/// A token goes round until its machine is stopped, and comes to rest then. The pool is closed.
 fn goes_round<R: Runtime>(
     rt: &impl Abort,
     threads: R,
-    pool: &Pool<R, u32>,
+    pool: &mut Pool<R, u32>,
     gate: &Turnstile,
     machine: &Machine<Plain>,
 ) {
     holds(rt, "it goes round", gate.waits_for(1_000));
     holds(rt, "the last word", machine.stop(&threads, 5) == Ok(7));
     pool.drain();
-}
-
-/// Closes a pool whose token went round, and came to rest.
-fn is_over<R: Runtime>(rt: &impl Abort, pool: &mut Pool<R, u32>) {
     let end = got(rt, "there is memory", pool.close());
     holds(rt, "it went round", end.turns > 1_000);
     holds(rt, "no token is left", end.left.is_empty());
@@ -93,8 +89,7 @@ fn serves_in_vain<R: Runtime>(
     let pool = Pool::start(threads, rt.alloc(), 2, &sole, gate);
     let mut pool = rt.boxed(rt.alloc(), pool.expect(rt, "a pool"));
     holds(rt, "it is scheduled", pool.schedule(token) == Ok(()));
-    goes_round(rt, threads, &pool, &**gate, &**machine);
-    is_over(rt, &mut pool);
+    goes_round(rt, threads, &mut pool, &**gate, &**machine);
     drop(pool);
     drop(sole);
 }

@@ -6,6 +6,12 @@ use std::cell::Cell;
 use std::fmt::{Debug, Display};
 use std::io::Print;
 use std::process::Abort;
+use std::sync::Wait;
+
+/// What a test is given to run on.
+pub trait Platform: Abort + AllocGlobal + Print + Wait + Copy + Drop {}
+
+impl<R: Abort + AllocGlobal + Print + Wait + Copy + Drop> Platform for R {}
 
 /// What a test runs on, and how many of its calls were made again since they had found no memory.
 #[derive(Drop)]
@@ -72,8 +78,6 @@ impl<R: Abort + AllocGlobal + Print> Host<R> {
     pub fn end(&self) -> bool {
         for _ in 0..10_000 {
             if Box::new(self.alloc(), 'x').is_err() {
-                let none = self.retries.get() == 0;
-                holds(self, "no call was made again", none);
                 self.end_with_memory();
                 return true;
             }
@@ -82,9 +86,12 @@ impl<R: Abort + AllocGlobal + Print> Host<R> {
     }
 }
 
-impl<R: Print> Host<R> {
-    /// Ends a test that began with memory: none of its own allocations was refused, and it says so.
+impl<R: Abort + Print> Host<R> {
+    /// Ends a test that began with memory: none of its own allocations was refused, so that no call may have been made again,
+    /// and it says so.
     pub fn end_with_memory(&self) {
+        let none = self.retries.get() == 0;
+        holds(self, "no call was made again", none);
         let _ = println!(self.rt; "nothing was refused");
     }
 }

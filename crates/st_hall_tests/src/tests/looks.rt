@@ -1,10 +1,13 @@
 //! A look through a port beside the journal's last turn.
-use super::begun::{hall, mark, port, start};
-use super::cast::posts;
-use super::halls::turns;
-use super::host::{Host, got, holds};
+use super::answer::Answer::Id;
+use super::ask::Ask::Start;
+use super::begun::FIRST;
+use super::hall_row::Act::{Asks, Opens, Posts, Shows, Turns};
+use super::hall_row::Row;
+use super::host::{got, holds, same};
 use super::plain::Plain;
-use st_hall::{Hall, Machine, Port, Token};
+use super::plain_hall::hall_with_memory;
+use st_hall::{Machine, Port};
 use st_lock::{Answer, Command, JournalEntry, Turned};
 use std::process::Abort;
 use std::sync::Wait;
@@ -34,21 +37,27 @@ fn turn_of(entry: &JournalEntry<u32, u32>) -> Option<LastTurn> {
     }
 }
 
-/// The last entry of a machine's journal, which is a turn.
-fn last_turn(rt: &impl Abort, threads: &impl Wait, machine: &Machine<Plain>) -> LastTurn {
+/// The last entry of a machine's journal, if it is a turn with an event.
+fn last_turn(rt: &impl Abort, threads: &impl Wait, machine: &Machine<Plain>) -> Option<LastTurn> {
     let journal = got(rt, "there is memory", machine.journal(threads, "plain"));
     let last = journal.entries.as_slice().last();
-    let last = last.expect(rt, "it was served");
-    let last = turn_of(last).expect(rt, "the last command was a turn with an event");
+    let turn = turn_of(last.expect(rt, "it was served"));
     drop(journal);
-    last
+    turn
 }
 
-/// Looks at a machine that was posted one event: what is seen is what the last turn reported, which handled this event.
-/// How many events wait.
-fn seen_after(rt: &impl Abort, threads: &impl Wait, port: &mut Port<Plain>, event: u64) -> usize {
+/// Looks at a machine that was posted one event: what is seen is what the last turn reported, which handled this event and
+/// inserted so many.
+pub fn shows(
+    rt: &impl Abort,
+    threads: &impl Wait,
+    port: &mut Port<Plain>,
+    word: &str,
+    event: u64,
+    inserted: usize,
+) {
     let look = got(rt, "there is memory", port.look(threads));
-    let last = LastTurn {
+    let seen = LastTurn {
         number: look.entries,
         now: 5,
         event: Some(event),
@@ -56,56 +65,23 @@ fn seen_after(rt: &impl Abort, threads: &impl Wait, port: &mut Port<Plain>, even
         inserted: look.waiting,
     };
     let reported = last_turn(rt, threads, port.machine());
-    holds(rt, "what the last turn reported", reported == last);
-    holds(rt, "the data", look.held == 7);
-    holds(rt, "one is mine", look.mine == 1);
-    let waiting = look.waiting;
+    holds(rt, word, reported == Some(seen));
+    same(rt, word, &look.held, &7);
+    same(rt, word, &look.mine, &1);
+    same(rt, word, &look.waiting, &inserted);
     drop(look);
-    waiting
-}
-
-/// The first turn handled the event that was posted, and inserted one.
-fn first_is_seen<R: Wait + Drop>(
-    rt: &impl Abort,
-    threads: &impl Wait,
-    hall: &Hall<Plain, R>,
-    port: &mut Port<Plain>,
-    number: u64,
-    token: Token,
-) {
-    turns(rt, hall, token, "one more event waits", Some(token));
-    let waiting = seen_after(rt, threads, port, number);
-    holds(rt, "the event that it inserted", waiting == 1);
-}
-
-/// The second turn handled the event that was inserted behind one of this number.
-fn second_is_seen<R: Wait + Drop>(
-    rt: &impl Abort,
-    threads: &impl Wait,
-    hall: &Hall<Plain, R>,
-    port: &mut Port<Plain>,
-    number: u64,
-    token: Token,
-) {
-    turns(rt, hall, token, "no event waits", None);
-    let inserted = number.saturating_add(1);
-    let waiting = seen_after(rt, threads, port, inserted);
-    holds(rt, "no event was inserted", waiting == 0);
 }
 
 #[test]
 fn a_look_shows_what_the_last_turn_reported(rt: HostRuntime) {
-    let threads = rt;
-    let rt = Host::with_memory(rt);
-    let hall = hall(&rt, threads);
-    let mark = mark(&rt, true);
-    let id = start(&rt, &hall, &mark, None);
-    drop(mark);
-    let mut port = port(&rt, &threads, &hall, id);
-    let (number, token) = posts(&rt, &threads, &mut port);
-    first_is_seen(&rt, &threads, &hall, &mut port, number, token);
-    second_is_seen(&rt, &threads, &hall, &mut port, number, token);
-    drop(port);
-    drop(hall);
-    rt.end_with_memory();
+    static ROWS: [Row; 7] = [
+        ("a machine", Asks(Start(None), Id(FIRST))),
+        ("its port", Opens(FIRST)),
+        ("the first event", Posts(1)),
+        ("one more event waits", Turns(true)),
+        ("the event that it inserted", Shows(1, 1)),
+        ("no event waits", Turns(false)),
+        ("no event was inserted", Shows(2, 0)),
+    ];
+    hall_with_memory(rt, 0, &ROWS);
 }

@@ -1,127 +1,69 @@
 //! Doors are started under names, found, unregistered and removed.
-use super::begun::id;
-use super::doors::{Doors, no_door, start, starts};
-use super::host::{Host, got, holds};
-use st_client::{Machine, MachineId, Refusal};
-use st_door::Door;
+use super::answer::Answer;
+use super::answer::Answer::{Count, Done, Id, Refused, Word};
+use super::ask::Ask::{Find, Len, Remove, Start, Stop, Unregister, Whereis};
+use super::ask::{Ask, Row};
+use super::begun::{FIRST, SECOND, THIRD};
+use super::doors::{Doors, no_door, start};
+use super::host::{Host, Platform, holds, same};
+use st_client::{MachineId, Reason, Refusal};
+use std::mem;
 use std::process::Abort;
-use std::sync::{Arc, Wait};
+use std::sync::Wait;
 
-/// Looks that a door is not started under a name, for this reason.
-fn refuses(
-    rt: &Host<impl Abort>,
-    threads: &impl Wait,
-    doors: &mut Doors,
-    name: &str,
-    word: &str,
-    wanted: Refusal,
-) {
-    holds(
-        rt,
-        word,
-        start(rt, threads, doors, Some(name)) == Err(wanted),
-    );
+/// The second machine in the place of the first one.
+const FIRST_AGAIN: MachineId = MachineId { slot: 0, serial: 2 };
+
+/// A name of 64 bytes.
+const LONGEST: &str = "0123456789abcdef0123456789abcdef0123456789abcdef0123456789abcdef";
+
+/// A name of 65 bytes.
+const TOO_LONG: &str = "0123456789abcdef0123456789abcdef0123456789abcdef0123456789abcdef0";
+
+/// What is left of a registry at last: the id that the door says which was stopped last, how many doors there are, and the
+/// names with the ids that they name, in order.
+struct End {
+    stopped: Option<MachineId>,
+    len: usize,
+    names: &'static [(&'static str, MachineId)],
 }
 
-/// Looks that this name names no machine.
-fn names_none(rt: &impl Abort, doors: &Doors, name: &str) {
-    let found = doors.registry.whereis(name);
-    holds(rt, "no such name", found == Err(Refusal::NoSuchName));
-}
-
-/// Removes the machine of an id, and looks what comes of it.
-fn removes(
-    rt: &impl Abort,
+/// Has the door of an id say its id, or stops it for a reason, if there is one, and keeps it then.
+fn found(
     threads: &impl Wait,
     doors: &mut Doors,
     id: MachineId,
-    word: &str,
-    wanted: Result<(), Refusal>,
-) {
-    holds(
-        rt,
-        word,
-        doors.registry.remove_stopped(threads, id) == wanted,
-    );
+    stopping: Option<Reason>,
+) -> Answer {
+    let machine = match doors.registry.machine(id) {
+        Ok(machine) => machine,
+        Err(refusal) => return Refused(refusal),
+    };
+    match stopping {
+        Some(reason) => {
+            let word = machine.stop(threads, reason);
+            drop(mem::replace(&mut doors.stopped, Some(machine)));
+            Answer::of_word(word)
+        }
+        None => {
+            let its = machine.id();
+            drop(machine);
+            Id(its)
+        }
+    }
 }
 
-/// Unregisters a name, and looks what comes of it.
-fn unregisters(
-    rt: &impl Abort,
-    doors: &mut Doors,
-    name: &str,
-    word: &str,
-    wanted: Result<(), Refusal>,
-) {
-    holds(rt, word, doors.registry.unregister(name) == wanted);
-}
-
-/// Removes the machine of an id once it has ended, and answers it: whoever has it keeps it.
-fn removed(
-    rt: &impl Abort,
-    threads: &impl Wait,
-    doors: &mut Doors,
-    id: MachineId,
-) -> Arc<Machine<Door>> {
-    removes(rt, threads, doors, id, "it runs", Err(Refusal::NotStopped));
-    let machine = got(rt, "the machine is there", doors.registry.machine(id));
-    got(rt, "it is stopped", machine.stop(threads, 3));
-    removes(rt, threads, doors, id, "it ended", Ok(()));
-    machine
-}
-
-/// The id of a door that was removed names nothing.
-fn is_gone(rt: &impl Abort, threads: &impl Wait, doors: &mut Doors, id: MachineId) {
-    let found = doors.registry.machine(id).err();
-    holds(rt, "it is gone", found == Some(Refusal::NoSuchMachine));
-    let none = Err(Refusal::NoSuchMachine);
-    removes(rt, threads, doors, id, "it is gone for good", none);
-}
-
-/// A name that is unregistered names nothing.
-fn is_let_go(rt: &impl Abort, doors: &mut Doors) {
-    unregisters(rt, doors, "front", "the name is let go", Ok(()));
-    let again = Err(Refusal::NoSuchName);
-    unregisters(rt, doors, "front", "the name was let go", again);
-    names_none(rt, doors, "front");
-}
-
-/// Looks at a registry whose first door was removed and started again under its name: the old id names nothing, and an
-/// unregistered name neither. The second door is still there.
-fn is_anew(rt: &impl Abort, threads: &impl Wait, doors: &mut Doors) {
-    is_gone(rt, threads, doors, id(0, 1));
-    is_let_go(rt, doors);
-    let second = got(rt, "it is still there", doors.registry.machine(id(0, 2)));
-    holds(rt, "the second one's id", second.id() == id(0, 2));
-    drop(second);
-}
-
-/// Starts the first door of a registry, whose name is taken then, and removes it.
-fn first_removed(
-    rt: &Host<impl Abort>,
-    threads: &impl Wait,
-    doors: &mut Doors,
-) -> Arc<Machine<Door>> {
-    starts(rt, threads, doors, Some("front"), id(0, 1));
-    let taken = Refusal::AlreadyStarted(id(0, 1));
-    refuses(rt, threads, doors, "front", "the name is taken", taken);
-    let first = removed(rt, threads, doors, id(0, 1));
-    names_none(rt, doors, "front");
-    first
-}
-
-#[test]
-fn an_id_names_one_machine_for_good(rt: HostRuntime) {
-    let threads = rt;
-    let rt = Host::new(rt);
-    let mut doors = no_door(&rt, rt.alloc());
-    let first = first_removed(&rt, &threads, &mut doors);
-    starts(&rt, &threads, &mut doors, Some("front"), id(0, 2));
-    is_anew(&rt, &threads, &mut doors);
-    holds(&rt, "the first one's id", first.id() == id(0, 1));
-    drop(first);
-    drop(doors);
-    rt.end();
+/// Makes a call. What it answers.
+fn answer(rt: &Host<impl Abort>, threads: &impl Wait, doors: &mut Doors, ask: Ask) -> Answer {
+    match ask {
+        Start(name) => Answer::of_id(start(rt, threads, doors, name)),
+        Whereis(name) => Answer::of_id(doors.whereis(name)),
+        Find(id) => found(threads, doors, id, None),
+        Unregister(name) => Answer::of_done(doors.registry.unregister(name)),
+        Remove(id) => Answer::of_done(doors.registry.remove_stopped(threads, id)),
+        Stop(id, reason) => found(threads, doors, id, Some(reason)),
+        Len => Count(doors.registry.len()),
+    }
 }
 
 /// Looks that this is the next of some names, and the machine that it names.
@@ -135,58 +77,123 @@ fn is_named(rt: &impl Abort, next: Option<(&String, &MachineId)>, name: &str, id
     }
 }
 
-/// Looks that there are two names.
-fn names_two(rt: &impl Abort, doors: &Doors, first: (&str, MachineId), second: (&str, MachineId)) {
+/// Looks at what is left.
+fn leaves(rt: &impl Abort, doors: &Doors, end: &End) {
+    let stopped = match &doors.stopped {
+        Some(machine) => Some(machine.id()),
+        None => None,
+    };
+    same(rt, "who was stopped", &stopped, &end.stopped);
+    same(rt, "how many there are", &doors.registry.len(), &end.len);
     let mut names = doors.registry.names();
-    is_named(rt, names.next(), first.0, first.1);
-    is_named(rt, names.next(), second.0, second.1);
-    holds(rt, "there is no third name", names.next().is_none());
+    for (name, id) in end.names {
+        is_named(rt, names.next(), *name, *id);
+    }
+    holds(rt, "there is no name more", names.next().is_none());
 }
 
-/// Starts the first three doors of a registry.
-fn start_three(rt: &Host<impl Abort>, threads: &impl Wait, doors: &mut Doors) {
-    holds(rt, "it is empty at first", doors.registry.is_empty());
-    starts(rt, threads, doors, Some("front"), id(0, 1));
-    starts(rt, threads, doors, Some("back"), id(1, 2));
-    starts(rt, threads, doors, Some("side"), id(2, 3));
+/// A whole test: what the calls of rows answer, and what they leave.
+fn answers_are<R: Platform>(rt: R, rows: &[Row], end: &End) {
+    let threads = rt;
+    let rt = Host::new(rt);
+    let mut doors = no_door(&rt, rt.alloc(), &[1, 2, 3, 4]);
+    holds(&rt, "it is empty at first", doors.registry.is_empty());
+    for (word, ask, wanted) in rows {
+        same(&rt, *word, &answer(&rt, &threads, &mut doors, *ask), wanted);
+    }
+    leaves(&rt, &doors, end);
+    drop(doors);
+    rt.end();
+}
+
+/// A door is stopped and removed, and another is started under its name, which is then let go.
+static ONE_FOR_GOOD: [Row; 13] = [
+    ("the first door", Start(Some("front")), Id(FIRST)),
+    (
+        "the name is taken",
+        Start(Some("front")),
+        Refused(Refusal::AlreadyStarted(FIRST)),
+    ),
+    ("it runs", Remove(FIRST), Refused(Refusal::NotStopped)),
+    ("no button counts", Stop(FIRST, 3), Word(0)),
+    ("it ended", Remove(FIRST), Done),
+    (
+        "its name is gone",
+        Whereis("front"),
+        Refused(Refusal::NoSuchName),
+    ),
+    ("the second door", Start(Some("front")), Id(FIRST_AGAIN)),
+    (
+        "the first one is gone",
+        Find(FIRST),
+        Refused(Refusal::NoSuchMachine),
+    ),
+    (
+        "it is gone for good",
+        Remove(FIRST),
+        Refused(Refusal::NoSuchMachine),
+    ),
+    ("the name is let go", Unregister("front"), Done),
+    (
+        "the name was let go",
+        Unregister("front"),
+        Refused(Refusal::NoSuchName),
+    ),
+    (
+        "no such name",
+        Whereis("front"),
+        Refused(Refusal::NoSuchName),
+    ),
+    (
+        "the second one is still there",
+        Find(FIRST_AGAIN),
+        Id(FIRST_AGAIN),
+    ),
+];
+
+#[test]
+fn an_id_names_one_machine_for_good(rt: HostRuntime) {
+    static END: End = End {
+        stopped: Some(FIRST),
+        len: 1,
+        names: &[],
+    };
+    answers_are(rt, &ONE_FOR_GOOD, &END);
 }
 
 #[test]
 fn names_stand_in_order(rt: HostRuntime) {
-    let threads = rt;
-    let rt = Host::new(rt);
-    let mut doors = no_door(&rt, rt.alloc());
-    start_three(&rt, &threads, &mut doors);
-    unregisters(&rt, &mut doors, "back", "back is let go", Ok(()));
-    holds(&rt, "three machines are left", doors.registry.len() == 3);
-    names_two(&rt, &doors, ("front", id(0, 1)), ("side", id(2, 3)));
-    drop(doors);
-    rt.end();
-}
-
-/// Looks that no door is started under a name that is empty or too long.
-fn refuses_bad_names(rt: &Host<impl Abort>, threads: &impl Wait, doors: &mut Doors) {
-    let longer = "0123456789abcdef0123456789abcdef0123456789abcdef0123456789abcdef0";
-    let bad = Refusal::BadName;
-    refuses(rt, threads, doors, "", "the empty name", bad);
-    refuses(rt, threads, doors, longer, "a name too long", bad);
-}
-
-/// Starts a door under the longest name, and finds it.
-fn takes_the_longest(rt: &Host<impl Abort>, threads: &impl Wait, doors: &mut Doors) {
-    let longest = "0123456789abcdef0123456789abcdef0123456789abcdef0123456789abcdef";
-    starts(rt, threads, doors, Some(longest), id(0, 1));
-    let found = doors.registry.whereis(longest);
-    holds(rt, "the longest name", found == Ok(id(0, 1)));
+    static ROWS: [Row; 5] = [
+        ("the first door", Start(Some("front")), Id(FIRST)),
+        ("the second door", Start(Some("back")), Id(SECOND)),
+        ("the third door", Start(Some("side")), Id(THIRD)),
+        ("back is let go", Unregister("back"), Done),
+        ("three machines are left", Len, Count(3)),
+    ];
+    static END: End = End {
+        stopped: None,
+        len: 3,
+        names: &[("front", FIRST), ("side", THIRD)],
+    };
+    answers_are(rt, &ROWS, &END);
 }
 
 #[test]
 fn a_name_has_1_to_64_bytes(rt: HostRuntime) {
-    let threads = rt;
-    let rt = Host::new(rt);
-    let mut doors = no_door(&rt, rt.alloc());
-    refuses_bad_names(&rt, &threads, &mut doors);
-    takes_the_longest(&rt, &threads, &mut doors);
-    drop(doors);
-    rt.end();
+    static ROWS: [Row; 4] = [
+        ("the empty name", Start(Some("")), Refused(Refusal::BadName)),
+        (
+            "a name too long",
+            Start(Some(TOO_LONG)),
+            Refused(Refusal::BadName),
+        ),
+        ("the longest name", Start(Some(LONGEST)), Id(FIRST)),
+        ("it is found", Whereis(LONGEST), Id(FIRST)),
+    ];
+    static END: End = End {
+        stopped: None,
+        len: 1,
+        names: &[(LONGEST, FIRST)],
+    };
+    answers_are(rt, &ROWS, &END);
 }

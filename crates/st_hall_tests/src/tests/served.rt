@@ -7,32 +7,16 @@ use st_lock::Next;
 use std::process::Abort;
 use std::sync::Wait;
 
-/// Makes a turn by a token, and says whether it is to be served again. A turn that finds no memory gives the token back.
-fn turns(
-    rt: &Host<impl Abort>,
-    threads: &impl Wait,
-    machine: &Machine<Door>,
-    token: Token,
-) -> bool {
-    match machine.turn(threads, token, 0) {
-        Ok(Next::Again(again)) => {
-            holds(rt, "the same token", again == token);
-            true
-        }
-        Ok(Next::Rest) => false,
-        Err(refused) => {
-            holds(rt, "the token comes back", refused.value == token);
-            is_made_again(rt, refused.refusal);
-            true
-        }
-    }
-}
-
-/// Serves a machine by its token until that rests.
+/// Serves a machine by its token until that rests. A turn that finds no memory gives the token back, and is made again.
 pub fn serve(rt: &Host<impl Abort>, threads: &impl Wait, machine: &Machine<Door>, token: Token) {
     for _ in threads.forever() {
-        if !turns(rt, threads, machine, token) {
-            break;
+        match machine.turn(threads, token, 0) {
+            Ok(Next::Again(again)) => holds(rt, "the same token", again == token),
+            Ok(Next::Rest) => return,
+            Err(refused) => {
+                holds(rt, "the token comes back", refused.value == token);
+                is_made_again(rt, refused.refusal);
+            }
         }
     }
 }

@@ -1,11 +1,10 @@
 //! Threads that call one door, which another thread serves or stops.
 use super::caller::{Caller, first_caller};
-use super::doors::{no_door, no_door_of};
-use super::host::{Host, got, holds};
+use super::doors::no_door;
+use super::host::{Host, Platform, got, holds};
 use super::served::serve;
 use st_pool::Runtime;
 use std::process::Abort;
-use std::sync::Wait;
 use std::thread::{self, JoinHandle};
 
 /// What a call for the length of the code came to: the length, or the reason for which the door ended.
@@ -40,96 +39,49 @@ fn two_call<R: Runtime>(
     (first, calls(rt, threads, second))
 }
 
-/// Whether two calls were answered, each by one turn.
-fn are_answered(rt: &impl Abort, threads: &impl Wait, ours: &mut Caller) -> bool {
-    let look = got(rt, "a look", ours.port.look(threads));
-    let are_answered = look.waiting == 0 && look.entries >= 4;
-    drop(look);
-    are_answered
-}
-
-/// Serves a door once, and says whether two calls were answered, each by one turn.
-fn is_done(rt: &Host<impl Abort>, threads: &impl Wait, ours: &mut Caller) -> bool {
-    let token = ours.tray.take(threads);
-    serve(rt, threads, ours.port.machine(), token);
-    are_answered(rt, threads, ours)
-}
-
-/// Serves a door until two calls were answered. A token may be issued for both.
-fn answers_two(rt: &Host<impl Abort>, threads: &impl Wait, ours: &mut Caller) {
+/// Two other threads call a door, and get the length of its code. The door is served until two calls were answered, each by one
+/// turn. A token may be issued for both.
+fn two_get_the_length<R: Runtime>(rt: &Host<impl Abort>, threads: R, ours: &mut Caller) {
+    let (first, second) = two_call(rt, threads, ours);
     for _ in threads.forever() {
-        if is_done(rt, threads, ours) {
+        let token = ours.tray.take(&threads);
+        serve(rt, &threads, ours.port.machine(), token);
+        let look = got(rt, "a look", ours.port.look(&threads));
+        let are_answered = look.waiting == 0 && look.entries >= 4;
+        drop(look);
+        if are_answered {
             break;
         }
     }
-}
-
-/// Two other threads call a door, which is served, and get the length of its code.
-fn two_get_the_length<R: Runtime>(rt: &Host<impl Abort>, threads: R, ours: &mut Caller) {
-    let (first, second) = two_call(rt, threads, ours);
-    answers_two(rt, &threads, ours);
     comes_to(rt, threads, first, "the length of the code", Ok(2));
     comes_to(rt, threads, second, "the length of the code", Ok(2));
 }
 
-#[test]
-fn two_threads_get_the_length_each(rt: HostRuntime) {
-    let threads = rt;
-    let rt = Host::with_memory(rt);
-    let mut doors = no_door_of(&rt, rt.alloc(), &[1, 2]);
-    let mut ours = first_caller(&rt, &threads, &mut doors);
-    two_get_the_length(&rt, threads, &mut ours);
-    drop(ours);
-    drop(doors);
-    rt.end_with_memory();
-}
-
-/// Stops a door that was called.
-fn stops(rt: &impl Abort, threads: &impl Wait, ours: &Caller) {
-    let token = ours.tray.take(threads);
+/// Another thread calls a door, which is stopped, and is told the reason.
+fn one_is_told<R: Runtime>(rt: &Host<impl Abort>, threads: R, ours: &Caller) {
+    let theirs = ours.another(rt, &threads);
+    let child = calls(rt, threads, theirs);
+    let token = ours.tray.take(&threads);
     holds(rt, "the token is scheduled", token.wake == 1);
-    let stopped = ours.port.machine().stop(threads, 3);
+    let stopped = ours.port.machine().stop(&threads, 3);
     got(rt, "it is stopped", stopped);
-}
-
-#[test]
-fn a_call_ends_with_its_machine(rt: HostRuntime) {
-    let threads = rt;
-    let rt = Host::with_memory(rt);
-    let mut doors = no_door(&rt, rt.alloc());
-    let ours = first_caller(&rt, &threads, &mut doors);
-    let theirs = ours.another(&rt, &threads);
-    let child = calls(&rt, threads, theirs);
-    stops(&rt, &threads, &ours);
     let ended = Err(Some(3));
-    comes_to(&rt, threads, child, "the reason is told", ended);
-    drop(ours);
-    drop(doors);
-    rt.end_with_memory();
+    comes_to(rt, threads, child, "the reason is told", ended);
 }
 
-/// How many calls were posted, and wait.
-fn waiting(rt: &impl Abort, threads: &impl Wait, ours: &mut Caller) -> usize {
-    let look = got(rt, "a look", ours.port.look(threads));
-    let waiting = look.waiting;
-    drop(look);
-    waiting
-}
-
-/// Waits until two calls were posted. That their threads wait for a reply then, nobody else can see.
-fn two_are_posted(rt: &impl Abort, threads: &impl Wait, ours: &mut Caller) {
+/// Two other threads call a door, which is stopped once two calls were posted, and are told the reason. That they wait for
+/// a reply then, nobody else can see.
+fn two_are_told<R: Runtime>(rt: &Host<impl Abort>, threads: R, ours: &mut Caller) {
+    let (first, second) = two_call(rt, threads, ours);
     for _ in threads.forever() {
-        if waiting(rt, threads, ours) == 2 {
+        let look = got(rt, "a look", ours.port.look(&threads));
+        let waiting = look.waiting;
+        drop(look);
+        if waiting == 2 {
             break;
         }
         thread::yield_now();
     }
-}
-
-/// Two other threads call a door, which is stopped, and are told the reason.
-fn two_are_told<R: Runtime>(rt: &Host<impl Abort>, threads: R, ours: &mut Caller) {
-    let (first, second) = two_call(rt, threads, ours);
-    two_are_posted(rt, &threads, ours);
     let stopped = ours.port.machine().stop(&threads, 7);
     got(rt, "it is stopped", stopped);
     let ended = Err(Some(7));
@@ -138,14 +90,44 @@ fn two_are_told<R: Runtime>(rt: &Host<impl Abort>, threads: R, ours: &mut Caller
     comes_to(rt, threads, second, "the second is told the reason", ended);
 }
 
-#[test]
-fn two_calls_end_with_their_machine(rt: HostRuntime) {
+/// What becomes of a door that other threads call.
+#[derive(Clone, Copy)]
+enum Fate {
+    /// Two call it, and it is served.
+    Served,
+    /// One calls it, and it is stopped.
+    StoppedAtOne,
+    /// Two call it, and it is stopped.
+    StoppedAtTwo,
+}
+
+/// A whole test: other threads call a door that has a code of these digits. All find memory.
+fn meets<R: Runtime + Platform>(rt: R, digits: &[u8], fate: Fate) {
     let threads = rt;
     let rt = Host::with_memory(rt);
-    let mut doors = no_door(&rt, rt.alloc());
+    let mut doors = no_door(&rt, rt.alloc(), digits);
     let mut ours = first_caller(&rt, &threads, &mut doors);
-    two_are_told(&rt, threads, &mut ours);
+    match fate {
+        Fate::Served => two_get_the_length(&rt, threads, &mut ours),
+        Fate::StoppedAtOne => one_is_told(&rt, threads, &ours),
+        Fate::StoppedAtTwo => two_are_told(&rt, threads, &mut ours),
+    }
     drop(ours);
     drop(doors);
     rt.end_with_memory();
+}
+
+#[test]
+fn two_threads_get_the_length_each(rt: HostRuntime) {
+    meets(rt, &[1, 2], Fate::Served);
+}
+
+#[test]
+fn a_call_ends_with_its_machine(rt: HostRuntime) {
+    meets(rt, &[1, 2, 3, 4], Fate::StoppedAtOne);
+}
+
+#[test]
+fn two_calls_end_with_their_machine(rt: HostRuntime) {
+    meets(rt, &[1, 2, 3, 4], Fate::StoppedAtTwo);
 }

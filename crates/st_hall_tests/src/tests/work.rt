@@ -1,7 +1,7 @@
 //! What a pool has to do.
 ghost use Rattle.std.specs.Prelude.{◌≤◌};
 
-use super::begun::{filled, mark, ports};
+use super::begun::{fill, hall, mark, ports};
 use super::cast::{are_at_rest, casts_each, casts_twice_more};
 use super::host::{Host, got, holds};
 use super::plain::Plain;
@@ -23,11 +23,12 @@ pub struct Work {
     pub keeps: bool,
 }
 
-/// Casts all that is to be cast.
-fn casts_all<R: Runtime>(
+/// Casts all that is to be cast, and closes the pool once it is done. Its workers made as many turns as they have to, and
+/// have no token left.
+fn is_done<R: Runtime>(
     rt: &impl Abort,
     threads: R,
-    pool: &Pool<R, u32>,
+    pool: &mut Pool<R, u32>,
     ports: &mut Vec<Port<Plain>>,
     work: Work,
 ) {
@@ -36,12 +37,10 @@ fn casts_all<R: Runtime>(
         casts_each(rt, &threads, ports, &scheduler, work.contents);
     }
     drop(scheduler);
-}
-
-/// Closes a pool whose workers made so many turns, and have no token left.
-fn is_closed<R: Runtime>(rt: &impl Abort, pool: &mut Pool<R, u32>, turns: u64) {
+    pool.drain();
+    are_at_rest(rt, &threads, ports, work.entries);
     let end = got(rt, "there is memory", pool.close());
-    holds(rt, "so many turns", end.turns == turns);
+    holds(rt, "so many turns", end.turns == work.turns);
     holds(rt, "no token is left", end.left.is_empty());
     drop(end);
 }
@@ -60,10 +59,7 @@ fn serves<R: Runtime>(
     let mut ports = ports(rt, &threads, hall, work.machines);
     let pool = Pool::start(threads, rt.alloc(), workers, hall, gate);
     let mut pool = rt.boxed(rt.alloc(), pool.expect(rt, "a pool"));
-    casts_all(rt, threads, &pool, &mut ports, work);
-    pool.drain();
-    are_at_rest(rt, &threads, &mut ports, work.entries);
-    is_closed(rt, &mut pool, work.turns);
+    is_done(rt, threads, &mut pool, &mut ports, work);
     drop(pool);
     casts_twice_more(rt, &threads, &mut ports, u64::from(work.rounds), work.keeps);
     drop(ports);
@@ -82,7 +78,9 @@ pub fn waits<R: Runtime>(
 {
     let mark = mark(rt, workers > 1);
     let gate = Turnstile::new(rt.alloc(), &mark, is_shut).expect(rt, "a gate");
-    let hall = filled(rt, threads, &mark, work.machines, work.keeps);
+    let hall = hall(rt, threads, work.keeps);
+    let hall = Arc::new(rt.alloc(), hall).expect(rt, "a hall");
+    fill(rt, &*hall, &mark, work.machines);
     serves(rt, threads, workers, &hall, &gate, work);
     drop(hall);
     drop(gate);
