@@ -3,15 +3,19 @@ ghost use Rattle.std.specs.Prelude.{◌≡◌, IsTrue};
 
 use std::alloc::Global;
 use std::cell::Cell;
-use std::fmt::{Debug, Display};
+use std::fmt;
+use std::fmt::{Debug, Display, Formatter, Write};
 use std::io::Print;
 use std::process::Abort;
+use std::sync::Arc;
 
-/// What a test runs on, and how many of its calls were made again since they had found no memory.
+/// What a test runs on, how many of its calls were made again since they had found no memory, and what it is at.
 #[derive(Drop)]
 pub struct Host<R> {
     rt: R,
     retries: Cell<u32>,
+    act: Cell<usize>,
+    row: Cell<usize>,
 }
 
 impl<R> Host<R> {
@@ -20,7 +24,34 @@ impl<R> Host<R> {
         Host {
             rt,
             retries: Cell::new(0),
+            act: Cell::new(0),
+            row: Cell::new(0),
         }
+    }
+
+    /// The act of a place begins. Each failure tells it, counted from 1.
+    pub fn begins_act(&self, place: usize) {
+        self.act.set(place.saturating_add(1));
+        self.row.set(0);
+    }
+
+    /// The row of a place begins within an act. Each failure tells it, counted from 1.
+    pub fn begins_row(&self, place: usize) {
+        self.row.set(place.saturating_add(1));
+    }
+}
+
+/// What a test says as it fails: at which act, at which row of it, and why.
+#[derive(Drop)]
+struct Failure<D> {
+    act: usize,
+    row: usize,
+    message: D,
+}
+
+impl<D: Display> Display for Failure<D> {
+    fn fmt<W: Write>(&self, f: &mut Formatter<W>) -> fmt::Result {
+        write!(f, "act {}, row {}: {}", self.act, self.row, self.message)
     }
 }
 
@@ -30,9 +61,11 @@ impl<R: AllocGlobal> Host<R> {
         self.rt.alloc()
     }
 
-    /// The allocation that is refused, if one is, is one made here: the test's own find memory.
+    /// The allocation that is refused, if one is, is one made here: the test's own find memory, and none of its calls may be
+    /// made again.
     pub fn with_memory(rt: R) -> Host<R> {
         let host = Host::new(rt);
+        host.retries.set(1);
         for _ in 0..10_000 {
             if Box::new(host.alloc(), 'x').is_err() {
                 return host;
@@ -43,11 +76,24 @@ impl<R: AllocGlobal> Host<R> {
 }
 
 impl<R: Abort> Host<R> {
-    /// A call found no memory, and is made again. One allocation alone is refused, so there is one such call.
+    /// A call found no memory, and is made again. One allocation alone is refused, so there is one such call, and none where
+    /// the test began with memory.
     pub fn retry(&self) {
         let first = self.retries.get() == 0;
-        holds(self, "one call alone is made again", first);
+        holds(self, "each other call finds memory", first);
         self.retries.set(1);
+    }
+
+    /// Puts a value behind others. Where there is no memory, it is put there again.
+    pub fn puts<T: Drop>(&self, values: &mut Vec<T>, value: T) {
+        if let Err(refused) = values.push(value) {
+            self.retry();
+            got(
+                self,
+                "one allocation alone is refused",
+                values.push(refused.value),
+            );
+        }
     }
 
     /// A value in a box. Where there is no memory, it is boxed again.
@@ -60,6 +106,21 @@ impl<R: Abort> Host<R> {
                     self,
                     "one allocation alone is refused",
                     Box::new(alloc, refused.value),
+                )
+            }
+        }
+    }
+
+    /// A value with counted owners. Where there is no memory, it is made again.
+    pub fn shares<T: Drop>(&self, alloc: Global, value: T) -> Arc<T, Global> {
+        match Arc::new(alloc, value) {
+            Ok(shared) => shared,
+            Err(refused) => {
+                self.retry();
+                got(
+                    self,
+                    "one allocation alone is refused",
+                    Arc::new(alloc, refused.value),
                 )
             }
         }
@@ -99,7 +160,11 @@ impl<R: Abort> Abort for Host<R> {
     }
 
     fn panic<D: Display + Drop>(&self, message: D) -> ! {
-        self.rt.panic(message)
+        self.rt.panic(Failure {
+            act: self.act.get(),
+            row: self.row.get(),
+            message,
+        })
     }
 }
 

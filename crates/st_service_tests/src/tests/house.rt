@@ -2,191 +2,217 @@
 //! it, and takes longer than all else there: so each stands here, once.
 ghost use Rattle.std.specs.Prelude.{◌≤◌};
 
+use super::act::Act;
 use super::clerk::Clerk;
 use super::hatch::Hatch;
-use super::host::{Host, got, holds, same};
-use super::tally::Counting;
+use super::hiring::Hiring;
+use super::host::{Host, got, same};
+use super::ids::{NOBODY, id_at};
+use super::left::is_left;
+use super::opening::Opening;
+use super::part::Part;
+use super::patience::{Threads, now, waits_a_little};
+use super::played::plays;
+use super::row::Row;
+use super::tally::{Counting, Tally};
 use crate::Order;
 use st_service::{
-    Journals, MachineId, Options, Refusal, Runtime, Service, ShutDown, Spawned, Unposted, Unspawned,
+    MachineId, Options, Refusal, Refused, Service, ServicePort, ShutDown, Spawned, Unspawned,
 };
-use std::alloc::{AllocError, Global};
+use std::alloc::Global;
+use std::io::Print;
 use std::process::Abort;
-use std::rt::Clock;
-use std::thread;
-use std::time::{Duration, Instant};
+use std::sync::Arc;
 
-/// So many seconds a busy machine may take for what is due within milliseconds.
-const PATIENCE: u64 = 40;
-
-/// What the threads of these tests carry.
-pub trait Threads: Runtime + Clock {}
-
-impl<R: Runtime + Clock> Threads for R {}
-
-/// A service of clerks.
+/// A service of clerks, and their hatches.
 #[derive(Drop)]
 pub struct House<R: Threads> {
+    threads: R,
+    // They stand before the service, for the fields are let go in this order.
+    hatches: Vec<Box<Hatch<R>>>,
     service: Service<Clerk, R, Counting>,
 }
 
-/// A clerk who was hired: his id, and his hatch where there was memory for it.
-#[derive(Drop)]
-pub struct Hired<R: Threads> {
-    pub id: MachineId,
-    pub hatch: Option<Hatch<R>>,
-}
-
-impl<R: Threads> Hired<R> {
-    /// Who was hired, if he runs.
-    fn of(spawned: Spawned<Clerk, R, Counting>) -> Option<Hired<R>> {
-        match spawned {
-            Spawned::Running(id, Some(port)) => Some(Hired {
-                id,
-                hatch: Some(Hatch::new(port)),
-            }),
-            Spawned::Running(id, None) => Some(Hired { id, hatch: None }),
-            Spawned::Ignored => None,
-            Spawned::Stopped(_reason) => None,
+/// A service with so many workers, and an observer that counts into a tally, if one is given. Where there is no memory, it is
+/// started again.
+fn opens<R: Threads>(
+    rt: &Host<impl Abort + AllocGlobal>,
+    threads: R,
+    workers: usize,
+    options: Options,
+    tally: &Option<Arc<Tally, Global>>,
+) -> Box<House<R>>
+    requires { (1 ≤ workers) × (workers ≤ 16) }
+{
+    for _ in 0..2 {
+        let observer = Counting::of(rt, tally);
+        match Service::start(threads, rt.alloc(), workers, options, observer) {
+            Ok(service) => {
+                let house = House {
+                    threads,
+                    hatches: Vec::new(rt.alloc()),
+                    service,
+                };
+                return rt.boxed(rt.alloc(), house);
+            }
+            Err(_) => rt.retry(),
         }
     }
+    panic!(rt; "one allocation alone is refused")
 }
-
-/// As many events may wait as are tested, journals stay short, and shutting down makes so many turns.
-pub const OPTIONS: Options = Options {
-    waiting: 1_000,
-    journals: Journals::AtMost(10),
-    turns: 1_000,
-};
-
-/// A clerk who bounces to nobody.
-pub const ALONE: Clerk = Clerk {
-    partner: MachineId {
-        slot: 99,
-        serial: 99,
-    },
-};
 
 impl<R: Threads> House<R> {
-    /// A service with so many workers.
-    pub fn start(
-        threads: R,
-        alloc: Global,
-        workers: usize,
-        options: Options,
-        observer: Counting,
-    ) -> Result<House<R>, AllocError>
-        requires { (1 ≤ workers) × (workers ≤ 16) }
-    {
-        let service = Service::start(threads, alloc, workers, options, observer)?;
-        Ok(House { service })
-    }
-
-    /// Starts a clerk. Each one runs.
-    pub fn spawn(
-        &self,
+    /// Starts a clerk. One who runs has a hatch from now on.
+    fn try_hire(
+        &mut self,
+        rt: &Host<impl Abort + AllocGlobal>,
         name: Option<&str>,
         clerk: Clerk,
-    ) -> Result<Option<Hired<R>>, Unspawned<Clerk>> {
+    ) -> Hiring {
         match self.service.spawn(name, clerk, &()) {
-            Ok(spawned) => Ok(Hired::of(spawned)),
-            Err(refused) => Err(refused),
+            Ok(Spawned::Running(id, port)) => {
+                self.welcomes(rt, id, port);
+                Hiring::Runs(id)
+            }
+            Ok(Spawned::Ignored) => Hiring::Nobody,
+            Ok(Spawned::Stopped(_reason)) => Hiring::Nobody,
+            Err(Unspawned::Closed(_clerk)) => Hiring::Closed,
+            Err(Unspawned::Refused(Refused { refusal, .. })) => Hiring::Refused(refusal),
         }
     }
 
-    /// One more hatch of a clerk.
-    pub fn hatch(&self, id: MachineId) -> Result<Hatch<R>, Refusal> {
-        match self.service.port(id) {
-            Ok(port) => Ok(Hatch::new(port)),
-            Err(refusal) => Err(refusal),
-        }
+    /// Opens the hatch of a clerk who was hired. Where there was no memory for his port, it is opened now.
+    fn welcomes(
+        &mut self,
+        rt: &Host<impl Abort + AllocGlobal>,
+        id: MachineId,
+        port: Option<ServicePort<Clerk, R, Counting>>,
+    ) {
+        let port = match port {
+            Some(port) => port,
+            None => {
+                rt.retry();
+                got(rt, "a port", self.service.port(id))
+            }
+        };
+        let hatch = Hatch {
+            threads: self.threads,
+            port,
+            asked: None,
+        };
+        let hatch = rt.boxed(rt.alloc(), hatch);
+        rt.puts(&mut self.hatches, hatch);
     }
 
-    /// The id of a clerk's name.
-    pub fn whereis(&self, name: &str) -> Result<MachineId, Refusal> {
-        self.service.whereis(name)
+    /// Starts a clerk. Where there is no memory, nobody was hired, and he is hired again.
+    fn hires(
+        &mut self,
+        rt: &Host<impl Abort + AllocGlobal>,
+        name: Option<&str>,
+        clerk: Clerk,
+    ) -> Hiring {
+        let count = self.count(rt);
+        let hiring = self.try_hire(rt, name, clerk);
+        if hiring != Hiring::Refused(Refusal::NoMemory) {
+            return hiring;
+        }
+        same(rt, "nobody was hired", &self.count(rt), &count);
+        rt.retry();
+        self.try_hire(rt, name, clerk)
+    }
+
+    /// Hires so many clerks, and plays rows at the hatch of each before the next one is hired.
+    fn hires_each(
+        &mut self,
+        rt: &Host<impl Abort + AllocGlobal>,
+        count: usize,
+        rows: &'static [Row],
+    ) {
+        for _ in 0..count {
+            let place = self.hatches.len();
+            let hiring = self.hires(rt, None, Clerk { partner: NOBODY });
+            same(rt, "he is hired", &hiring, &Hiring::Runs(id_at(place)));
+            plays(rt, self.threads, &mut self.hatches, &Part::At(place, rows));
+        }
     }
 
     /// How many clerks there are.
-    pub fn len(&self) -> usize {
-        self.service.len()
+    fn count(&self, rt: &impl Abort) -> usize {
+        let count = self.service.len();
+        let is_empty = self.service.is_empty();
+        same(rt, "there is none", &is_empty, &(count == 0));
+        count
     }
 
-    /// Whether there is none.
-    pub fn is_empty(&self) -> bool {
-        self.service.is_empty()
-    }
-
-    /// How many events wait at a clerk.
-    pub fn waiting(&self, threads: R, id: MachineId) -> Result<usize, Refusal> {
-        match self.service.machine(id) {
-            Ok(machine) => {
-                let waiting = machine.waiting(&threads);
-                drop(machine);
-                Ok(waiting)
+    /// Waits until no event waits at a clerk. That it is within some seconds is tested.
+    fn awaits_served(&self, rt: &impl Abort, id: MachineId) {
+        let start = now(rt, &self.threads);
+        for _ in self.threads.forever() {
+            let machine = got(rt, "he is there", self.service.machine(id));
+            let waiting = machine.waiting(&self.threads);
+            drop(machine);
+            if waiting == 0 {
+                break;
             }
-            Err(refusal) => Err(refusal),
+            waits_a_little(rt, &self.threads, start);
         }
     }
 
-    /// Ends the service, and stops each clerk for a reason.
-    pub fn shut_down(&mut self, reason: u32) -> Result<ShutDown<Order>, AllocError> {
-        self.service.shut_down(reason)
+    /// Ends the service, and stops each clerk for a reason. Where there is no memory, it is shut down again.
+    fn shuts_down(&mut self, rt: &Host<impl Abort>, reason: u32) -> ShutDown<Order> {
+        for _ in 0..2 {
+            match self.service.shut_down(reason) {
+                Ok(end) => return end,
+                Err(_) => rt.retry(),
+            }
+        }
+        panic!(rt; "one allocation alone is refused")
+    }
+
+    /// Does an act, and looks at what comes of it.
+    fn does(&mut self, rt: &Host<impl Abort + AllocGlobal>, act: &Act) {
+        match act {
+            Act::Hires(name, partner, hiring) => {
+                let found = self.hires(rt, *name, Clerk { partner: *partner });
+                same(rt, "who is hired", &found, hiring);
+            }
+            Act::HiresEach(count, rows) => self.hires_each(rt, *count, rows),
+            Act::Plays(part) => plays(rt, self.threads, &mut self.hatches, part),
+            Act::AwaitsServed(id) => self.awaits_served(rt, *id),
+            Act::IsNamed(name, id) => same(rt, "by name", &self.service.whereis(name), &Ok(*id)),
+            Act::Counts(count) => same(rt, "so many clerks", &self.count(rt), count),
+            Act::ShutsDown(reason, left, message) => {
+                is_left(rt, self.shuts_down(rt, *reason), left, *message);
+            }
+        }
     }
 }
 
-/// A service with two workers.
-pub fn opens<R: Threads>(
+/// Opens a house with so many workers, and does acts in it.
+pub fn goes_by<R: Threads>(
     rt: &Host<impl Abort + AllocGlobal>,
     threads: R,
-    options: Options,
-    observer: Counting,
-) -> Box<House<R>> {
-    let house = House::start(threads, rt.alloc(), 2, options, observer);
-    rt.boxed(rt.alloc(), house.expect(rt, "a service"))
-}
-
-/// Starts a clerk, and answers his id and hatch.
-pub fn hires<R: Threads>(
-    rt: &Host<impl Abort + AllocGlobal>,
-    house: &House<R>,
-    name: Option<&str>,
-    clerk: Clerk,
-) -> (MachineId, Box<Hatch<R>>) {
-    let hired = got(rt, "he is hired", house.spawn(name, clerk));
-    let Hired { id, hatch } = hired.expect(rt, "he is there");
-    (id, rt.boxed(rt.alloc(), hatch.expect(rt, "his hatch")))
-}
-
-/// Tells a clerk an order.
-pub fn tells<R: Threads>(rt: &impl Abort, hatch: &mut Hatch<R>, order: Order) {
-    got(rt, "he is told", hatch.cast(order));
-}
-
-/// The sum that a clerk replies with.
-pub fn asks<R: Threads>(rt: &impl Abort, hatch: &mut Hatch<R>) -> u32 {
-    got(rt, "he is asked", hatch.call(Order::Ask)).sum(rt)
-}
-
-/// Waits until a clerk's sum is this. That it is within some seconds is tested.
-pub fn sums<R: Threads>(rt: &impl Abort, threads: R, hatch: &mut Hatch<R>, sum: u32) {
-    let start = got(rt, "the clock is read", Instant::now(&threads));
-    for _ in threads.forever() {
-        if asks(rt, hatch) == sum {
-            break;
-        }
-        is_in_time(rt, threads, start);
+    workers: usize,
+    opening: &Opening,
+    acts: &[Act],
+)
+    requires { (1 ≤ workers) × (workers ≤ 16) }
+{
+    let tally = opening.tally(rt, rt.alloc());
+    let mut house = opens(rt, threads, workers, opening.options, &tally);
+    for (place, act) in acts.iter().enumerate() {
+        rt.begins_act(place);
+        house.does(rt, act);
     }
+    opening.was_told(rt, &tally);
+    drop(house);
+    drop(tally);
 }
 
-/// A little later; not many seconds have passed since then.
-pub fn is_in_time<R: Threads>(rt: &impl Abort, threads: R, start: Instant) {
-    let passed = got(rt, "the clock is read", start.elapsed(&threads));
-    holds(rt, "it is in time", passed.as_secs() < PATIENCE);
-    thread::sleep(&threads, Duration::from_millis(1));
-}
-
-/// A post is refused, since too many events wait, and the order comes back.
-pub fn is_busy(rt: &impl Abort, refused: Result<u64, Unposted<Order>>, order: Order) {
-    same(rt, "he is busy", &refused, &Err(Unposted::Busy(order)));
+/// A whole test: a house with two workers opens, and acts are done in it.
+pub fn serves<R: Threads + Abort + AllocGlobal + Print>(rt: R, opening: &Opening, acts: &[Act]) {
+    let threads = rt;
+    let rt = Host::with_memory(rt);
+    goes_by(&rt, threads, 2, opening, acts);
+    rt.end_with_memory();
 }

@@ -1,66 +1,47 @@
 //! An observer is told each report once.
-use super::host::{Host, got, holds, same};
-use super::house::{ALONE, OPTIONS, Threads, hires, opens, tells};
-use super::tally::{Counting, Tally};
+use super::act::Act;
+use super::act::Act::{HiresEach, Plays, ShutsDown};
+use super::house::serves;
+use super::left::{ANYTHING, Left};
+use super::opening::{OPTIONS, Opening};
+use super::part::Part::Each;
+use super::reports::Reports;
+use super::row::Row::Tells;
 use crate::Order;
 use st_service::{Journals, Options};
-use std::process::Abort;
-use std::sync::Arc;
-use std::sync::atomic::{AtomicU64, Ordering};
 
-/// A hundred clerks are told ten orders each, and an observer counts.
-fn tells_each_report<R: Threads>(rt: &Host<impl Abort + AllocGlobal>, threads: R) {
-    let tally = Tally {
-        reports: AtomicU64::new(0),
-        numbers: AtomicU64::new(0),
-        entries: AtomicU64::new(0),
-    };
-    let tally = Arc::new(rt.alloc(), tally).expect(rt, "a tally");
-    let theirs = Arc::try_clone(&tally).expect(rt, "an owner");
-    // He is told, so journals are kept for him.
-    let none = Options {
-        journals: Journals::None,
-        ..OPTIONS
-    };
-    let mut house = opens(
-        rt,
-        threads,
-        none,
-        Counting {
-            tally: Some(theirs),
-        },
-    );
-    let mut hatches = Vec::new(rt.alloc());
-    for _ in 0..100 {
-        let (_, hatch) = hires(rt, &house, None, ALONE);
-        hatches.push(hatch).expect(rt, "a place");
-    }
-    for more in 0..10 {
-        for hatch in hatches.iter_mut() {
-            tells(rt, hatch, Order::Add(more));
-        }
-    }
-    let end = got(rt, "there is memory", house.shut_down(3));
-    let read = |count: &AtomicU64| count.load(Ordering::SeqCst);
-    same(rt, "reports", &read(&tally.reports), &1_000);
-    same(rt, "each event's", &read(&tally.numbers), &5_500);
-    // Posts, turns, and a stop of each.
-    same(rt, "entries", &read(&tally.entries), &2_100);
-    holds(
-        rt,
-        "in fewer slices",
-        end.turns <= 1_000 && 100 <= end.turns,
-    );
-    drop(end);
-    drop(hatches);
-    drop(house);
-    drop(tally);
-}
-
+/// A hundred clerks are told ten orders each, and an observer counts. He is told, so journals are kept for him.
 #[test]
 fn each_report_is_told_once(rt: HostRuntime) {
-    let threads = rt;
-    let rt = Host::with_memory(rt);
-    tells_each_report(&rt, threads);
-    rt.end_with_memory();
+    // The entries are posts, turns, and a stop of each.
+    static OBSERVED: Opening = Opening {
+        options: Options {
+            journals: Journals::None,
+            ..OPTIONS
+        },
+        reports: Some(Reports::Are(1_000, 5_500, 2_100)),
+    };
+    // They are served in fewer slices.
+    static ACTS: [Act; 12] = [
+        HiresEach(100, &[]),
+        Plays(Each(&[Tells(Order::Add(0))])),
+        Plays(Each(&[Tells(Order::Add(1))])),
+        Plays(Each(&[Tells(Order::Add(2))])),
+        Plays(Each(&[Tells(Order::Add(3))])),
+        Plays(Each(&[Tells(Order::Add(4))])),
+        Plays(Each(&[Tells(Order::Add(5))])),
+        Plays(Each(&[Tells(Order::Add(6))])),
+        Plays(Each(&[Tells(Order::Add(7))])),
+        Plays(Each(&[Tells(Order::Add(8))])),
+        Plays(Each(&[Tells(Order::Add(9))])),
+        ShutsDown(
+            3,
+            Left {
+                turns: (100, 1_000),
+                ..ANYTHING
+            },
+            None,
+        ),
+    ];
+    serves(rt, &OBSERVED, &ACTS);
 }

@@ -1,135 +1,123 @@
-//! A service of couriers, which serves them in slices.
+//! A service of couriers, which serves them in slices. Each call of it stands here, once.
 ghost use Rattle.std.specs.Prelude.{◌≤◌};
 
+use super::carried::plays;
 use super::courier::Courier;
 use super::desk::Desk;
-use super::host::{Host, got, holds, same};
-use super::house::{Threads, is_in_time};
-use st_service::{Journals, MachineId, Nobody, Options, Service, ShutDown, Undelivered};
-use std::alloc::{AllocError, Global};
+use super::errand::Errand;
+use super::host::{Host, got};
+use super::ids::{NOBODY, id_at};
+use super::left::is_left;
+use super::patience::Threads;
+use st_service::{Journals, MachineId, Nobody, Options, Service, Spawned};
+use std::io::Print;
 use std::process::Abort;
-use std::time::Instant;
 
-/// A service of couriers.
+/// A service of couriers, and their desks.
 #[derive(Drop)]
 pub struct Office<R: Threads> {
+    threads: R,
+    // They stand before the service, for the fields are let go in this order.
+    desks: Vec<Box<Desk<R>>>,
     service: Service<Courier, R, Nobody>,
 }
 
-impl<R: Threads> Office<R> {
-    /// A service with so many workers.
-    fn start(
-        threads: R,
-        alloc: Global,
-        workers: usize,
-        options: Options,
-    ) -> Result<Office<R>, AllocError>
-        requires { (1 ≤ workers) × (workers ≤ 16) }
-    {
-        let service = Service::start(threads, alloc, workers, options, Nobody)?;
-        Ok(Office { service })
-    }
-
-    /// Starts a courier who sends to this one, and answers his port.
-    fn hire(&self, next: MachineId) -> Option<Desk<R>> {
-        match self.service.spawn(None, Courier { next }, &()) {
-            Ok(spawned) => Desk::of(spawned),
-            Err(_refused) => None,
-        }
-    }
-
-    /// Ends the service, and stops each courier.
-    fn shut_down(&mut self) -> Result<ShutDown<u32>, AllocError> {
-        self.service.shut_down(7)
-    }
-}
-
-/// The id of nobody.
-pub const NOBODY: MachineId = MachineId {
-    slot: 99_999,
-    serial: 1,
-};
-
-/// A service with so many workers, whose couriers keep such journals. Shutting it down makes so many turns.
-pub fn opens<R: Threads>(
+/// A service with so many workers.
+fn opens<R: Threads>(
     rt: &Host<impl Abort + AllocGlobal>,
     threads: R,
     workers: usize,
-    journals: Journals,
-    turns: u64,
+    options: Options,
 ) -> Box<Office<R>>
     requires { (1 ≤ workers) × (workers ≤ 16) }
 {
+    let service = Service::start(threads, rt.alloc(), workers, options, Nobody);
+    let office = Office {
+        threads,
+        desks: Vec::new(rt.alloc()),
+        service: service.expect(rt, "a service"),
+    };
+    rt.boxed(rt.alloc(), office)
+}
+
+/// To whom the courier of a place sends among some, of whom the first sends to this one, or each to nobody.
+fn next_of(first: Option<usize>, place: usize) -> MachineId {
+    match first {
+        Some(first) => id_at(first.saturating_add(place)),
+        None => NOBODY,
+    }
+}
+
+impl<R: Threads> Office<R> {
+    /// Hires so many couriers, each of whom runs. The first sends to the one of a place, and each other to the one behind that of
+    /// the one before; without a place, each sends to nobody.
+    fn hires(&mut self, rt: &Host<impl Abort + AllocGlobal>, count: usize, first: Option<usize>) {
+        for place in 0..count {
+            let next = next_of(first, place);
+            let spawned = self.service.spawn(None, Courier { next }, &());
+            let port = match got(rt, "he is hired", spawned) {
+                Spawned::Running(_id, port) => port,
+                Spawned::Ignored => None,
+                Spawned::Stopped(_reason) => None,
+            };
+            let desk = Desk {
+                threads: self.threads,
+                port: port.expect(rt, "his port"),
+            };
+            let desk = rt.boxed(rt.alloc(), desk);
+            rt.puts(&mut self.desks, desk);
+        }
+    }
+
+    /// Does an errand, and looks at what comes of it.
+    fn does(&mut self, rt: &Host<impl Abort + AllocGlobal>, errand: &Errand) {
+        match errand {
+            Errand::Hires(count, first) => self.hires(rt, *count, *first),
+            Errand::Plays(rows) => plays(rt, self.threads, &mut self.desks, rows),
+            Errand::ShutsDown(left) => {
+                let end = got(rt, "there is memory", self.service.shut_down(7));
+                is_left(rt, end, left, None);
+            }
+        }
+    }
+}
+
+/// Opens an office with so many workers, and does errands in it.
+fn goes_by<R: Threads>(
+    rt: &Host<impl Abort + AllocGlobal>,
+    threads: R,
+    workers: usize,
+    options: Options,
+    errands: &[Errand],
+)
+    requires { (1 ≤ workers) × (workers ≤ 16) }
+{
+    let mut office = opens(rt, threads, workers, options);
+    for (place, errand) in errands.iter().enumerate() {
+        rt.begins_act(place);
+        office.does(rt, errand);
+    }
+    drop(office);
+}
+
+/// A whole test: an office opens with so many workers, whose couriers keep such journals, and errands are done in it. Shutting
+/// it down makes so many turns.
+pub fn carries<R: Threads + Abort + AllocGlobal + Print>(
+    rt: R,
+    workers: usize,
+    journals: Journals,
+    turns: u64,
+    errands: &[Errand],
+)
+    requires { (1 ≤ workers) × (workers ≤ 16) }
+{
+    let threads = rt;
+    let rt = Host::with_memory(rt);
     let options = Options {
         waiting: 1_000,
         journals,
         turns,
     };
-    let office = Office::start(threads, rt.alloc(), workers, options);
-    rt.boxed(rt.alloc(), office.expect(rt, "a service"))
-}
-
-/// Hires a courier who sends to this one.
-pub fn hires<R: Threads>(
-    rt: &Host<impl Abort + AllocGlobal>,
-    office: &Office<R>,
-    next: MachineId,
-) -> Box<Desk<R>> {
-    rt.boxed(rt.alloc(), office.hire(next).expect(rt, "a courier"))
-}
-
-/// The id of the courier of a slot, where none was let go.
-pub fn id_at(slot: usize) -> MachineId {
-    let serial = (slot as u64).saturating_add(1);
-    MachineId { slot, serial }
-}
-
-/// Casts a number to a courier.
-pub fn casts<R: Threads>(rt: &impl Abort, desk: &mut Desk<R>, number: u32) {
-    got(rt, "it is cast", desk.cast(number));
-}
-
-/// How many messages came to some couriers.
-fn came<R: Threads>(threads: R, desks: &Vec<Box<Desk<R>>>) -> u64 {
-    let mut came = 0u64;
-    for desk in desks.iter() {
-        came = came.saturating_add(u64::from(desk.came(threads)));
-    }
-    came
-}
-
-/// Waits until so many messages came to some couriers. That they come within some seconds is tested.
-pub fn waits<R: Threads>(rt: &impl Abort, threads: R, desks: &Vec<Box<Desk<R>>>, least: u64) {
-    let start = got(rt, "the clock is read", Instant::now(&threads));
-    for _ in threads.forever() {
-        if came(threads, desks) >= least {
-            break;
-        }
-        is_in_time(rt, threads, start);
-    }
-}
-
-/// So many messages came to some couriers, and no more.
-pub fn have_come<R: Threads>(rt: &impl Abort, threads: R, desks: &Vec<Box<Desk<R>>>, count: u64) {
-    same(rt, "so many came", &came(threads, desks), &count);
-}
-
-/// A service is shut down: so many numbers wait, or are on their way. Of the messages, so many went to nobody.
-pub fn leaves<R: Threads>(rt: &impl Abort, office: &mut Office<R>, left: u64, missing: u64) {
-    let end = got(rt, "there is memory", office.shut_down());
-    let messages = end.messages.len() as u64;
-    same(
-        rt,
-        "what is left",
-        &end.events.saturating_add(messages),
-        &left,
-    );
-    let undelivered = Undelivered {
-        stopped: 0,
-        exhausted: 0,
-        missing,
-    };
-    same(rt, "what is lost", &end.undelivered, &undelivered);
-    holds(rt, "each is stopped", end.unstopped == 0);
-    drop(end);
+    goes_by(&rt, threads, workers, options, errands);
+    rt.end_with_memory();
 }

@@ -1,41 +1,38 @@
-//! What a clerk replied.
-use super::asked::Asked;
-use super::clerk::Clerk;
+//! What a clerk says.
 use crate::Order;
-use st_service::{Called, Refusal};
-use std::process::Abort;
+use st_service::{Refusal, Refused, Unposted};
 
-/// What a clerk replied.
-#[derive(Drop)]
+/// What a clerk says to an order.
+#[derive(Debug, PartialEq, Drop)]
 pub enum Said {
-    /// This.
+    /// He was told, and replies nothing here.
+    Told,
+    /// He replies this.
     Reply(Order),
     /// His reply was not collected, and can be asked for again.
-    Uncollected(Asked, Refusal),
-    /// None.
+    Uncollected(Refusal),
+    /// He was told, and there is no reply.
     Nothing,
+    /// As many events wait at him as may, and the order comes back.
+    Busy(Order),
+    /// He refuses, and the order comes back.
+    Refused(Refusal, Order),
 }
 
 impl Said {
-    /// What came of a call.
-    pub fn of(called: Called<Clerk>) -> Said {
-        match called {
-            Called::Reply(order) => Said::Reply(order),
-            Called::Uncollected(request, refusal) => Said::Uncollected(
-                Asked::new(request),
-                refusal,
-            ),
-            Called::Stopped(_reason) => Said::Nothing,
-            Called::Gone => Said::Nothing,
-            Called::Unscheduled(_request, _token) => Said::Nothing,
+    /// What he says who was not told.
+    pub fn unposted(unposted: Unposted<Order>) -> Said {
+        match unposted {
+            Unposted::Busy(order) => Said::Busy(order),
+            Unposted::Refused(Refused { refusal, value }) => Said::Refused(refusal, value),
         }
     }
 
-    /// The sum that he replied with.
-    pub fn sum(self, rt: &impl Abort) -> u32 {
-        match self {
-            Said::Reply(Order::Sum(sum)) => sum,
-            _ => panic!(rt; "he replies"),
+    /// What came of telling him something.
+    pub fn told(told: Result<u64, Unposted<Order>>) -> Said {
+        match told {
+            Ok(_number) => Said::Told,
+            Err(unposted) => Said::unposted(unposted),
         }
     }
 }

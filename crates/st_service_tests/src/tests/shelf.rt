@@ -19,12 +19,12 @@ pub struct Shelf {
 }
 
 impl Shelf {
-    /// It has no token, and refuses so many.
-    pub fn new(alloc: Global, refusals: u64) -> Result<Shelf, AllocError> {
+    /// It has no token, and refuses none.
+    pub fn new(alloc: Global) -> Result<Shelf, AllocError> {
         let board = Board {
             token: Mutex::new(None),
             told: Condvar::new(),
-            refusals: AtomicU64::new(refusals),
+            refusals: AtomicU64::new(0),
         };
         Ok(Shelf {
             board: Arc::new(alloc, board)?,
@@ -36,6 +36,11 @@ impl Shelf {
         Ok(Shelf {
             board: Arc::try_clone(&self.board)?,
         })
+    }
+
+    /// It is to refuse so many from now on.
+    pub fn refuses(&self, refusals: u64) {
+        self.board.refusals.store(refusals, Ordering::SeqCst);
     }
 
     /// How many more it refuses.

@@ -1,4 +1,5 @@
 //! A test that does not end is ended.
+use super::patience::{is_within, now};
 use st_service::Runtime;
 use std::alloc::Global;
 use std::process::Abort;
@@ -9,8 +10,8 @@ use std::thread;
 use std::thread::JoinHandle;
 use std::time::Duration;
 
-/// So many times a hundredth of a second a test may take.
-const PATIENCE: u32 = 800;
+/// So many seconds a test may take.
+const PATIENCE: u64 = 8;
 
 /// A thread that ends the test where it takes too long: where memory stays wanting, a service tries again for good.
 #[derive(Drop)]
@@ -19,15 +20,16 @@ pub struct Watchdog {
     is_off: Arc<AtomicBool, Global>,
 }
 
-/// Waits until it is called off.
+/// Waits until it is called off. That this is within some seconds is tested by the clock: on a busy machine a sleep takes long.
 fn watch<R: Runtime + Clock + Abort>(rt: R, is_off: &AtomicBool) {
-    for _ in 0..PATIENCE {
+    let start = now(&rt, &rt);
+    for _ in rt.forever() {
         if is_off.load(Ordering::SeqCst) {
-            return;
+            break;
         }
+        is_within(&rt, &rt, start, PATIENCE);
         thread::sleep(&rt, Duration::from_millis(10));
     }
-    panic!(rt; "the test takes too long");
 }
 
 impl Watchdog {
