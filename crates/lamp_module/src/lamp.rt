@@ -1,5 +1,5 @@
 //! The module of a lamp: state, data and contents are types of its own.
-ghost use Rattle.std.specs.Prelude.{◌≡◌, ◌==◌, ◌-◌, true, if◌then◌else◌, [], ◌∷◌, refl};
+ghost use Rattle.std.specs.Prelude.{◌≡◌, ◌==◌, ◌-◌, true, if◌then◌else◌, [], ◌∷◌, refl, ⊤};
 ghost use Rattle.std.proofs.Common.{rules};
 ghost use Rattle.st_events.specs.declared.enter_action.EnterAction.TheVariants.{Set};
 ghost use Rattle.st_events.specs.declared.enter_outcome.EnterOutcome.{EnterOutcome};
@@ -22,10 +22,21 @@ use st_events::{
 use std::alloc::{AllocError, Global};
 
 /// Whether the lamp is on.
-#[derive(Clone, Copy, Debug, PartialEq, Eq)]
+#[derive(Copy, Debug, PartialEq, Eq)]
 pub enum Light {
     Off,
     On,
+}
+
+// By hand: with a derived one each call at a machine of this module takes the prover longer.
+impl Clone for Light {
+    ghost is_clone = { λ it copy. copy ≡ it };
+
+    ghost is_infallible = { λ it. ⊤ };
+
+    fn clone(&self) -> Result<Light, AllocError> {
+        Ok(*self)
+    }
 }
 
 /// The bulb, and how often it can still be turned on.
