@@ -1,7 +1,7 @@
 //! Requests to machines are gathered, and asked about together.
-ghost use Rattle.std.specs.Prelude.{◌≡◌, ◌<◌, length, IfOk, IfSome, OnErr};
-ghost use Rattle.st_requests.specs.declared.collected.Collected.TheVariants.{Waiting};
-ghost use Rattle.st_client.specs.Checked.{ChecksAny};
+ghost use Rattle.std.specs.Prelude.{◌≡◌, ◌<◌, length, Ok, IfOk, IfErr, OnErr};
+ghost use Rattle.st_core.specs.Callbacks.{callbacks_of};
+ghost use Rattle.st_client.specs.Checked.{ChecksAny, FindsFirst, IsAnsweredAt, RefusesOne};
 
 use crate::{Checked, RequestId, check};
 use st_lock::{Collected, Module, Refusal};
@@ -12,15 +12,29 @@ use std::sync::Wait;
 /// Manual: `request_id_collection()`; ours: docs/DECISIONS.md, Collections.
 pub type Collection<M, L> = st_collection::Collection<RequestId<M>, L>;
 
+/// Asks about the request at a place.
+fn ask<M: Module, L: Copy, R: Wait>(
+    rt: &R,
+    collection: &Collection<M, L>,
+    place: usize,
+) -> Result<Collected<M::Content>, Refusal>
+    requires { place < length collection.now }
+    ensures answered { IfOk result (λ collected. IsAnsweredAt (callbacks_of M.Module M.State.eq) collection.now place (Ok collected)) }
+    ensures refusals { IfErr result (λ refusal. RefusesOne (callbacks_of M.Module M.State.eq) collection.now refusal) }
+{
+    check(rt, collection.get(place))
+}
+
 /// The place of the first request that does not wait for its reply, and what it is answered.
 fn first_answered<M: Module, L: Copy, R: Wait>(
     rt: &R,
     collection: &Collection<M, L>,
 ) -> Result<Option<(usize, Collected<M::Content>)>, Refusal>
-    ensures { IfOk result (λ found. IfSome found (λ one. (one.0 < length collection.now) × (one.1 ≡ Waiting → ⊥))) }
+    ensures found { IfOk result (λ found. FindsFirst (callbacks_of M.Module M.State.eq) collection.now found) }
+    ensures refusals { IfErr result (λ refusal. RefusesOne (callbacks_of M.Module M.State.eq) collection.now refusal) }
 {
     for place in 0..collection.size() {
-        match check(rt, collection.get(place))? {
+        match ask(rt, collection, place)? {
             Collected::Waiting => {}
             collected => return Ok(Some((place, collected))),
         }
@@ -39,8 +53,9 @@ pub fn check_any<M: Module, L: Copy, R: Wait>(
     rt: &R,
     collection: &mut Collection<M, L>,
 ) -> Result<Checked<M::Content, L>, Refusal>
-    ensures checked { IfOk result (λ checked. ChecksAny collection.old checked collection.new) }
+    ensures checked { IfOk result (λ checked. ChecksAny (callbacks_of M.Module M.State.eq) collection.old checked collection.new) }
 
+    ensures refusals { IfErr result (λ refusal. RefusesOne (callbacks_of M.Module M.State.eq) collection.old refusal) }
     ensures unchanged { OnErr result (collection.new ≡ collection.old) }
 {
     if collection.is_empty() {
