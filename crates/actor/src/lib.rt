@@ -5,7 +5,9 @@
 
 mod event;
 mod events;
+mod feed;
 mod moment;
+mod next;
 mod observer;
 mod served;
 mod serving;

@@ -4,28 +4,21 @@ ghost use Rattle.st_answers.specs.declared.command.Command.{Command};
 ghost use Rattle.st_answers.specs.declared.command.Command.TheVariants as command;
 ghost use Rattle.st_answers.specs.declared.answer.Answer.{Answer};
 ghost use Rattle.st_core.specs.Callbacks.{callbacks_of};
-ghost use Rattle.st_core.specs.Choice.{has_message_of, has_event_of};
+ghost use Rattle.st_core.specs.Choice.{has_message_of, has_event_of, next_due_of};
 ghost use Rattle.st_core.specs.Run.{Runs};
+ghost use Rattle.actor.specs.declared.next.Next.{Next};
+ghost use Rattle.actor.specs.Receiving.{left_until, Posts, Receives};
 ghost use Rattle.actor.specs.Serving.{is_due_by, IsNext, IsRunning, IsMoment, IsNothingDue, IsServed, ServesSilentlyOrNot};
 ghost use Rattle.actor.specs.Ending.{IsEndOf, IsUnserved};
 
-use crate::moment::moment;
+use crate::feed::{Feed, Inbox};
+use crate::moment::{moment, passed};
+use crate::next::Next;
 use crate::{Event, Events, Observer, Served, Unserved};
-use crossbeam_channel::RecvTimeoutError;
 use st_core::{Core, Module, Refusal, Turned};
 use std::rt::Clock;
 use std::sync::Wait;
-use std::time::{Duration, Instant};
-
-/// What waiting for an event gave.
-enum Next<C> {
-    /// An event.
-    Event(Event<C>),
-    /// The time at which the next time-out is due has come.
-    Due,
-    /// Nobody sends any more.
-    Left,
-}
+use std::time::Instant;
 
 /// Serves a machine until it has ended, or nobody sends any more and nothing waits. Moments are the milliseconds since the
 /// start; where the clock cannot be read, the moment stays.
@@ -81,8 +74,8 @@ fn step<M: Module, O: Observer<M>, R: Wait + Clock>(
     if let Some((reason, word)) = core.ended() {
         return Ok(Some(Served::Ended(reason, word)));
     }
-    let now = moment(rt, start, core.latest());
-    go_on(rt, core, events, now, observer)
+    let now = moment(passed(rt, start), core.latest());
+    go_on(core, &Inbox { rt, events }, now, observer)
 }
 
 /// A message that the machine has sent is handed to the observer.
@@ -96,10 +89,9 @@ fn hand_out<M: Module, O: Observer<M>>(core: &mut Core<M>, observer: &mut O)
 }
 
 /// What is next of a machine that runs is done.
-fn go_on<M: Module, O: Observer<M>, R: Wait + Clock>(
-    rt: &R,
+fn go_on<M: Module, O: Observer<M>, F: Feed<M::Content>>(
     core: &mut Core<M>,
-    events: &Events<M::Content>,
+    feed: &F,
     now: u64,
     observer: &mut O,
 ) -> Result<Option<Served>, Unserved<M::Content>>
@@ -115,7 +107,7 @@ fn go_on<M: Module, O: Observer<M>, R: Wait + Clock>(
     } else if core.has_event() {
         turn(core, now, observer)
     } else {
-        receive(rt, core, events, now)
+        receive(core, feed, now)
     }
 }
 
@@ -175,22 +167,32 @@ fn unserved<C>(refusal: Refusal) -> Unserved<C>
     }
 }
 
+/// For how many milliseconds is waited at a moment at most, if it is known: until the next time-out is due.
+fn until(due: Option<u64>, now: u64) -> Option<u64>
+    ensures { result ≡ left_until due now }
+{
+    match due {
+        Some(due) => Some(due.saturating_sub(now)),
+        None => None,
+    }
+}
+
 /// The next event that is sent is posted, unless a time-out is due before it comes, or nobody sends any more.
-fn receive<M: Module, R: Wait + Clock>(
-    rt: &R,
+fn receive<M: Module, F: Feed<M::Content>>(
     core: &mut Core<M>,
-    events: &Events<M::Content>,
+    feed: &F,
     now: u64,
 ) -> Result<Option<Served>, Unserved<M::Content>>
     requires running { IsRunning core.old.machine }
     requires nothing { IsNothingDue core.old.machine now }
     requires idle { has_event_of core.old.machine ≡ false }
+    ensures received { (given : Next M.Content) × F.gives feed.now (left_until (next_due_of core.old.machine) now) given × Receives (callbacks_of M.Module M.State.eq) given core.old result core.new }
     ensures served { ServesSilentlyOrNot (callbacks_of M.Module M.State.eq) core.old core.new }
     ensures end { IfOk result (λ end. IfSome end (λ served. IsEndOf served core.new.machine)) }
 
     ensures unserved { IfErr result (λ unserved. IsUnserved (callbacks_of M.Module M.State.eq) unserved core.new) }
 {
-    match wait(rt, events, core.next_due(), now) {
+    match feed.wait(until(core.next_due(), now)) {
         Next::Event(event) => post(core, event),
         Next::Due => Ok(None),
         Next::Left => Ok(Some(Served::Left)),
@@ -203,11 +205,11 @@ fn post<M: Module>(
     event: Event<M::Content>,
 ) -> Result<Option<Served>, Unserved<M::Content>>
     requires next { IsNext core.old.machine (command.Post event.entry event.content) }
+    ensures posts { Posts (callbacks_of M.Module M.State.eq) event core.old result core.new }
     ensures served { ServesSilentlyOrNot (callbacks_of M.Module M.State.eq) core.old core.new }
     ensures end { IfOk result (λ end. end ≡ None) }
 
     ensures unserved { IfErr result (λ unserved. IsUnserved (callbacks_of M.Module M.State.eq) unserved core.new) }
-    ensures returned { IfErr result (λ unserved. unserved.event ≡ Some event) }
 {
     let Event { entry, content } = event;
     match core.post(entry, content) {
@@ -216,30 +218,5 @@ fn post<M: Module>(
             refusal: refused.refusal,
             event: Some(Event::new(entry, refused.value)),
         }),
-    }
-}
-
-/// Waits for an event, at most until the next time-out is due.
-fn wait<C: Drop, R: Wait + Clock>(
-    rt: &R,
-    events: &Events<C>,
-    due: Option<u64>,
-    now: u64,
-) -> Next<C> {
-    match due {
-        Some(due) => wait_until(rt, events, due.saturating_sub(now)),
-        None => match events.recv(rt) {
-            Ok(event) => Next::Event(event),
-            Err(_) => Next::Left,
-        },
-    }
-}
-
-/// Waits for an event, at most so many milliseconds.
-fn wait_until<C: Drop, R: Wait + Clock>(rt: &R, events: &Events<C>, left: u64) -> Next<C> {
-    match events.recv_timeout(rt, Duration::from_millis(left)) {
-        Ok(event) => Next::Event(event),
-        Err(RecvTimeoutError::Timeout) => Next::Due,
-        Err(RecvTimeoutError::Disconnected) => Next::Left,
     }
 }

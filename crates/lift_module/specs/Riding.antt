@@ -66,6 +66,11 @@ abbrev pub at_floor : Journey → ℕ → Journey
 at_floor held floor =
     record { door = held.door; floor = floor; target = held.target; caller = held.caller; tries = held.tries }
 
+-- the journey at its target, this floor, with two more tries
+abbrev pub at_target : Journey → ℕ → Journey
+at_target held floor =
+    record { door = held.door; floor = floor; target = held.target; caller = held.caller; tries = 2 }
+
 -- the journey that nobody waits for any more
 abbrev pub at_rest : Journey → Journey
 at_rest held =
@@ -95,11 +100,22 @@ tries_again held =
 abbrev pub nearer : Journey → ℕ
 nearer held = if nat_lt held.floor held.target then held.floor + 1 else held.floor - 1
 
+-- it is at its floor: the door is told to open, and waited for 5,000 milliseconds
+abbrev pub opens : Journey → Handled
+opens held = KeepState held (Send held.door OpenUp ∷ Set timer.State (After 5000) OpenUp ∷ [])
+
+-- the door did not open in time: it is told again, so many times
+abbrev pub opens_again : Journey → Handled
+opens_again held =
+    if held.tries == 0
+    then halts held
+    else opens (with_try held)
+
 -- it is at the next floor: the door is to open, or it moves on
 abbrev pub passes : Journey → Handled
 passes held =
     if nearer held == held.target
-    then KeepState (at_floor held (nearer held)) (Send held.door OpenUp ∷ [])
+    then opens (at_target held (nearer held))
     else RepeatState (at_floor held (nearer held)) []
 
 -- who waited for it is told, and it is to park at floor 0 after 60,000 milliseconds; where it has parked nobody waited
@@ -142,6 +158,7 @@ parks floor held =
 abbrev pub timeout_of : Content → Motion → Journey → Handled
 timeout_of Close Leaving held = tries_again held
 timeout_of Arrived Moving held = passes held
+timeout_of OpenUp Moving held = opens_again held
 timeout_of (Go floor) Resting held = parks floor held
 timeout_of content state held = stays
 

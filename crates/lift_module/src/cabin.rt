@@ -2,7 +2,7 @@
 ghost use Rattle.std.specs.Prelude.{◌≡◌, [], ◌∷◌, ◌++◌, IfOk};
 ghost use Rattle.std.proofs.Common.{rules};
 ghost use Rattle.st_events.specs.declared.outcome.Outcome.TheVariants.{KeepStateAndData};
-ghost use Rattle.lift_module.specs.Riding.{init_of, handle_of, enters, enter_of, terminate_of, stays, postpones, leaves, tries_again, replies, halts, nearer, passes, rests, arrives, opened, call_of, parks, timeout_of, told_of};
+ghost use Rattle.lift_module.specs.Riding.{init_of, handle_of, enters, enter_of, terminate_of, stays, postpones, leaves, tries_again, replies, halts, nearer, opens, opens_again, passes, rests, arrives, opened, call_of, parks, timeout_of, told_of};
 
 use crate::{Content, Journey, Motion};
 use st_events::{
@@ -14,7 +14,7 @@ use std::alloc::{AllocError, Global};
 /// How many milliseconds a floor takes.
 const FLOOR_TIME: u32 = 2_000;
 
-/// How many milliseconds the door may take to close, before it is told again.
+/// How many milliseconds the door may take to close or to open, before it is told again.
 const DOOR_TIME: u32 = 5_000;
 
 /// How many milliseconds nobody may want the cabin, before it parks.
@@ -26,7 +26,7 @@ const PARKING: Timer = Timer::Named(1);
 /// The floor at which it parks, and begins.
 const HOME: u8 = 0;
 
-/// How often the door is told again to close.
+/// How often the door is told again to close, or to open.
 const TRIES: u8 = 2;
 
 /// What the cabin's `handle` answers.
@@ -39,10 +39,11 @@ type Entered = EnterOutcome<Journey, Content>;
 ///
 /// It tells the door to close, and moves once the door says that it is closed; at its floor it tells the door to open,
 /// and replies once the door says that it is open. A call that comes before is postponed. Where nobody wants it for
-/// 60,000 milliseconds it parks. Where it is halted, where the door does not close, or opens on the way, all calls fail,
-/// and it stays where it is.
+/// 60,000 milliseconds it parks. Where it is halted, where the door does not close or open, or opens on the way, all calls
+/// fail, and it stays where it is.
 ///
-/// It has enter calls: those of `Leaving` and of `Moving` set the time-out of the door and that of a floor. Its last word
+/// It has enter calls: those of `Leaving` and of `Moving` set the time-out of the door and that of a floor. At its floor the
+/// time-out of the door is set again. Its last word
 /// is its floor.
 ///
 /// Ours: an example of two machines that send each other messages.
@@ -155,6 +156,27 @@ fn nearer(data: &Journey) -> u8
     }
 }
 
+/// It is at its floor: the door is told to open, and has so long to answer.
+fn opens(alloc: Global, data: Journey) -> Result<Handled, AllocError>
+    ensures { IfOk result (λ outcome. outcome ≡ opens «data») }
+{
+    let told = one(alloc, Action::Send(data.door, Content::OpenUp))?;
+    let time = Time::After(DOOR_TIME);
+    let actions = and(told, Action::Set(Timer::State, time, Content::OpenUp))?;
+    Ok(Outcome::KeepState(data, actions))
+}
+
+/// The door did not open in time: it is told again, so many times.
+fn opens_again(alloc: Global, data: &Journey) -> Result<Handled, AllocError>
+    ensures { IfOk result (λ outcome. outcome ≡ opens_again «data».now) }
+{
+    if data.tries == 0 {
+        return halts(alloc, data);
+    }
+    let tries = data.tries.saturating_sub(1);
+    opens(alloc, Journey { tries, ..*data })
+}
+
 /// It is at the next floor: the door is to open, or it moves on.
 fn passes(alloc: Global, data: &Journey) -> Result<Handled, AllocError>
     ensures { IfOk result (λ outcome. outcome ≡ passes «data».now) }
@@ -162,8 +184,8 @@ fn passes(alloc: Global, data: &Journey) -> Result<Handled, AllocError>
     let floor = nearer(data);
     let journey = Journey { floor, ..*data };
     if floor == data.target {
-        let actions = one(alloc, Action::Send(data.door, Content::OpenUp))?;
-        Ok(Outcome::KeepState(journey, actions))
+        let tries = TRIES;
+        opens(alloc, Journey { tries, ..journey })
     } else {
         Ok(Outcome::RepeatState(journey, Actions::new(alloc)))
     }
@@ -249,6 +271,7 @@ fn time_out(
     match (content, state) {
         (Content::Close, Motion::Leaving) => tries_again(alloc, data),
         (Content::Arrived, Motion::Moving) => passes(alloc, data),
+        (Content::OpenUp, Motion::Moving) => opens_again(alloc, data),
         (Content::Go(floor), Motion::Resting) => parks(alloc, floor, data),
         _ => Ok(stays(alloc)),
     }
