@@ -3,10 +3,11 @@ ghost use Rattle.std.specs.Prelude.{◌≡◌, length, IfOk, IfErr, OnOk, OnErr}
 ghost use Rattle.st_events.specs.declared.refusal.Refusal.TheVariants.{NoMemory};
 ghost use Rattle.st_cell.specs.Calls.{cut, look_of, is_removable, IsJournalOf};
 ghost use Rattle.st_cell.specs.Cell.{IsOpen};
+ghost use Rattle.st_scheduled.specs.ScheduledMachine.{token_of};
 
 use crate::any_cell::AnyCell;
 use crate::form::Form;
-use st_cell::{Answer, Cell, Core, Journal, Look, Module, Refusal, Turned};
+use st_cell::{Answer, Cell, Core, Journal, Look, Module, Refusal, Token, Turned};
 
 /// Whether the last entry is of a turn that replied, or at which the machine ended.
 fn has_written_reply<M: Module>(cell: &Cell<M>) -> bool {
@@ -43,6 +44,18 @@ impl<M: Module> AnyCell<M> {
         match self.form {
             Form::Journaled(cell) => Box::into_inner(cell).into_core(),
             Form::Unjournaled(bare) => bare.into_core(),
+        }
+    }
+
+    /// The machine's outstanding token.
+    ///
+    /// Ours: docs/DECISIONS.md, Tokens.
+    pub fn token(&self) -> Option<Token>
+        ensures { result ≡ token_of self.now.cell.scheduled }
+    {
+        match &self.form {
+            Form::Journaled(cell) => cell.token(),
+            Form::Unjournaled(bare) => bare.scheduled.token(),
         }
     }
 

@@ -1,16 +1,13 @@
 -- The entries of a map from names to ids, and the names that they show.
-use Rattle.std.proofs.Common.{◌≡◌, ℕ, Bool, false, Some, None, List, [], ◌∷◌, ◌++◌, All, slice_get, refl, sym, ap, subst, ◌∙◌, inl, inr, zero, suc, bytes_eq, string_bytes}
+use Rattle.std.proofs.Common.{◌≡◌, ℕ, Bool, false, Some, None, List, [], ◌∷◌, ◌++◌, All, slice_get, refl, sym, ap, inl, inr, zero, suc, bytes_eq, string_bytes}
 use Rattle.std.specs.Prelude.{String}
 use Rattle.std.specs.String.{string_eq}
-use Rattle.std.specs.Cmp.{IsEquivalence}
-use Rattle.std.specs.List.{IsDistinct, remove}
-use Rattle.std.specs.Map.{lookup, remove_entry, keys_of, values_of}
+use Rattle.std.specs.List.{remove}
+use Rattle.std.specs.Map.{lookup, remove_entry, values_of}
 use Rattle.std.proofs.lemmas.Bool.{cases_Bool}
-use Rattle.std.proofs.lemmas.List.{append-nil, append_assoc}
 use Rattle.std.proofs.lemmas.List.Elements.{All-head, All-tail}
 use Rattle.st_events.specs.declared.machine_id.MachineId.{MachineId}
-use Rattle.indexmap.specs.IndexMap.{insert_entry, insert_all}
-use Rattle.indexmap.proofs.MapLemmas.{absent_before, absent_from_lookup, insert_entry-absent}
+use Rattle.indexmap.specs.IndexMap.{insert_entry}
 use Rattle.st_directory.specs.DirectoryState.{Named, same_id, id_in, without_name, without_names_of}
 use Rattle.st_directory.specs.Entries.{named_of_entry, names_of_entries}
 use Rattle.st_directory.specs.InOrder.{NamesAnother, IdsNamedOnce}
@@ -22,16 +19,6 @@ apart_stay id [] apart = refl
 apart_stay id (first ∷ later) apart =
     let differs : same_id id first.1 ≡ false = others_differ id first.1 (λ same. All-head (NamesAnother id) first later apart (sym same)) in
     rw differs (ap (λ (rest : List Named). first ∷ rest) (apart_stay id later (All-tail (NamesAnother id) first later apart)))
-
-module _ {K X : Type 0} {R : K → K → Bool} (laws : IsEquivalence R) where
-  -- entries of distinct keys that are inserted in turn stand as they stood
-  pub inserted_in_turn : (done later : List (K × X)) → IsDistinct R (keys_of (done ++ later)) → insert_all R done later ≡ done ++ later
-  inserted_in_turn done [] distinct = sym (append-nil done)
-  inserted_in_turn done (e ∷ later) distinct =
-      let pushed = insert_entry-absent R e.0 e.1 done (absent_from_lookup (R e.0) done (absent_before laws done later e distinct)) in
-      let same = append_assoc done (e ∷ []) later in
-      ap (λ es. insert_all R es later) pushed
-      ∙ (inserted_in_turn (done ++ e ∷ []) later (subst (λ es. IsDistinct R (keys_of es)) (sym same) distinct) ∙ same)
 
 module _ {A : Type 0} where
   -- whether the key of an entry is this name

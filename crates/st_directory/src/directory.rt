@@ -1,12 +1,14 @@
 //! Values by id, some of them under names.
-ghost use Rattle.std.specs.Prelude.{◌≡◌, ◌==◌, String, [], length, None, Some, IfOk, IfErr, OnOk, OnErr, option_copied};
+ghost use Rattle.std.specs.Prelude.{◌≡◌, ◌==◌, String, [], length, All, None, Some, IsSome, IfOk, IfErr, IfSome, IfNone, OnOk, OnErr, option_copied};
 ghost use Rattle.std.specs.Map.Iter.{ShowsInOrder, deref_pair};
 ghost use Rattle.st_events.specs.declared.refusal.Refusal.TheVariants.{NoSuchName, NoSuchMachine};
 ghost use Rattle.st_directory.specs.Admission.{Admits, HasRoomFor, KeepsRoom, RefusesOnly, admission_refusal, name_refusal, place_refusal, next_vacancy};
 ghost use Rattle.st_directory.specs.DirectoryState.{found, id_of_name, inserted, state_of, unregistered, removed};
 ghost use Rattle.st_directory.specs.Entries.{names_of_entries};
+ghost use Rattle.st_directory.specs.InOrder.{StandsElsewhere};
 ghost use Rattle.st_directory.specs.Slots.{ids_of};
 
+use crate::keyed::Keyed;
 use crate::names::Names;
 use crate::values::Values;
 use crate::{LONGEST_NAME, MOST, Vacancy};
@@ -14,6 +16,7 @@ use indexmap::map::Iter;
 use st_events::{MachineId, NUMBER_LIMIT, Refusal};
 use std::alloc::{AllocError, Global};
 use std::marker::Model;
+use std::random::RandomSource;
 
 /// Values, each under an id of its own, and names for some of them: a name names one value, and a value has one name at
 /// most. The slot of an id is used again once its value is removed, the serial never, so an id names one value at most,
@@ -46,18 +49,39 @@ impl<T> Model for Directory<T> {
 }
 
 impl<T> Directory<T> {
-    /// A directory without values. It takes no memory.
+    /// A directory without values, whose names are hashed so.
+    fn hashed_by(alloc: Global, keyed: Keyed) -> Directory<T>
+        ensures { result.state ≡ state_of [] [] 0 }
+    {
+        Directory {
+            alloc,
+            names: Names::new(alloc, keyed),
+            values: Values::new(alloc),
+            begun: 0,
+        }
+    }
+
+    /// A directory without values. It takes no memory. Its names are hashed by a key that is known: where somebody chooses
+    /// them who may mean harm, take `new_keyed`.
     ///
     /// Ours: docs/DECISIONS.md, Directories.
     pub fn new(alloc: Global) -> Directory<T>
         ensures { result.state ≡ state_of [] [] 0 }
     {
-        Directory {
-            alloc,
-            names: Names::new(alloc),
-            values: Values::new(alloc),
-            begun: 0,
-        }
+        Directory::hashed_by(alloc, Keyed::known())
+    }
+
+    /// A directory without values, whose names are hashed by a key that is drawn at random: so the time to look one up does
+    /// not depend on who chose it. It takes no memory.
+    ///
+    /// Refused with `AllocError` where no key can be drawn.
+    ///
+    /// Ours: docs/DECISIONS.md, Directories.
+    pub fn new_keyed<R: RandomSource>(rt: &R, alloc: Global) -> Result<Directory<T>, AllocError>
+        ensures { IfOk result (λ directory. directory.state ≡ state_of [] [] 0) }
+    {
+        let keyed = Keyed::drawn(rt)?;
+        Ok(Directory::hashed_by(alloc, keyed))
     }
 
     /// How many values there are.
@@ -97,6 +121,17 @@ impl<T> Directory<T> {
         ensures { IfOk result (λ ids. ids.items ≡ ids_of self.now.state.values) }
     {
         self.values.ids(alloc)
+    }
+
+    /// The id of the value at a slot. `None`: no value is there.
+    ///
+    /// Ours: docs/DECISIONS.md, Directories.
+    pub fn id_at(&self, slot: usize) -> Option<MachineId>
+        ensures there { IfSome result (λ id. (id.slot ≡ slot) × IsSome (found id self.now.state)) }
+
+        ensures vacant { IfNone result (All (StandsElsewhere slot) self.now.state.values) }
+    {
+        self.values.id_at(slot)
     }
 
     /// The value of an id. An id that names none now is refused with `NoSuchMachine`.

@@ -1,26 +1,33 @@
-//! How names are hashed: by a number, in whose place another may come.
+//! How names are hashed: by a key that is known, or by one that was drawn at random.
 
-use std::hash::{BuildHasher, DefaultHasher, Hasher};
+use std::alloc::AllocError;
+use std::hash::{BuildHasher, DefaultHasher, RandomState};
+use std::random::RandomSource;
 
-/// Hashes names by a number. Names that were chosen to have one hash by a number have others by the next.
+/// Hashes names by a key.
 #[derive(Clone, Copy)]
 pub(crate) struct Keyed {
-    number: u64,
-    /// A hasher that the number was written to.
+    /// The hasher that the key makes, before any name.
     begun: DefaultHasher,
 }
 
 impl Keyed {
-    /// Hashes by a number.
-    pub(crate) fn new(number: u64) -> Keyed {
-        let mut begun = DefaultHasher::new();
-        begun.write_u64(number);
-        Keyed { number, begun }
+    /// Hashes by a key that is known: whoever chooses names can choose some that fall together.
+    pub(crate) fn known() -> Keyed {
+        Keyed {
+            begun: DefaultHasher::new(),
+        }
     }
 
-    /// Hashes by the next number.
-    pub(crate) fn next(&self) -> Keyed {
-        Keyed::new(self.number.wrapping_add(1))
+    /// Hashes by a key of 128 bits that is drawn at random and shown to nobody: whoever chooses names cannot tell which of
+    /// them fall together.
+    pub(crate) fn drawn<R: RandomSource>(rt: &R) -> Result<Keyed, AllocError> {
+        match RandomState::new(rt) {
+            Ok(state) => Ok(Keyed {
+                begun: state.build_hasher(),
+            }),
+            Err(_) => Err(AllocError),
+        }
     }
 }
 

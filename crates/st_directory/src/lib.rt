@@ -2,7 +2,6 @@
 //! It knows nothing of what a value is, of locks and of threads.
 #![tactic(auto)]
 
-mod crowds;
 mod directory;
 mod keyed;
 mod laws;

@@ -7,23 +7,17 @@ ghost use Rattle.st_events.specs.declared.machine_id.MachineId.{MachineId};
 ghost use Rattle.st_directory.specs.InOrder.{IdsNamedOnce};
 ghost use Rattle.st_directory.specs.DirectoryState.{id_in, same_id, with_name, without_name, without_names_of};
 
-use crate::crowds::Crowds;
 use crate::keyed::Keyed;
 use indexmap::IndexMap;
-use indexmap::map::{Iter, Keys};
+use indexmap::map::Iter;
 use st_events::MachineId;
 use std::alloc::{AllocError, Global};
-use std::hash::BuildHasher;
 use std::marker::Model;
 
 /// Names, each with the id that it names. One is found in one hashed look-up.
-///
-/// Whoever chooses the names knows how they are hashed. So where too many fall together, all are hashed anew by another
-/// number before the next comes in: names that fall together then have to be chosen for that number.
 #[derive(Drop)]
 pub(crate) struct Names {
     entries: IndexMap<String, MachineId, Keyed>,
-    crowds: Crowds,
 }
 
 impl Model for Names {
@@ -39,13 +33,12 @@ impl Model for Names {
 }
 
 impl Names {
-    /// No names. It takes no memory.
-    pub(crate) fn new(alloc: Global) -> Names
+    /// No names, and how those that come are hashed. It takes no memory.
+    pub(crate) fn new(alloc: Global, keyed: Keyed) -> Names
         ensures { result.names ≡ [] }
     {
         Names {
-            entries: IndexMap::with_hasher(alloc, Keyed::new(0)),
-            crowds: Crowds::new(),
+            entries: IndexMap::with_hasher(alloc, keyed),
         }
     }
 
@@ -64,21 +57,6 @@ impl Names {
         self.entries.iter()
     }
 
-    /// Hashes the names by another number, with the same room for more.
-    fn hash_anew(&mut self, alloc: Global) -> Result<(), AllocError>
-        ensures kept { self.old.places ≤ self.new.places }
-        ensures unchanged { self.new.names ≡ self.old.names }
-    {
-        let keyed = self.entries.hasher().next();
-        let crowds = crowds_of(self.entries.keys(), self.entries.len(), keyed);
-        let room = self.entries.capacity();
-        let mut entries = IndexMap::with_capacity_and_hasher(alloc, room, keyed)?;
-        entries.append(&mut self.entries)?;
-        self.entries = entries;
-        self.crowds = crowds;
-        Ok(())
-    }
-
     /// Makes room for a name more, and copies it. Where there is no name, nothing is done.
     pub(crate) fn prepare(
         &mut self,
@@ -92,9 +70,6 @@ impl Names {
     {
         match name {
             Some(name) => {
-                if self.crowds.is_there_one() {
-                    self.hash_anew(alloc)?;
-                }
                 self.entries.reserve(1)?;
                 Ok(Some(String::from_str(alloc, name)?))
             }
@@ -109,8 +84,6 @@ impl Names {
         ensures { self.new.names ≡ with_name (option_map string_bytes name) id self.old.names }
     {
         if let Some(name) = name {
-            let hash = self.entries.hasher().hash_one(name.as_str());
-            self.crowds.count(hash, self.entries.len());
             self.entries.insert(name, id).unwrap();
         }
     }
@@ -152,13 +125,4 @@ fn place_of(ids: &[MachineId], id: MachineId) -> Option<usize>
         }
     }
     None
-}
-
-/// How so many names are spread that are hashed so.
-fn crowds_of(names: Keys<'_, String, MachineId>, len: usize, keyed: Keyed) -> Crowds {
-    let mut crowds = Crowds::new();
-    for name in names {
-        crowds.count(keyed.hash_one(name.as_str()), len);
-    }
-    crowds
 }

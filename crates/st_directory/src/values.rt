@@ -1,5 +1,5 @@
 //! The values of a directory, by id.
-ghost use Rattle.std.specs.Prelude.{◌≡◌, ◌<◌, ◌≤◌, ◌^◌, [], length, All, None, IfOk, IfSome, IfNone, OnOk, option_copied};
+ghost use Rattle.std.specs.Prelude.{◌≡◌, ◌<◌, ◌≤◌, ◌^◌, [], length, All, None, IsSome, IfOk, IfSome, IfNone, OnOk, option_copied};
 ghost use Rattle.st_directory.specs.DirectoryState.{value_in, with_value, without_value};
 ghost use Rattle.st_directory.specs.InOrder.{StandsElsewhere};
 ghost use Rattle.st_directory.specs.Slots.{id_at, ids_of};
@@ -88,6 +88,17 @@ impl<T> Values<T> {
         } else {
             None
         }
+    }
+
+    /// The id of the value at a slot.
+    pub(crate) fn id_at(&self, slot: usize) -> Option<MachineId>
+        ensures there { IfSome result (λ id. (id.slot ≡ slot) × IsSome (value_in id self.now.values)) }
+
+        ensures vacant { IfNone result (All (StandsElsewhere slot) self.now.values) }
+    {
+        let stored = self.slab.get(slot)?;
+        let serial = stored.serial;
+        Some(MachineId { slot, serial })
     }
 
     /// A copy of the ids, by rising slot.

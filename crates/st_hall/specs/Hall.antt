@@ -1,10 +1,10 @@
 -- A registry that threads share is seen by nobody but in its calls: each call's answer is that of some registry, at that moment.
-use Rattle.std.specs.Prelude.{◌≡◌, ℕ, Option, Some, List, Result}
+use Rattle.std.specs.Prelude.{◌≡◌, ℕ, Option, Some, IsSome, List, Result, All, length}
 use Rattle.st_events.specs.declared.machine_id.MachineId.{MachineId}
 use Rattle.st_events.specs.declared.refused.Refused.{Refused}
 use Rattle.st_core.specs.declared.start.Start.{Start}
-use Rattle.st_directory.specs.DirectoryState.{Named, id_of_name}
-use Rattle.st_directory.specs.InOrder.{IsDirectory}
+use Rattle.st_directory.specs.DirectoryState.{Named, found, id_of_name}
+use Rattle.st_directory.specs.InOrder.{IsDirectory, StandsElsewhere}
 use Rattle.st_directory.specs.Slots.{ids_of}
 use Rattle.st_registry.specs.declared.started.Started.{Started}
 use Rattle.st_registry.specs.Registry.{RegistryState, HasIds, StartsUnder, start_due}
@@ -26,3 +26,19 @@ AreIdsSomewhere M S D C A ids = (registry : RegistryState M S D C A) × IsDirect
 -- some registry that is in order has these names, the first registered first
 abbrev pub AreNamesSomewhere : Type 0 → Type 0 → Type 0 → Type 0 → Type 0 → List Named → Type 0
 AreNamesSomewhere M S D C A names = (registry : RegistryState M S D C A) × IsDirectory registry × HasIds registry × (registry.names ≡ names)
+
+-- some registry that is in order has this name
+abbrev pub IsRegisteredSomewhere : Type 0 → Type 0 → Type 0 → Type 0 → Type 0 → List ℕ → Type 0
+IsRegisteredSomewhere M S D C A name = (registry : RegistryState M S D C A) × IsDirectory registry × HasIds registry × IsSome (id_of_name name registry)
+
+-- some registry that is in order has a machine of this id
+abbrev pub IsThereSomewhere : Type 0 → Type 0 → Type 0 → Type 0 → Type 0 → MachineId → Type 0
+IsThereSomewhere M S D C A id = (registry : RegistryState M S D C A) × IsDirectory registry × HasIds registry × IsSome (found id registry)
+
+-- some registry that is in order has no machine at this slot
+abbrev pub IsVacantSomewhere : Type 0 → Type 0 → Type 0 → Type 0 → Type 0 → ℕ → Type 0
+IsVacantSomewhere M S D C A slot = (registry : RegistryState M S D C A) × IsDirectory registry × HasIds registry × All (StandsElsewhere slot) registry.values
+
+-- some registry that is in order has so many machines
+abbrev pub IsCountedSomewhere : Type 0 → Type 0 → Type 0 → Type 0 → Type 0 → ℕ → Type 0
+IsCountedSomewhere M S D C A count = (registry : RegistryState M S D C A) × IsDirectory registry × HasIds registry × (count ≡ length registry.values)

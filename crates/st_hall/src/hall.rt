@@ -1,20 +1,23 @@
 //! A registry that threads share.
-ghost use Rattle.std.specs.Prelude.{◌≡◌, ◌⊎◌, if◌then◌else◌, Some, None, IsSome, IfOk, IfErr, IfSome, option_copied};
+ghost use Rattle.std.specs.Prelude.{◌≡◌, ◌⊎◌, ◌==◌, ℕ, true, if◌then◌else◌, Some, None, IsSome, IfOk, IfErr, IfSome, IfNone, OnOk, option_copied};
 ghost use Rattle.std.specs.Arc.{arc_value};
 ghost use Rattle.st_events.specs.declared.refusal.Refusal.TheVariants.{NoMemory, NoSuchName, NoSuchMachine, NotStopped};
 ghost use Rattle.st_core.specs.Callbacks.{callbacks_of};
 ghost use Rattle.st_core.specs.Start.{start_of};
-ghost use Rattle.st_lock.specs.Machines.{id_of};
+ghost use Rattle.st_cell.specs.Calls.{is_removable};
+ghost use Rattle.st_lock.specs.Machines.{id_of, IsFoundAt};
 ghost use Rattle.st_directory.specs.Entries.{names_of_entries};
-ghost use Rattle.st_hall.specs.Hall.{StartsSomewhere, IsNamedSomewhere, AreNamesSomewhere, AreIdsSomewhere};
+ghost use Rattle.st_hall.specs.Hall.{StartsSomewhere, IsNamedSomewhere, AreNamesSomewhere, AreIdsSomewhere, IsRegisteredSomewhere, IsThereSomewhere, IsVacantSomewhere, IsCountedSomewhere};
 ghost use Rattle.st_hall.specs.Outstanding.{is_outstanding};
 
 use crate::copies::copied;
 use crate::outstanding::{delivered, unserved};
 use crate::{FoundMachine, Served, Undelivered};
+use st_directory::MOST;
 use st_pool::{Hand, Message};
 use st_registry::{
-    Machine, MachineId, Module, Refusal, Refused, Registry, Started, Token, a_registry_is_in_order,
+    Machine, MachineId, Module, Reason, Refusal, Refused, Registry, Started, Token,
+    a_registry_is_in_order,
 };
 use std::alloc::{AllocError, Global};
 use std::sync::{Arc, Mutex, RwLock, Wait};
@@ -90,9 +93,13 @@ impl<M: Module, R: Wait + Drop> Hall<M, R> {
     ///
     /// Ours: docs/DECISIONS.md, Halls.
     pub fn unregister(&self, name: &str) -> Result<(), Refusal>
+        ensures registered { OnOk result (IsRegisteredSomewhere M M.State M.Data M.Content M.Arg name.now) }
+
         ensures refusals { IfErr result (λ refusal. refusal ≡ NoSuchName) }
     {
-        self.registry.write(&self.rt).unregister(name)
+        let mut registry = self.registry.write(&self.rt);
+        a_registry_is_in_order(&registry);
+        registry.unregister(name)
     }
 
     /// The machine of an id. The registry's lock is let go before it is answered.
@@ -107,6 +114,29 @@ impl<M: Module, R: Wait + Drop> Hall<M, R> {
         ensures refusals { IfErr result (λ refusal. (refusal ≡ NoSuchMachine) ⊎ (refusal ≡ NoMemory)) }
     {
         self.registry.read(&self.rt).machine(id)
+    }
+
+    /// The machine at a slot, if one is there: its id may have any serial. Who asks for each slot below 65,536 finds each machine
+    /// that stays, and takes no memory.
+    ///
+    /// Refused with `NoMemory` where the machine has as many owners as can be counted.
+    ///
+    /// Ours: docs/DECISIONS.md, Halls.
+    pub fn machine_at(&self, slot: usize) -> Result<Option<Arc<Machine<M>>>, Refusal>
+        ensures slot { IfOk result (λ machine. IfSome machine (λ found. (id_of (arc_value found)).slot ≡ slot)) }
+        ensures vacant { IfOk result (λ machine. IfNone machine (IsVacantSomewhere M M.State M.Data M.Content M.Arg slot)) }
+
+        ensures refusals { IfErr result (λ refusal. refusal ≡ NoMemory) }
+    {
+        let registry = self.registry.read(&self.rt);
+        a_registry_is_in_order(&registry);
+        let Some(id) = registry.id_at(slot) else {
+            return Ok(None);
+        };
+        match registry.machine(id) {
+            Ok(machine) => Ok(Some(machine)),
+            Err(_) => Err(Refusal::NoMemory),
+        }
     }
 
     /// The machine of an id, to be served more than once.
@@ -157,15 +187,21 @@ impl<M: Module, R: Wait + Drop> Hall<M, R> {
     /// How many machines there are.
     ///
     /// Ours: docs/DECISIONS.md, Halls.
-    pub fn len(&self) -> usize {
-        self.registry.read(&self.rt).len()
+    pub fn len(&self) -> usize
+        ensures { IsCountedSomewhere M M.State M.Data M.Content M.Arg result }
+    {
+        let registry = self.registry.read(&self.rt);
+        a_registry_is_in_order(&registry);
+        registry.len()
     }
 
     /// Says whether there is no machine.
     ///
     /// Ours: docs/DECISIONS.md, Halls.
-    pub fn is_empty(&self) -> bool {
-        self.registry.read(&self.rt).is_empty()
+    pub fn is_empty(&self) -> bool
+        ensures { (count : ℕ) × IsCountedSomewhere M M.State M.Data M.Content M.Arg count × (result ≡ (count == 0)) }
+    {
+        self.len() == 0
     }
 
     /// Removes a machine that has ended, as `Registry::remove_stopped` does. It has the registry's lock while it looks at
@@ -176,9 +212,26 @@ impl<M: Module, R: Wait + Drop> Hall<M, R> {
     ///
     /// Ours: docs/DECISIONS.md, Halls.
     pub fn remove_stopped(&self, id: MachineId) -> Result<(), Refusal>
+        ensures there { OnOk result (IsThereSomewhere M M.State M.Data M.Content M.Arg id) }
+        ensures stopped { OnOk result (IsFoundAt (callbacks_of M.Module M.State.eq) (λ cell. is_removable cell) id true) }
+
         ensures refusals { IfErr result (λ refusal. (refusal ≡ NoSuchMachine) ⊎ (refusal ≡ NotStopped)) }
     {
-        self.registry.write(&self.rt).remove_stopped(&self.rt, id)
+        let mut registry = self.registry.write(&self.rt);
+        a_registry_is_in_order(&registry);
+        registry.remove_stopped(&self.rt, id)
+    }
+
+    /// Ends each machine that has not ended, as `Machine::stop` does. Nobody has the registry's lock while one is stopped. It
+    /// takes no memory. One that has as many owners as can be counted, or whose numbers are used up, goes on.
+    ///
+    /// Manual: `stop/3`; ours: docs/DECISIONS.md, Halls.
+    pub fn stop_each(&self, reason: Reason) {
+        for slot in 0..MOST {
+            if let Ok(Some(machine)) = self.machine_at(slot) {
+                let _ = machine.stop(&self.rt, reason);
+            }
+        }
     }
 
     /// How many messages could not be delivered so far, by why.

@@ -12,11 +12,12 @@ use Rattle.st_cell.specs.declared.journal.Journal.{Journal}
 use Rattle.st_lock_inner.specs.Inner.{is_long}
 use Rattle.st_lock.specs.Machines.{IsCellOf, PostsSomewhere}
 use Rattle.st_lock.specs.declared.unposted.Unposted.{Unposted}
-use Rattle.st_lock.specs.declared.unposted.Unposted.TheVariants.{Busy, Refused}
+use Rattle.st_lock.specs.declared.unposted.Unposted.TheVariants.{Busy, Closed, Refused}
 
 -- the content that was not posted
 abbrev pub content_in : {C : Type 0} → Unposted C → C
 content_in (Busy content) = content
+content_in (Closed content) = content
 content_in (Refused refused) = refused.value
 
 module _ {M S D C : Type 0} (callbacks : M → Callbacks S D C) where
@@ -33,6 +34,7 @@ module _ {M S D C : Type 0} (callbacks : M → Callbacks S D C) where
   PostsWithin id count limit entry content (Err (Refused refused)) = PostsSomewhere callbacks id count entry content (posted_as (Err refused))
   PostsWithin id count limit entry content (Err (Busy back)) =
       (cell : CellState M S D C) × IsCellOf callbacks id cell × (limit ≤ waiting_of cell.scheduled.core.machine)
+  PostsWithin id count limit entry content (Err (Closed back)) = ⊥
 
   -- the journal of some such cell was handed out since it is so long, with this label; or it is not so long
   abbrev pub IsTakenBeyond : MachineId → ℕ → List ℕ → Option (Journal S C) → Type 0

@@ -19,7 +19,11 @@ use Rattle.st_lock.specs.declared.machine.Machine.{Machine}
 use Rattle.st_lock.specs.declared.vacant_machine.VacantMachine.{VacantMachine}
 use Rattle.st_lock_inner.specs.declared.service.Service.{Service}
 use Rattle.std.specs.Arc.{arc_value}
-use Rattle.std.specs.Prelude.{◌≡◌, ℕ, List, Option, Result}
+use Rattle.std.specs.Prelude.{◌≡◌, ℕ, List, Option, Result, Ok, Err}
+use Rattle.st_events.specs.declared.refusal.Refusal.{Refusal}
+use Rattle.st_answers.specs.declared.command.Command.TheVariants as command
+use Rattle.st_core.specs.Choice.{waiting_of}
+use Rattle.st_scheduled.specs.Answered.{stopped_as}
 
 module _ {M S D C A : Type 0} where
   -- the machine's id
@@ -72,9 +76,20 @@ module _ {M S D C : Type 0} (callbacks : M → Callbacks S D C) where
   IsLookAt id count look =
       (cell : CellState M S D C) × (port : ℕ) × IsCellOf id cell × IsOpen port cell × (count_for port cell ≡ count) × (look ≡ look_of port cell)
 
+  -- this is found at some such cell
+  abbrev pub IsFoundAt : {X : Type 0} → (CellState M S D C → X) → MachineId → X → Type 0
+  IsFoundAt find id value = (cell : CellState M S D C) × IsCellOf id cell × (value ≡ find cell)
+
   -- this is read off the machine of some such cell
   abbrev pub IsReadAt : {X : Type 0} → (MachineState S D C → X) → MachineId → X → Type 0
   IsReadAt read id value = (cell : CellState M S D C) × IsCellOf id cell × (value ≡ read cell.scheduled.core.machine)
+
+  -- some such cell was told to stop and did, and so many events waited there before; or it refused for this reason
+  abbrev pub StopsSomewhere : MachineId → ℕ → Result ℕ Refusal → Type 0
+  StopsSomewhere id reason (Ok waited) =
+      (old : CellState M S D C) × (new : CellState M S D C) × (word : ℕ) × IsCellOf id old
+      × IsTold callbacks old (command.Stop reason) (stopped_as (Ok word)) new × (waited ≡ waiting_of old.scheduled.core.machine)
+  StopsSomewhere id reason (Err refusal) = IsToldSomewhere id (command.Stop reason) (stopped_as (Err refusal))
 
   -- this is the journal of some such cell, with this label
   abbrev pub IsJournalAt : MachineId → List ℕ → Journal S C → Type 0

@@ -13,7 +13,7 @@ ghost use Rattle.st_lock_inner.specs.Inner.{inner_at_first, HasEnd};
 ghost use Rattle.st_core.specs.Callbacks.{callbacks_of};
 ghost use Rattle.st_answers.specs.declared.command.Command.TheVariants as command;
 ghost use Rattle.st_scheduled.specs.Answered.{ticked_as, collected_as, replied_as, stopped_as};
-ghost use Rattle.st_lock.specs.Machines.{id_of, DeliversSomewhere, IsJournalAt, IsToldSomewhere, ServesSomewhere, TakesOutSomewhere, TurnsSomewhere};
+ghost use Rattle.st_lock.specs.Machines.{id_of, DeliversSomewhere, IsJournalAt, IsToldSomewhere, ServesSomewhere, StopsSomewhere, TakesOutSomewhere, TurnsSomewhere};
 ghost use Rattle.st_lock.specs.Ports.{port_at_first};
 
 use crate::Port;
@@ -541,14 +541,24 @@ impl<M: Module> Machine<M> {
         answer
     }
 
-    /// Says whether the machine has ended and none of its messages is left, so that it can be removed.
+    /// Ends the machine at once, as `stop` does, and answers how many accepted events waited: they are dropped.
     ///
-    /// Ours: docs/DECISIONS.md, Journals.
-    pub fn removable<R: Wait>(&self, rt: &R) -> bool {
-        let (held, inner) = self.arrive(rt);
-        let answer = inner.removable();
+    /// Refused as `stop` is. It takes no memory.
+    ///
+    /// Manual: `stop/3`; ours: docs/DECISIONS.md, A stop from outside.
+    pub fn stop_and_count<R: Wait>(&self, rt: &R, reason: Reason) -> Result<usize, Refusal>
+        ensures { StopsSomewhere (callbacks_of M.Module M.State.eq) (id_of self.now) reason result }
+    {
+        let (held, mut inner) = self.arrive(rt);
+        its_cell_is_journaled(&inner);
+        let waited = inner.core().waiting();
+        let answer = inner.stop(reason);
         drop(held.give_back(inner));
-        answer
+        self.changed.notify_all();
+        match answer {
+            Ok(_word) => Ok(waited),
+            Err(refusal) => Err(refusal),
+        }
     }
 
     /// A copy of the journal, with a label, as the machine's name.

@@ -1,10 +1,12 @@
 //! What is read of a machine that threads share, with no entry, no copy and no walk of its journal.
 ghost use Rattle.st_core.specs.Callbacks.{callbacks_of};
 ghost use Rattle.st_core.specs.Choice.{is_ready_of, next_due_of, waiting_of};
-ghost use Rattle.st_lock.specs.Machines.{IsReadAt, id_of};
+ghost use Rattle.st_scheduled.specs.ScheduledMachine.{token_of};
+ghost use Rattle.st_cell.specs.Calls.{is_removable};
+ghost use Rattle.st_lock.specs.Machines.{IsFoundAt, IsReadAt, id_of};
 
 use crate::Machine;
-use st_cell::{Module, Reason};
+use st_cell::{Module, Reason, Token};
 use st_lock_inner::its_cell_is_journaled;
 use std::sync::Wait;
 
@@ -58,6 +60,32 @@ impl<M: Module> Machine<M> {
         let (held, inner) = self.arrive(rt);
         its_cell_is_journaled(&inner);
         let answer = inner.core().ended();
+        drop(held.give_back(inner));
+        answer
+    }
+
+    /// Its outstanding token, which somebody has, or dropped.
+    ///
+    /// Ours: docs/DECISIONS.md, Tokens.
+    pub fn token<R: Wait>(&self, rt: &R) -> Option<Token>
+        ensures { IsFoundAt (callbacks_of M.Module M.State.eq) (λ cell. token_of cell.scheduled) (id_of self.now) result }
+    {
+        let (held, inner) = self.arrive(rt);
+        its_cell_is_journaled(&inner);
+        let answer = inner.token();
+        drop(held.give_back(inner));
+        answer
+    }
+
+    /// Says whether it has ended and none of its messages is left, so that it can be removed.
+    ///
+    /// Ours: docs/DECISIONS.md, Journals.
+    pub fn removable<R: Wait>(&self, rt: &R) -> bool
+        ensures { IsFoundAt (callbacks_of M.Module M.State.eq) (λ cell. is_removable cell) (id_of self.now) result }
+    {
+        let (held, inner) = self.arrive(rt);
+        its_cell_is_journaled(&inner);
+        let answer = inner.removable();
         drop(held.give_back(inner));
         answer
     }

@@ -4,13 +4,16 @@ ghost use Rattle.st_lock.specs.Bounded.{content_in};
 
 use st_cell::Refused;
 
-/// Why `Port::post_within` posted nothing. Either way the content comes back.
+/// Why nothing was posted, where posts are bounded. In each case the content comes back.
 ///
 /// Ours: docs/DECISIONS.md, Ports.
 #[derive(Debug, PartialEq, Eq, Drop)]
 pub enum Unposted<C> {
     /// As many events wait at the machine as may.
     Busy(C),
+    /// Who serves the machine takes no posts any more. `Port::post_within` never answers this: it is for those that stand above
+    /// it, as a service's port.
+    Closed(C),
     /// The machine refused the post, as `Port::post` is refused.
     Refused(Refused<C>),
 }
@@ -24,6 +27,7 @@ impl<C> Unposted<C> {
     {
         match self {
             Unposted::Busy(content) => content,
+            Unposted::Closed(content) => content,
             Unposted::Refused(refused) => refused.value,
         }
     }

@@ -401,6 +401,15 @@ impl<M: Module> Inner<M> {
         self.cell.core()
     }
 
+    /// The machine's outstanding token.
+    ///
+    /// Ours: docs/DECISIONS.md, Tokens.
+    pub fn token(&self) -> Option<Token>
+        ensures { result ≡ token_of self.now.cell.scheduled }
+    {
+        self.cell.token()
+    }
+
     /// Says whether the machine has ended and none of its messages is left.
     ///
     /// Ours: docs/DECISIONS.md, Shared machines.

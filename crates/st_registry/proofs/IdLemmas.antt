@@ -8,6 +8,11 @@ use Rattle.st_directory.specs.DirectoryState.{DirectoryState, DirectoryView, sam
 use Rattle.st_directory.proofs.IdLemmas.{ids_same}
 use Rattle.st_directory.proofs.ValueLemmas.{All-without_value}
 
+-- what holds holds on `Ok`
+pub on_ok : {V E P : Type 0} (result : Result V E) → P → OnOk result P
+on_ok (Ok value) holds = holds
+on_ok (Err refusal) holds = tt
+
 module _ {T : Type 0} (id_is : T → MachineId) where
   -- the value of an id has that id
   pub id_at : (id : MachineId) (value : T) (values : List (MachineId × T)) → All (λ (entry : MachineId × T). id_is entry.1 ≡ entry.0) values

@@ -1,5 +1,5 @@
 //! Machines by id and by name.
-ghost use Rattle.std.specs.Prelude.{◌≡◌, ◌==◌, [], length, Some, None, IsSome, IfOk, IfErr, OnOk, OnErr, String, option_copied};
+ghost use Rattle.std.specs.Prelude.{◌≡◌, ◌==◌, [], length, true, false, All, Some, None, Err, IsSome, IfOk, IfErr, IfSome, IfNone, OnOk, OnErr, String, option_copied};
 ghost use Rattle.std.specs.Arc.{arc_value};
 ghost use Rattle.std.specs.Map.Iter.{ShowsInOrder, deref_pair};
 ghost use Rattle.st_events.specs.declared.refusal.Refusal.TheVariants.{NoMemory, NoSuchName, NoSuchMachine, NotStopped};
@@ -7,9 +7,10 @@ ghost use Rattle.st_core.specs.Callbacks.{callbacks_of};
 ghost use Rattle.st_core.specs.Start.{start_of};
 ghost use Rattle.st_directory.specs.DirectoryState.{found, id_of_name, state_of, unregistered, removed};
 ghost use Rattle.st_directory.specs.Entries.{names_of_entries};
-ghost use Rattle.st_directory.specs.InOrder.{IsDirectory};
+ghost use Rattle.st_directory.specs.InOrder.{IsDirectory, StandsElsewhere};
 ghost use Rattle.st_directory.specs.Slots.{ids_of};
-ghost use Rattle.st_lock.specs.Machines.{id_of};
+ghost use Rattle.st_cell.specs.Calls.{is_removable};
+ghost use Rattle.st_lock.specs.Machines.{id_of, IsFoundAt};
 ghost use Rattle.st_registry.specs.Registry.{HasIds, StartsUnder, start_due, IsMachineAt, RefusesMachine, RefusesRemoval};
 
 use crate::Started;
@@ -21,6 +22,7 @@ use st_directory::{Directory, a_directory_is_in_order};
 use st_lock::{Machine, MachineId, Module, Refusal, Refused};
 use std::alloc::{AllocError, Global};
 use std::marker::Model;
+use std::random::RandomSource;
 use std::sync::{Arc, Wait};
 
 /// Machines of one module by id, some of them under names. An id names at most one machine, for good. A contract sees the
@@ -44,7 +46,8 @@ impl<M: Module> Model for Registry<M> {
 }
 
 impl<M: Module> Registry<M> {
-    /// No machine yet. It takes no memory.
+    /// No machine yet. It takes no memory. Names are hashed by a key that is known: where somebody chooses them who may mean
+    /// harm, take `new_keyed`.
     ///
     /// Ours: docs/DECISIONS.md, Directories.
     pub fn new(alloc: Global) -> Registry<M>
@@ -56,7 +59,7 @@ impl<M: Module> Registry<M> {
         }
     }
 
-    /// No machine yet, and those that are started keep no journal. It takes no memory.
+    /// No machine yet, and those that are started keep no journal. It takes no memory. Names are hashed as by `new`.
     ///
     /// Ours: docs/DECISIONS.md, Machines without a journal, Directories.
     pub fn unjournaled(alloc: Global) -> Registry<M>
@@ -69,6 +72,41 @@ impl<M: Module> Registry<M> {
                 keeps: false,
             },
         }
+    }
+
+    /// No machine yet, as `new` answers. Names are hashed by a key that is drawn at random: so the time to look one up does
+    /// not depend on who chose it. It takes no memory.
+    ///
+    /// Refused with `AllocError` where no key can be drawn.
+    ///
+    /// Ours: docs/DECISIONS.md, Directories.
+    pub fn new_keyed<R: RandomSource>(rt: &R, alloc: Global) -> Result<Registry<M>, AllocError>
+        ensures { IfOk result (λ registry. registry ≡ state_of [] [] 0) }
+    {
+        Ok(Registry {
+            directory: Directory::new_keyed(rt, alloc)?,
+            making: Making { alloc, keeps: true },
+        })
+    }
+
+    /// No machine yet, as `unjournaled` answers. Names are hashed as by `new_keyed`. It takes no memory.
+    ///
+    /// Refused with `AllocError` where no key can be drawn.
+    ///
+    /// Ours: docs/DECISIONS.md, Machines without a journal, Directories.
+    pub fn unjournaled_keyed<R: RandomSource>(
+        rt: &R,
+        alloc: Global,
+    ) -> Result<Registry<M>, AllocError>
+        ensures { IfOk result (λ registry. registry ≡ state_of [] [] 0) }
+    {
+        Ok(Registry {
+            directory: Directory::new_keyed(rt, alloc)?,
+            making: Making {
+                alloc,
+                keeps: false,
+            },
+        })
     }
 
     /// Starts a machine as `Core::start` does, under a name if one is given, at a moment, in milliseconds, and keeps it
@@ -162,6 +200,17 @@ impl<M: Module> Registry<M> {
         }
     }
 
+    /// The id of the machine at a slot. `None`: no machine is there.
+    ///
+    /// Ours: docs/DECISIONS.md, Directories.
+    pub fn id_at(&self, slot: usize) -> Option<MachineId>
+        ensures there { IfSome result (λ id. (id.slot ≡ slot) × IsSome (found id self.now)) }
+
+        ensures vacant { IfNone result (All (StandsElsewhere slot) self.now.values) }
+    {
+        self.directory.id_at(slot)
+    }
+
     /// The names, each with the id of its machine, in order of registration.
     ///
     /// Ours: docs/DECISIONS.md, Directories.
@@ -211,8 +260,10 @@ impl<M: Module> Registry<M> {
     pub fn remove_stopped<R: Wait>(&mut self, rt: &R, id: MachineId) -> Result<(), Refusal>
         ensures removed { OnOk result (self.new ≡ removed id self.old) }
         ensures there { OnOk result (IsSome (found id self.old)) }
+        ensures stopped { OnOk result (IsFoundAt (callbacks_of M.Module M.State.eq) (λ cell. is_removable cell) id true) }
 
         ensures refusals { IfErr result (λ refusal. RefusesRemoval id self.old refusal) }
+        ensures running { result ≡ Err NotStopped → IsFoundAt (callbacks_of M.Module M.State.eq) (λ cell. is_removable cell) id false }
         ensures unchanged { OnErr result (self.new ≡ self.old) }
     {
         let machine = self.directory.get(id)?;
