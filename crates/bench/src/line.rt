@@ -22,6 +22,7 @@ use st_lock::Cell;
 use st_pool::Runtime;
 use st_runq::Lane;
 use std::alloc::Global;
+use std::random::RandomSource;
 use std::rt::Clock;
 use std::sync::Wait;
 
@@ -162,7 +163,7 @@ pub static LINES: [(&str, Line); 38] = [
 impl Line {
     /// Does the line so many times, and answers how many events were handled, replies collected, machines ended, tokens
     /// taken, rounds made that served one, or looks made.
-    pub fn done<R: Runtime + Clock>(
+    pub fn done<R: Runtime + Clock + RandomSource>(
         self,
         rt: R,
         alloc: Global,
@@ -188,7 +189,7 @@ impl Line {
     }
 
     /// Does a line of a service.
-    fn done_by_service<R: Runtime + Clock>(
+    fn done_by_service<R: Runtime + Clock + RandomSource>(
         self,
         rt: R,
         alloc: Global,

@@ -29,6 +29,7 @@ use st_core::Refusal;
 use st_pool::Runtime;
 use std::alloc::Global;
 use std::process::ExitCode;
+use std::random::RandomSource;
 use std::rt::Clock;
 use std::{env, io};
 
@@ -46,7 +47,7 @@ fn line_of(name: &str) -> Option<Line> {
 }
 
 /// Does one line, and writes down what it counts.
-fn measure<R: Runtime + Clock>(
+fn measure<R: Runtime + Clock + RandomSource>(
     rt: R,
     alloc: Global,
     name: &str,
@@ -61,7 +62,7 @@ fn measure<R: Runtime + Clock>(
 }
 
 /// Does the line of a name, or each of them, and answers what was written down; nothing where no line has that name.
-fn report<R: Runtime + Clock>(
+fn report<R: Runtime + Clock + RandomSource>(
     rt: R,
     alloc: Global,
     name: &str,

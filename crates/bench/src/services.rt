@@ -6,6 +6,7 @@ use st_core::Refusal;
 use st_pool::Runtime;
 use st_service::{Called, Journals, Nobody, Options, Service, ServicePort, Spawned};
 use std::alloc::Global;
+use std::random::RandomSource;
 use std::rt::Clock;
 
 /// A service of the machines that are measured.
@@ -15,7 +16,7 @@ type Services<R> = Service<Load, R, Nobody>;
 type Ports<R> = ServicePort<Load, R, Nobody>;
 
 /// A service of so many workers, whose machines keep so many entries, or no journal where that is none.
-fn service<R: Runtime + Clock>(
+fn service<R: Runtime + Clock + RandomSource>(
     rt: R,
     alloc: Global,
     workers: usize,
@@ -95,7 +96,7 @@ fn call_one<R: Runtime + Clock>(services: &Services<R>, count: u32) -> Result<u6
 }
 
 /// Casts so many times to a machine that one worker serves, and then calls it. Answers whether it replied.
-pub fn cast_to_service<R: Runtime + Clock>(
+pub fn cast_to_service<R: Runtime + Clock + RandomSource>(
     rt: R,
     alloc: Global,
     count: u32,
@@ -108,7 +109,7 @@ pub fn cast_to_service<R: Runtime + Clock>(
 }
 
 /// Calls so many times a machine that one worker serves, and answers how many replies came.
-pub fn call_to_service<R: Runtime + Clock>(
+pub fn call_to_service<R: Runtime + Clock + RandomSource>(
     rt: R,
     alloc: Global,
     count: u32,
@@ -169,7 +170,7 @@ fn insert_and_call<R: Runtime + Clock>(
 
 /// So many workers serve so many machines without a journal, each of which handles an event that inserts so many others, those, and then a call.
 /// It answers how many replies came.
-pub fn insert_in_service<R: Runtime + Clock>(
+pub fn insert_in_service<R: Runtime + Clock + RandomSource>(
     rt: R,
     alloc: Global,
     workers: usize,

@@ -8,6 +8,7 @@ use st_service::{
 };
 use std::alloc::{AllocError, Global};
 use std::collections::VecDeque;
+use std::random::RandomSource;
 use std::rt::Clock;
 
 /// So many connections are in the pool.
@@ -127,7 +128,7 @@ fn lend_all<R: Runtime + Clock>(rt: &R, pool: &Pool<R>, alloc: Global) -> Result
 }
 
 /// Opens the pool and lends its connections, and says how often one was lent, and how many were stopped.
-pub fn run<R: Runtime + Clock>(rt: R, alloc: Global) -> Result<String, AllocError> {
+pub fn run<R: Runtime + Clock + RandomSource>(rt: R, alloc: Global) -> Result<String, AllocError> {
     let pool = Service::start(rt, alloc, 4, OPTIONS, Nobody)?;
     let lent = lend_all(&rt, &pool, alloc);
     let stopped = stop(pool)?;

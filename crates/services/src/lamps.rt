@@ -5,6 +5,7 @@ use crate::shutting::stop;
 use lamp_module::{Bulb, Lamp, Press};
 use st_service::{Journals, Options, Runtime, Service, ServicePort, Spawned};
 use std::alloc::{AllocError, Global};
+use std::random::RandomSource;
 use std::rt::Clock;
 use std::sync::Arc;
 use std::sync::atomic::{AtomicU64, Ordering};
@@ -40,7 +41,7 @@ fn light<R: Runtime + Clock>(lamps: &Lamps<R>) {
 }
 
 /// Lights ten lamps, and says how many were lit and stopped.
-pub fn run<R: Runtime + Clock>(rt: R, alloc: Global) -> Result<String, AllocError> {
+pub fn run<R: Runtime + Clock + RandomSource>(rt: R, alloc: Global) -> Result<String, AllocError> {
     let lit = Arc::new(alloc, AtomicU64::new(0))?;
     let lamps = Service::start(rt, alloc, 4, OPTIONS, counts(&lit)?)?;
     light(&lamps);

@@ -9,10 +9,11 @@ mod shutting;
 use st_service::{Refusal, Runtime};
 use std::alloc::{AllocError, Global};
 use std::process::ExitCode;
+use std::random::RandomSource;
 use std::rt::Clock;
 
 /// Runs both, and answers what they say.
-fn run<R: Runtime + Clock>(rt: R, alloc: Global) -> Result<String, AllocError> {
+fn run<R: Runtime + Clock + RandomSource>(rt: R, alloc: Global) -> Result<String, AllocError> {
     let lamps = lamps::run(rt, alloc)?;
     let connections = connections::run(rt, alloc)?;
     format!(in alloc; "{lamps}{connections}")

@@ -1,10 +1,10 @@
 //! Requests are waited for, asked about and answered.
-ghost use Rattle.std.specs.Prelude.{◌≡◌, None, IfOk, IfErr, IfSome, OnErr};
+ghost use Rattle.std.specs.Prelude.{◌≡◌, length, None, IfOk, IfErr, IfSome, OnErr, MatchResult};
 ghost use Rattle.st_answers.specs.declared.command.Command.TheVariants as command;
 ghost use Rattle.st_core.specs.Callbacks.{callbacks_of};
 ghost use Rattle.st_scheduled.specs.Answered.{collected_as, replied_as};
 ghost use Rattle.st_lock.specs.Machines.{id_of, IsToldSomewhere};
-ghost use Rattle.st_client.specs.Called.{IsCall, IsReceived, request_in, token_in};
+ghost use Rattle.st_client.specs.Called.{IsAsked, IsCall, IsNotAsked, IsReceived, request_in, token_in};
 
 use crate::{Called, RequestId, Wake, send_request};
 use st_collection::Request;
@@ -26,6 +26,8 @@ pub fn call<M: Module, W: Wake, R: Wait>(
     wake: &W,
     content: M::Content,
 ) -> Result<Called<M>, Refused<M::Content>>
+    ensures does { MatchResult result (IsAsked (callbacks_of M.Module M.State.eq) port.old.machine (length port.old.posts) content)
+        (IsNotAsked (callbacks_of M.Module M.State.eq) port.old.machine (length port.old.posts) content) }
     ensures posted { IfOk result (λ called. IsCall content called port.old port.new) }
 
     ensures unchanged { OnErr result (port.new ≡ port.old) }

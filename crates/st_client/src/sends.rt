@@ -1,8 +1,9 @@
 //! Events are sent through a port, and the machine is scheduled.
-ghost use Rattle.std.specs.Prelude.{◌≡◌, IfOk, IfErr, OnErr};
+ghost use Rattle.std.specs.Prelude.{◌≡◌, length, IfOk, IfErr, OnErr, MatchResult};
+ghost use Rattle.st_core.specs.Callbacks.{callbacks_of};
 ghost use Rattle.st_answers.specs.declared.entry.Entry.TheVariants.{Call, Cast, Info};
 ghost use Rattle.st_lock.specs.Ports.{posted};
-ghost use Rattle.st_client.specs.Called.{NamesMachine};
+ghost use Rattle.st_client.specs.Called.{NamesMachine, IsSent, IsUnsent, IsNotAsked};
 
 use crate::{RequestId, Sent, Wake};
 use st_lock::{Entry, Module, Port, Refusal, Refused, Token};
@@ -17,6 +18,8 @@ fn send<M: Module, W: Wake, R: Wait>(
     entry: Entry,
     content: M::Content,
 ) -> Result<Sent, Refused<M::Content>>
+    ensures does { MatchResult result (λ sent. IsSent (callbacks_of M.Module M.State.eq) port.old.machine (length port.old.posts) entry content sent.number sent.left)
+        (IsUnsent (callbacks_of M.Module M.State.eq) port.old.machine (length port.old.posts) entry content) }
     ensures posted { IfOk result (λ sent. port.new ≡ posted (record { number = sent.number; entry = entry; content = content }) port.old) }
     ensures token { IfOk result (λ sent. NamesMachine port.old.machine sent.left) }
 
@@ -45,6 +48,8 @@ pub fn cast<M: Module, W: Wake, R: Wait>(
     wake: &W,
     content: M::Content,
 ) -> Result<Sent, Refused<M::Content>>
+    ensures does { MatchResult result (λ sent. IsSent (callbacks_of M.Module M.State.eq) port.old.machine (length port.old.posts) Cast content sent.number sent.left)
+        (IsUnsent (callbacks_of M.Module M.State.eq) port.old.machine (length port.old.posts) Cast content) }
     ensures posted { IfOk result (λ sent. port.new ≡ posted (record { number = sent.number; entry = Cast; content = content }) port.old) }
     ensures token { IfOk result (λ sent. NamesMachine port.old.machine sent.left) }
 
@@ -65,6 +70,8 @@ pub fn info<M: Module, W: Wake, R: Wait>(
     wake: &W,
     content: M::Content,
 ) -> Result<Sent, Refused<M::Content>>
+    ensures does { MatchResult result (λ sent. IsSent (callbacks_of M.Module M.State.eq) port.old.machine (length port.old.posts) Info content sent.number sent.left)
+        (IsUnsent (callbacks_of M.Module M.State.eq) port.old.machine (length port.old.posts) Info content) }
     ensures posted { IfOk result (λ sent. port.new ≡ posted (record { number = sent.number; entry = Info; content = content }) port.old) }
     ensures token { IfOk result (λ sent. NamesMachine port.old.machine sent.left) }
 
@@ -87,6 +94,8 @@ pub fn send_request<M: Module, W: Wake, R: Wait>(
     wake: &W,
     content: M::Content,
 ) -> Result<(RequestId<M>, Option<Token>), Refused<M::Content>>
+    ensures does { MatchResult result (λ sent. IsSent (callbacks_of M.Module M.State.eq) port.old.machine (length port.old.posts) Call content sent.0.request sent.1)
+        (IsNotAsked (callbacks_of M.Module M.State.eq) port.old.machine (length port.old.posts) content) }
     ensures posted { IfOk result (λ sent. port.new ≡ posted (record { number = sent.0.request; entry = Call; content = content }) port.old) }
     ensures id { IfOk result (λ sent. sent.0.machine ≡ port.old.machine) }
     ensures token { IfOk result (λ sent. NamesMachine port.old.machine sent.1) }

@@ -1,16 +1,17 @@
-//! Whether a service is shutting down.
+//! Whether a service is closing: shutting down, or dropped.
 use std::alloc::{AllocError, Global};
 use std::sync::Arc;
 use std::sync::atomic::{AtomicBool, Ordering};
 
-/// Whether a service is shutting down: each part of it has one. Whoever tries again for want of memory gives up then.
+/// Whether a service is closing, since it is shut down or was dropped: each part of it has one. Whoever tries again for want
+/// of memory gives up then.
 #[derive(Drop)]
 pub(crate) struct Closing {
     is_closing: Arc<AtomicBool, Global>,
 }
 
 impl Closing {
-    /// It is not shutting down.
+    /// It is not closing.
     pub(crate) fn new(alloc: Global) -> Result<Closing, AllocError> {
         let is_closing = Arc::new(alloc, AtomicBool::new(false))?;
         Ok(Closing { is_closing })
@@ -22,7 +23,7 @@ impl Closing {
         Ok(Closing { is_closing })
     }
 
-    /// It is shutting down from now on.
+    /// It is closing from now on.
     pub(crate) fn begin(&self) {
         self.is_closing.store(true, Ordering::SeqCst);
     }

@@ -7,12 +7,13 @@ use st_hall::{Hall, Module, Registry};
 use st_pool::{Pool, Runtime};
 use st_ticker::Ticker;
 use std::alloc::{AllocError, Global};
+use std::random::RandomSource;
 use std::rt::Clock;
 use std::sync::{Arc, Wait};
 use std::time::Instant;
 
 /// What a service stands on while it starts: its hall, the ticker of that, the hall as workers serve it, and whether the
-/// service is shutting down.
+/// service is closing.
 #[derive(Drop)]
 pub(crate) struct Ground<M: Module, R: Wait + Clock + Drop, O: Observer<M> + Drop> {
     pub(crate) hall: Arc<Hall<M, R>, Global>,
@@ -22,20 +23,27 @@ pub(crate) struct Ground<M: Module, R: Wait + Clock + Drop, O: Observer<M> + Dro
 }
 
 /// A registry without machines. Those that are started keep a journal, or none.
-fn registry<M: Module>(alloc: Global, keeps: bool) -> Registry<M> {
+fn registry<M: Module, R: RandomSource>(
+    rt: &R,
+    alloc: Global,
+    keeps: bool,
+) -> Result<Registry<M>, AllocError> {
     if keeps {
-        return Registry::new(alloc);
+        return Registry::new_keyed(rt, alloc);
     }
-    Registry::unjournaled(alloc)
+    Registry::unjournaled_keyed(rt, alloc)
 }
 
 /// A hall without machines. Those that are started keep a journal, or none.
-fn hall<M: Module, R: Wait + Drop>(
+fn hall<M: Module, R: Wait + RandomSource + Drop>(
     rt: R,
     alloc: Global,
     keeps: bool,
 ) -> Result<Arc<Hall<M, R>, Global>, AllocError> {
-    match Arc::new(alloc, Hall::new(rt, registry(alloc, keeps))) {
+    let Ok(registry) = registry(&rt, alloc, keeps) else {
+        return Err(AllocError);
+    };
+    match Arc::new(alloc, Hall::new(rt, registry)) {
         Ok(hall) => Ok(hall),
         Err(_) => Err(AllocError),
     }
@@ -70,7 +78,10 @@ impl<M: Module, R: Runtime + Clock, O: Observer<M> + Drop> Ground<M, R, O> {
         start: Instant,
         journals: Journals,
         observer: O,
-    ) -> Result<Ground<M, R, O>, AllocError> {
+    ) -> Result<Ground<M, R, O>, AllocError>
+    where
+        R: RandomSource,
+    {
         let keeps = journals.are_kept() || observer.observes();
         let Ok(closing) = Closing::new(alloc) else {
             return Err(AllocError);

@@ -60,20 +60,20 @@ impl<M: Module, R: Wait + Clock + Drop, O: Observer<M> + Drop> Link<M, R, O> {
         &self.is_closed
     }
 
-    /// No machine is started or served by a caller any more, and whoever tries again for want of memory gives up. It waits for
-    /// those who do either.
+    /// Nothing is posted from outside any more, no machine is started or served by a caller, and whoever tries again for want of
+    /// memory gives up. It waits for those who start a machine or make a turn. Who had begun to post may still do so.
     pub(crate) fn close(&self) {
         self.closing.begin();
         *self.is_closed.write(&self.rt) = true;
     }
 
-    /// Whether the service is shutting down.
+    /// Whether the service is shutting down, or was dropped.
     pub(crate) fn is_closing(&self) -> bool {
         self.closing.has_begun()
     }
 
     /// Schedules a machine by its token, if it was issued one. Where there is no memory, it is tried again until the service
-    /// is shutting down: then the token is answered, for no worker serves it any more.
+    /// closes: then the token is answered, for no worker serves it any more. It need not be kept, for the machine shows it.
     pub(crate) fn schedule(&self, token: Option<Token>) -> Option<Token>
         ensures returned { IfSome result (λ left. token ≡ Some left) }
     {
@@ -98,7 +98,7 @@ impl<M: Module, R: Wait + Clock + Drop, O: Observer<M> + Drop> Link<M, R, O> {
     }
 
     /// Makes a turn, and schedules the machine where work or a message is left, or where the turn was refused. Answers whether
-    /// the machine rests. `None`: the service was shut down, and no turn was made.
+    /// the machine rests. `None`: the service is closed, and no turn was made.
     fn turn(&self, machine: &Machine<M>, token: Token) -> Option<bool> {
         let is_closed = self.is_closed.read(&self.rt);
         if *is_closed {
@@ -109,18 +109,18 @@ impl<M: Module, R: Wait + Clock + Drop, O: Observer<M> + Drop> Link<M, R, O> {
             Ok(Next::Again(token)) => Some(token),
             Err(refused) => Some(refused.value),
         };
-        // Where it comes back, the service is shutting down, and there is no memory.
+        // Where it comes back, the service is closing: who closes it asks the machine for its token.
         let _ = self.schedule(left);
         Some(left.is_none())
     }
 
-    /// Something found no memory: waits a little. `true`: the service is shutting down, so it is not to be tried again.
+    /// Something found no memory: waits a little. `true`: the service is closing, so it is not to be tried again.
     pub(crate) fn gives_up(&self) -> bool {
         gives_up(&self.rt, &self.closing)
     }
 }
 
-/// Something found no memory: waits a little. `true`: the service is shutting down, so it is not to be tried again.
+/// Something found no memory: waits a little. `true`: the service is closing, so it is not to be tried again.
 pub(crate) fn gives_up<R: Wait + Clock>(rt: &R, closing: &Closing) -> bool {
     if closing.has_begun() {
         return true;

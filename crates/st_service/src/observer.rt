@@ -8,8 +8,11 @@ use st_lock::{Answer, JournalEntry, Report, Turned};
 /// Who is told each entry of each machine's journal, once: the report of each turn with the states before and after it, and
 /// what else the machine was told. This is how effects leave a machine.
 ///
-/// It is called by who served the machine, a worker or a caller, who has no lock then. So it may post, and it may wait; who
-/// served waits with it. Entries of one machine may come from two threads at once: the entries' numbers say their order.
+/// It is called by who served the machine, a worker or a caller, who has no lock then. So it may post, by `cast`, `info` and
+/// `send_request`. It never calls, nor waits for a reply: who is told is who serves, so the machine that is to reply may wait
+/// for the observer, and the service that shuts down too. Where it wants an answer, it hands the `RequestId` to another thread,
+/// through a channel, and that one receives the reply. Entries of one machine may come from two threads at once: the entries'
+/// numbers say their order.
 ///
 /// Ours: docs/DECISIONS.md, Services; manual: the introduction, on actions of a state machine.
 pub trait Observer<M: Module> {

@@ -1,5 +1,6 @@
 //! The hall of a service, as its workers serve it.
-ghost use Rattle.std.specs.Prelude.{◌≡◌, ◌⊎◌, if◌then◌else◌, Some, None, IsSome, IfSome};
+ghost use Rattle.std.specs.Prelude.{◌≡◌, ◌⊎◌, if◌then◌else◌, Some, None, IsSome, IfSome, IfErr};
+ghost use Rattle.st_events.specs.declared.refusal.Refusal.TheVariants.{NoMemory};
 ghost use Rattle.st_hall.specs.Outstanding.{is_outstanding};
 
 use crate::closing::Closing;
@@ -76,8 +77,8 @@ impl<M: Module, R: Wait + Clock + Drop, O: Observer<M> + Drop> ServedHall<M, R, 
         machine.cut_beyond(&self.rt, limit)
     }
 
-    /// The observer is told what a machine did. Where there is no memory, it is tried again until the service is shutting down,
-    /// which tells what is left.
+    /// The observer is told what a machine did. Where there is no memory, it is tried again until the service is closing:
+    /// `shut_down` tells what is left.
     fn tell_until_done(&self, id: MachineId, rests: bool) {
         for _ in self.rt.forever() {
             if self.tell(id, rests).is_ok() || gives_up(&self.rt, &self.closing) {
@@ -99,7 +100,9 @@ impl<M: Module, R: Wait + Clock + Drop, O: Observer<M> + Drop> ServedHall<M, R, 
     }
 
     /// The observer is told what stands in a machine's journal. Where there is no memory, it stays there, and nothing is told.
-    pub(crate) fn tell_all(&self, machine: &Machine<M>) -> Result<(), Refusal> {
+    pub(crate) fn tell_all(&self, machine: &Machine<M>) -> Result<(), Refusal>
+        ensures refusals { IfErr result (λ refusal. refusal ≡ NoMemory) }
+    {
         let journal = machine.take_journal(&self.rt, "")?;
         self.tell_of(&journal);
         Ok(())

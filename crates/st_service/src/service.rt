@@ -1,15 +1,17 @@
 //! Machines that are served.
-ghost use Rattle.std.specs.Prelude.{◌≡◌, ◌⊎◌, ◌≤◌, ℕ, Result, Err, IfOk, IfErr, option_copied};
+ghost use Rattle.std.specs.Prelude.{◌≡◌, ◌⊎◌, ◌==◌, ◌≤◌, ℕ, true, Result, Err, IfOk, IfErr, OnOk, option_copied};
 ghost use Rattle.std.specs.Arc.{arc_value};
-ghost use Rattle.st_events.specs.declared.refusal.Refusal.TheVariants.{NoMemory, NoSuchName, NoSuchMachine};
+ghost use Rattle.st_events.specs.declared.refusal.Refusal.TheVariants.{NoMemory, NoSuchName, NoSuchMachine, NotStopped};
 ghost use Rattle.st_directory.specs.Entries.{names_of_entries};
-ghost use Rattle.st_lock.specs.Machines.{id_of};
+ghost use Rattle.st_cell.specs.Calls.{is_removable};
+ghost use Rattle.st_lock.specs.Machines.{id_of, IsFoundAt};
 ghost use Rattle.st_lock.specs.Ports.{port_at_first};
 ghost use Rattle.st_events.specs.declared.refused.Refused.{Refused};
 ghost use Rattle.st_core.specs.Callbacks.{callbacks_of};
 ghost use Rattle.st_core.specs.Start.{start_of};
 ghost use Rattle.st_registry.specs.declared.started.Started.{Started};
-ghost use Rattle.st_hall.specs.Hall.{StartsSomewhere, IsNamedSomewhere, AreNamesSomewhere};
+ghost use Rattle.st_hall.specs.Hall.{StartsSomewhere, IsNamedSomewhere, AreNamesSomewhere, IsThereSomewhere, IsCountedSomewhere};
+ghost use Rattle.st_pool.specs.Pool.{threads_of};
 ghost use Rattle.st_service.specs.Spawning.{module_in, AnswersStart};
 ghost use Rattle.st_service.specs.declared.unspawned.Unspawned.TheVariants.{Closed};
 
@@ -19,10 +21,11 @@ use crate::served_hall::ServedHall;
 use crate::shutting::Shutting;
 use crate::{Observer, Options, ServicePort, Spawned, Unspawned};
 use st_events::Token;
-use st_hall::{Hall, Machine, MachineId, Module, Refusal, Refused, Started};
+use st_hall::{Hall, Machine, MachineId, Module, Reason, Refusal, Refused, Started};
 use st_pool::Runtime;
 use st_ticker::{TickedPool, Ticker};
 use std::alloc::{AllocError, Global};
+use std::random::RandomSource;
 use std::rt::Clock;
 use std::sync::Arc;
 use std::time::Instant;
@@ -30,13 +33,13 @@ use std::time::Instant;
 /// Machines of one module, workers in threads of their own that serve them, and a ticker in one more that makes their
 /// time-outs come. Any number of threads may share it.
 ///
-/// One that is let go ends its threads, each after the turn that it is in. What waits at its machines is let go with them.
-/// `shut_down` ends it in order.
+/// One that is dropped takes no posts any more, stops each machine with the reason `Service::DROPPED`, and ends its threads,
+/// each after the turn that it is in. What waits at its machines is dropped with them, and who waits for a reply hears that the
+/// machine stopped. `shut_down` ends it in order.
 ///
 /// Moments are the milliseconds since its start.
 ///
 /// Manual: the introduction; ours: docs/DECISIONS.md, Services.
-#[derive(Drop)]
 pub struct Service<M: Module, R: Runtime + Clock, O: Observer<M> + Drop> {
     pub(crate) rt: R,
     pub(crate) alloc: Global,
@@ -49,7 +52,25 @@ pub struct Service<M: Module, R: Runtime + Clock, O: Observer<M> + Drop> {
     pub(crate) shutting: Shutting<M::Content>,
 }
 
-impl<M: Module + Send + Sync + 'static, R: Runtime + Clock, O> Service<M, R, O>
+impl<M: Module, R: Runtime + Clock, O: Observer<M> + Drop> Drop for Service<M, R, O> {
+    fn drop(self) {
+        self.link.close();
+        self.hall.stop_each(Service::<M, R, O>::DROPPED);
+        let Service {
+            rt: _,
+            alloc: _,
+            options: _,
+            pool: _,
+            link: _,
+            ticker: _,
+            served: _,
+            hall: _,
+            shutting: _,
+        } = self;
+    }
+}
+
+impl<M: Module + Send + Sync + 'static, R: Runtime + Clock + RandomSource, O> Service<M, R, O>
 where
     O: Observer<M> + Drop + Send + Sync + 'static,
     M::State: Send + Sync + 'static,
@@ -59,7 +80,8 @@ where
 {
     /// Starts a service without machines: 1 to 16 workers and a ticker.
     ///
-    /// Refused with `AllocError` where there is no memory, no thread or no clock; then no thread is left running.
+    /// Refused with `AllocError` where there is no memory, no thread, no clock or no random key for its names; then no thread is
+    /// left running.
     ///
     /// Ours: docs/DECISIONS.md, Services.
     pub fn start(
@@ -70,6 +92,7 @@ where
         observer: O,
     ) -> Result<Service<M, R, O>, AllocError>
         requires { (1 ≤ workers) × (workers ≤ 16) }
+        ensures threads { IfOk result (λ service. threads_of service.pool.pool ≡ workers) }
     {
         let Ok(start) = Instant::now(&rt) else {
             return Err(AllocError);
@@ -105,12 +128,17 @@ where
 }
 
 impl<M: Module, R: Runtime + Clock, O: Observer<M> + Drop> Service<M, R, O> {
+    /// The reason with which each machine stops whose service is dropped.
+    ///
+    /// Ours: docs/DECISIONS.md, Services.
+    pub const DROPPED: Reason = 0;
+
     /// Starts a machine, under a name if one is given, and opens a port on it. Workers serve it from now on, and its time-outs
     /// come. The module's `init` and first enter call run in the caller's thread.
     ///
     /// Refused with `Closed` where the service is shutting down, and as `Hall::start` is. Then nothing has changed, and the
     /// module comes back. Where there is no memory to schedule or to watch the machine, that is tried again until the service
-    /// is shutting down; no contract says that this ends.
+    /// is closing; no contract says that this ends.
     ///
     /// Manual: `start/3`, `start/4`, `start_ret()`; ours: docs/DECISIONS.md, Services.
     pub fn spawn(
@@ -147,14 +175,14 @@ impl<M: Module, R: Runtime + Clock, O: Observer<M> + Drop> Service<M, R, O> {
     }
 
     /// A machine that was started is watched, and scheduled where it has work. Where there is no memory, it is tried again
-    /// until the service is shutting down.
+    /// until the service is closing.
     fn begin(&self, id: MachineId, wake: Option<Token>) {
         for _ in self.rt.forever() {
             if self.ticker.watch(id).is_ok() || self.link.gives_up() {
                 break;
             }
         }
-        // Where it comes back, the service is shutting down, and no worker would serve it.
+        // Where it comes back, the service is closing: who closes it asks the machine for its token.
         let _ = self.link.schedule(wake);
     }
 
@@ -199,14 +227,18 @@ impl<M: Module, R: Runtime + Clock, O: Observer<M> + Drop> Service<M, R, O> {
     /// How many machines there are.
     ///
     /// Ours: docs/DECISIONS.md, Services.
-    pub fn len(&self) -> usize {
+    pub fn len(&self) -> usize
+        ensures { IsCountedSomewhere M M.State M.Data M.Content M.Arg result }
+    {
         self.hall.len()
     }
 
     /// Says whether there is no machine.
     ///
     /// Ours: docs/DECISIONS.md, Services.
-    pub fn is_empty(&self) -> bool {
+    pub fn is_empty(&self) -> bool
+        ensures { (count : ℕ) × IsCountedSomewhere M M.State M.Data M.Content M.Arg count × (result ≡ (count == 0)) }
+    {
         self.hall.is_empty()
     }
 
@@ -232,7 +264,12 @@ impl<M: Module, R: Runtime + Clock, O: Observer<M> + Drop> Service<M, R, O> {
     /// of it was not delivered, and with `NoMemory`; then it is not removed.
     ///
     /// Ours: docs/DECISIONS.md, Services.
-    pub fn remove_stopped(&self, id: MachineId) -> Result<(), Refusal> {
+    pub fn remove_stopped(&self, id: MachineId) -> Result<(), Refusal>
+        ensures there { OnOk result (IsThereSomewhere M M.State M.Data M.Content M.Arg id) }
+        ensures stopped { OnOk result (IsFoundAt (callbacks_of M.Module M.State.eq) (λ cell. is_removable cell) id true) }
+
+        ensures refusals { IfErr result (λ refusal. (refusal ≡ NoSuchMachine) ⊎ (refusal ≡ NotStopped) ⊎ (refusal ≡ NoMemory)) }
+    {
         let machine = self.hall.machine(id)?;
         if self.served.is_observed() && machine.removable(&self.rt) {
             self.served.tell_all(&*machine)?;

@@ -1,10 +1,10 @@
 //! A port of a service's machine.
-ghost use Rattle.std.specs.Prelude.{◌≡◌, ℕ, length, IfOk, IfErr, OnErr};
+ghost use Rattle.std.specs.Prelude.{◌≡◌, ℕ, length, Ok, IfOk, IfErr, OnErr, MatchResult};
 ghost use Rattle.st_core.specs.Callbacks.{callbacks_of};
 ghost use Rattle.st_answers.specs.declared.entry.Entry.TheVariants.{Call, Cast, Info};
-ghost use Rattle.st_lock.specs.Bounded.{content_in, PostsWithin};
+ghost use Rattle.st_lock.specs.Bounded.{content_in};
 ghost use Rattle.st_client.specs.Called.{IsCall};
-ghost use Rattle.st_service.specs.Ports.{with_post, SendsWithin};
+ghost use Rattle.st_service.specs.Ports.{with_post, IsAsked, IsNotAsked, PostsUnlessClosed, SendsWithin};
 
 use crate::Observer;
 use crate::link::Link;
@@ -19,7 +19,7 @@ use std::sync::{Arc, Wait};
 /// A port of a service's machine, through which one caller posts. The machine is scheduled by each post that needs it. A
 /// contract sees the events that were posted through it, in order, and how many events may wait at the machine.
 ///
-/// It may outlive the service: then what it posts stands, and nobody serves the machine.
+/// It may outlive the service: then it posts nothing more.
 ///
 /// Ours: docs/DECISIONS.md, Services, Ports.
 #[derive(Drop)]
@@ -67,14 +67,17 @@ impl<M: Module, R: Wait + Clock + Drop, O: Observer<M> + Drop> ServicePort<M, R,
         self.port.count()
     }
 
-    /// Posts an event. The token that the machine was issued by it, if it was, comes back.
+    /// Posts an event, unless the service is closing. The token that the machine was issued by it, if it was, comes back.
     fn post(&mut self, entry: Entry, content: M::Content) -> Result<Posted, Unposted<M::Content>>
-        ensures does { PostsWithin (callbacks_of M.Module M.State.eq) self.old.port.machine (length self.old.port.posts) self.old.limit entry content result }
+        ensures does { PostsUnlessClosed (callbacks_of M.Module M.State.eq) self.old.port.machine (length self.old.port.posts) self.old.limit entry content result }
         ensures posted { IfOk result (λ posted. self.new ≡ with_post (record { number = posted.number; entry = entry; content = content }) self.old) }
 
         ensures unchanged { OnErr result (self.new ≡ self.old) }
         ensures returned { IfErr result (λ unposted. content_in unposted ≡ content) }
     {
+        if self.link.is_closing() {
+            return Err(Unposted::Closed(content));
+        }
         self.port
             .post_within(self.link.rt(), self.limit, entry, content)
     }
@@ -89,7 +92,7 @@ impl<M: Module, R: Wait + Clock + Drop, O: Observer<M> + Drop> ServicePort<M, R,
     {
         match self.post(entry, content) {
             Ok(posted) => {
-                // Where it comes back, the service is shutting down, and no worker would serve it.
+                // Where it comes back, the service is closing: who closes it asks the machine for its token.
                 let _ = self.link.schedule(posted.wake);
                 Ok(posted.number)
             }
@@ -99,9 +102,9 @@ impl<M: Module, R: Wait + Clock + Drop, O: Observer<M> + Drop> ServicePort<M, R,
 
     /// Casts: posts an event that wants no reply, and schedules the machine. Answers the event's number.
     ///
-    /// Refused with `Busy` where as many events wait at the machine as may, and as `Port::post` is refused. Then nothing was
-    /// posted, and the content comes back. Where the machine could not be scheduled for want of memory, that is tried again
-    /// until the service is shutting down; no contract says that this ends.
+    /// Refused with `Closed` once the service is shutting down or was dropped, with `Busy` where as many events wait at the
+    /// machine as may, and as `Port::post` is refused. Then nothing was posted, and the content comes back. Where the machine
+    /// could not be scheduled for want of memory, that is tried again until the service closes; no contract says that this ends.
     ///
     /// Manual: `cast/2`.
     pub fn cast(&mut self, content: M::Content) -> Result<u64, Unposted<M::Content>>
@@ -138,6 +141,8 @@ impl<M: Module, R: Wait + Clock + Drop, O: Observer<M> + Drop> ServicePort<M, R,
         &mut self,
         content: M::Content,
     ) -> Result<RequestId<M>, Unposted<M::Content>>
+        ensures does { MatchResult result (λ id. SendsWithin (callbacks_of M.Module M.State.eq) self.old.port.machine (length self.old.port.posts) self.old.limit Call content (Ok id.request))
+            (IsNotAsked (callbacks_of M.Module M.State.eq) self.old.port.machine (length self.old.port.posts) self.old.limit content) }
         ensures posted { IfOk result (λ id. self.new ≡ with_post (record { number = id.request; entry = Call; content = content }) self.old) }
         ensures id { IfOk result (λ id. id.machine ≡ self.old.port.machine) }
 
@@ -160,10 +165,12 @@ impl<M: Module, R: Wait + Clock + Drop, O: Observer<M> + Drop> ServicePort<M, R,
     ///
     /// Refused as `cast` is. A refusal later than that is answered as `Called::Uncollected`.
     ///
-    /// It waits for good where the service was shut down, or let go, before. No contract says that it ends.
+    /// One that waits while the service is shut down or dropped hears that the machine stopped. No contract says that it ends.
     ///
     /// Manual: `call/2`.
     pub fn call(&mut self, content: M::Content) -> Result<Called<M>, Unposted<M::Content>>
+        ensures does { MatchResult result (IsAsked (callbacks_of M.Module M.State.eq) self.old.port.machine (length self.old.port.posts) self.old.limit content)
+            (IsNotAsked (callbacks_of M.Module M.State.eq) self.old.port.machine (length self.old.port.posts) self.old.limit content) }
         ensures posted { IfOk result (λ called. IsCall content called self.old.port self.new.port) }
         ensures limit { self.new.limit ≡ self.old.limit }
 

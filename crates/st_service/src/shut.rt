@@ -3,29 +3,22 @@ ghost use Rattle.std.specs.Prelude.{◌≡◌};
 ghost use Rattle.st_ticker.specs.Ended.{HasEnded};
 
 use crate::{Observer, Service, ShutDown};
-use st_events::Token;
-use st_hall::{Hand, Machine, Module, Reason, Refusal, Served};
+use st_directory::MOST;
+use st_hall::{Machine, Module, Reason, Refusal, Served};
 use st_pool::{Message, Runtime};
-use std::alloc::AllocError;
+use std::alloc::{AllocError, Global};
 use std::mem;
 use std::rt::Clock;
-
-/// What is told of a machine that was not found: it is gone, or it cannot be had now.
-fn found<T: Drop>(outcome: Result<T, Refusal>) -> Result<Option<T>, AllocError> {
-    match outcome {
-        Ok(value) => Ok(Some(value)),
-        Err(Refusal::NoMemory) => Err(AllocError),
-        Err(_) => Ok(None),
-    }
-}
+use std::sync::Arc;
 
 impl<M: Module, R: Runtime + Clock, O: Observer<M> + Drop> Service<M, R, O>
 where
     M::Content: Send + 'static,
 {
-    /// Shuts the service down: no machine is started or served by a caller any more, the workers and the ticker end, each after the turn that it is
-    /// in, what waits is handled in the caller's thread, up to the turns that the options allow, and then each machine that has
-    /// not ended is stopped for a reason. The observer is told all of it. A post to a machine that has ended is refused.
+    /// Shuts the service down. From its beginning nothing is posted from outside, and no machine is started or served by a
+    /// caller. The workers and the ticker end, each after the turn that it is in. What waits is handled in the caller's thread,
+    /// messages from machine to machine with it, up to the turns that the options allow. Then each machine that has not ended is
+    /// stopped for a reason, and what waits there still is counted. The observer is told all of it.
     ///
     /// Where there is no memory, the threads have ended, what is left stays, and the call may be made again.
     ///
@@ -44,22 +37,27 @@ where
         }
     }
 
-    /// What is left is handled, handed out and stopped.
+    /// What is left is handled, stopped and handed out.
     fn finish(&mut self, reason: Reason) -> Result<(), AllocError>
         ensures same { self.new.pool ≡ self.old.pool }
     {
         self.serve_rest()?;
-        self.hand_out_all()?;
+        self.shutting.hand_out_carried()?;
         self.stop_each(reason)
     }
 
-    /// What waits is handled, up to so many turns.
+    /// What waits is handled, up to so many turns. Nobody else has a token: once those that are known are served, the machines
+    /// are asked for theirs, until none has one.
     fn serve_rest(&mut self) -> Result<(), AllocError>
         ensures same { self.new.pool ≡ self.old.pool }
     {
+        let rt = self.rt;
         let now = self.ticker.now();
-        for _ in self.shutting.made..self.options.turns {
-            if !self.serve_next(now)? {
+        for _ in rt.forever() {
+            if self.shutting.made >= self.options.turns {
+                break;
+            }
+            if !self.serve_next(now)? && !self.gather()? {
                 break;
             }
         }
@@ -84,47 +82,75 @@ where
         Ok(true)
     }
 
-    /// The messages of the machines that were not served to the end are handed out.
-    fn hand_out_all(&mut self) -> Result<(), AllocError>
+    /// The machine at a slot, if one is there.
+    fn at(&self, slot: usize) -> Result<Option<Arc<Machine<M>, Global>>, AllocError> {
+        match self.hall.machine_at(slot) {
+            Ok(machine) => Ok(machine),
+            Err(_) => Err(AllocError),
+        }
+    }
+
+    /// Each machine that has a token is to be served by it. `false`: none has one.
+    fn gather(&mut self) -> Result<bool, AllocError>
         ensures same { self.new.pool ≡ self.old.pool }
     {
-        let rt = self.rt;
-        for _ in rt.forever() {
-            if !self.hand_out()? {
-                break;
+        let mut is_any = false;
+        for slot in 0..MOST {
+            let Some(machine) = self.at(slot)? else {
+                continue;
+            };
+            if let Some(token) = machine.token(&self.rt) {
+                self.shutting.add(token)?;
+                is_any = true;
+            }
+        }
+        Ok(is_any)
+    }
+
+    /// Each machine that has not ended is stopped, and its messages are handed out.
+    fn stop_each(&mut self, reason: Reason) -> Result<(), AllocError>
+        ensures same { self.new.pool ≡ self.old.pool }
+    {
+        self.shutting.found.unstopped = 0;
+        for slot in 0..MOST {
+            if let Some(machine) = self.at(slot)? {
+                self.stop_one(&*machine, reason)?;
             }
         }
         Ok(())
     }
 
-    /// The next message is handed out, or the next token leaves. `false`: there is none.
-    fn hand_out(&mut self) -> Result<bool, AllocError>
+    /// A machine is stopped where it has not ended, its messages are handed out, and the observer is told.
+    fn stop_one(&mut self, machine: &Machine<M>, reason: Reason) -> Result<(), AllocError>
         ensures same { self.new.pool ≡ self.old.pool }
     {
-        self.shutting.reserve()?;
-        self.shutting.found.messages.reserve(1)?;
-        let (token, Hand { message, .. }) = self.shutting.next();
-        let Some(token) = token else {
-            return Ok(false);
-        };
-        if let Some(message) = message {
-            self.shutting.keep(token, Some(message));
-            return Ok(true);
+        let stopped = machine.stop_and_count(&self.rt, reason);
+        self.shutting.count(stopped);
+        self.hand_out(machine)?;
+        if self.served.is_observed() && self.served.tell_all(machine).is_err() {
+            return Err(AllocError);
         }
-        match self.taken(token) {
-            Ok(None) => {}
-            Ok(message) => self.shutting.keep(token, message),
-            Err(none) => {
-                self.shutting.keep(token, None);
-                return Err(none);
-            }
-        }
-        Ok(true)
+        Ok(())
     }
 
-    /// The first message of a token's machine, which is taken out; `None` where it has none, or is not there any more.
-    fn taken(&self, token: Token) -> Result<Option<Message<M::Content>>, AllocError> {
-        let Some(machine) = found(self.hall.machine(token.machine))? else {
+    /// The messages of a machine are handed out.
+    fn hand_out(&mut self, machine: &Machine<M>) -> Result<(), AllocError>
+        ensures same { self.new.pool ≡ self.old.pool }
+    {
+        let rt = self.rt;
+        for _ in rt.forever() {
+            self.shutting.reserve_message()?;
+            match self.taken(machine)? {
+                Some(message) => self.shutting.hand_out(message),
+                None => break,
+            }
+        }
+        Ok(())
+    }
+
+    /// The first message of a machine, which is taken out; `None` where it has none.
+    fn taken(&self, machine: &Machine<M>) -> Result<Option<Message<M::Content>>, AllocError> {
+        let Some(token) = machine.token(&self.rt) else {
             return Ok(None);
         };
         match machine.take_out(&self.rt, token) {
@@ -132,32 +158,6 @@ where
             Err(refused) if refused.refusal == Refusal::NoMemory => Err(AllocError),
             Err(_) => Ok(None),
         }
-    }
-
-    /// Each machine that has not ended is stopped.
-    fn stop_each(&mut self, reason: Reason) -> Result<(), AllocError>
-        ensures same { self.new.pool ≡ self.old.pool }
-    {
-        self.shutting.found.unstopped = 0;
-        for id in self.hall.ids(self.alloc)? {
-            if let Some(machine) = found(self.hall.machine(id))? {
-                self.stop_one(&*machine, reason)?;
-            }
-        }
-        Ok(())
-    }
-
-    /// A machine is stopped where it has not ended, and the observer is told.
-    fn stop_one(&mut self, machine: &Machine<M>, reason: Reason) -> Result<(), AllocError>
-        ensures same { self.new.pool ≡ self.old.pool }
-    {
-        let waiting = machine.waiting(&self.rt) as u64;
-        let stopped = machine.stop(&self.rt, reason);
-        self.shutting.count(stopped, waiting);
-        if self.served.is_observed() {
-            found(self.served.tell_all(machine))?;
-        }
-        Ok(())
     }
 
     /// What was found, which is told once.

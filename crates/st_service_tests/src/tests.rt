@@ -10,6 +10,7 @@ mod chime;
 mod chimed;
 mod clerk;
 mod clocks;
+mod closing;
 mod courier;
 mod couriers;
 mod desk;

@@ -4,28 +4,31 @@ ghost use Rattle.std.specs.Prelude.{◌≡◌};
 use st_pool::{Gate, Hand, Machines, Token};
 use std::sync::atomic::{AtomicU64, Ordering};
 
-/// Notes the moment of the last turn, and the worker that was named before it and behind it. Each machine rests after its
-/// turn.
+/// Notes how many turns were made, the moment of the last one, and the worker that was named before it and behind it. Each
+/// machine rests after its turn.
 #[derive(Drop)]
 pub struct Noted {
+    turns: AtomicU64,
     moment: AtomicU64,
     before: AtomicU64,
     after: AtomicU64,
 }
 
 impl Noted {
-    /// Nothing was told yet: all is 99.
+    /// No turn was made, and nothing was told yet: all else is 99.
     pub fn new() -> Noted {
         Noted {
+            turns: AtomicU64::new(0),
             moment: AtomicU64::new(99),
             before: AtomicU64::new(99),
             after: AtomicU64::new(99),
         }
     }
 
-    /// The moment of the last turn, and the workers that were named before it and behind it.
-    pub fn told(&self) -> (u64, u64, u64) {
+    /// How many turns were made, the moment of the last one, and the workers that were named before it and behind it.
+    pub fn told(&self) -> (u64, u64, u64, u64) {
         (
+            self.turns.load(Ordering::SeqCst),
             self.moment.load(Ordering::SeqCst),
             self.before.load(Ordering::SeqCst),
             self.after.load(Ordering::SeqCst),
@@ -58,6 +61,7 @@ impl Machines for Noted {
 
     fn turn(&self, _token: Token, now: u64, hand: &mut Hand<u64>) -> Option<Token> {
         hand.message = None;
+        self.turns.fetch_add(1, Ordering::SeqCst);
         self.moment.store(now, Ordering::SeqCst);
         None
     }

@@ -137,7 +137,7 @@ fn a_round_serves_a_token_of_another_worker(rt: HostRuntime) {
 }
 
 #[test]
-fn a_turn_has_the_gates_moment_and_its_workers_number(rt: HostRuntime) {
+fn a_round_makes_one_turn_with_the_gates_moment_and_its_workers_number(rt: HostRuntime) {
     let wait = rt;
     let rt = Host::with_memory(rt);
     let noted = Noted::new();
@@ -150,7 +150,12 @@ fn a_turn_has_the_gates_moment_and_its_workers_number(rt: HostRuntime) {
         "it serves it",
         goes_round(&rt, &wait, &mut worker, &noted, &noted),
     );
-    same(&rt, "moment and worker", &noted.told(), &(7, 1, 1));
+    same(
+        &rt,
+        "one turn, moment and worker",
+        &noted.told(),
+        &(1, 7, 1, 1),
+    );
     drop(worker);
     rt.end_with_memory();
 }

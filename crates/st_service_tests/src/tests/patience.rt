@@ -2,6 +2,7 @@
 use super::host::{got, holds};
 use st_service::Runtime;
 use std::process::Abort;
+use std::random::RandomSource;
 use std::rt::Clock;
 use std::thread;
 use std::time::{Duration, Instant};
@@ -10,9 +11,9 @@ use std::time::{Duration, Instant};
 const PATIENCE: u64 = 40;
 
 /// What the threads of these tests carry.
-pub trait Threads: Runtime + Clock {}
+pub trait Threads: Runtime + Clock + RandomSource {}
 
-impl<R: Runtime + Clock> Threads for R {}
+impl<R: Runtime + Clock + RandomSource> Threads for R {}
 
 /// The moment, by the system's clock.
 pub fn now(rt: &impl Abort, clock: &impl Clock) -> Instant {

@@ -15,6 +15,8 @@ pub enum Said {
     Nothing,
     /// As many events wait at him as may, and the order comes back.
     Busy(Order),
+    /// His house takes no orders any more, and the order comes back.
+    Closed(Order),
     /// He refuses, and the order comes back.
     Refused(Refusal, Order),
 }
@@ -24,6 +26,7 @@ impl Said {
     pub fn unposted(unposted: Unposted<Order>) -> Said {
         match unposted {
             Unposted::Busy(order) => Said::Busy(order),
+            Unposted::Closed(order) => Said::Closed(order),
             Unposted::Refused(Refused { refusal, value }) => Said::Refused(refusal, value),
         }
     }

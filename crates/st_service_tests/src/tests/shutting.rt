@@ -11,9 +11,9 @@ use super::row::Row::{HasEnded, Says, Tells};
 use super::said::Said;
 use super::way::Way;
 use crate::Order;
-use st_service::{Options, Refusal};
+use st_service::Options;
 
-/// A thousand clerks who have something to do are shut down: each has ended, and refuses what he is told. A service that was
+/// A thousand clerks who have something to do are shut down: each has ended, and his house takes no orders. A service that was
 /// shut down starts nobody, and has nobody to stop.
 #[test]
 fn a_thousand_are_shut_down_while_they_work(rt: HostRuntime) {
@@ -31,11 +31,7 @@ fn a_thousand_are_shut_down_while_they_work(rt: HostRuntime) {
         ),
         Plays(Each(&[
             HasEnded(7, 0),
-            Says(
-                Way::Cast,
-                Order::Spin,
-                Said::Refused(Refusal::Stopped(7), Order::Spin),
-            ),
+            Says(Way::Cast, Order::Spin, Said::Closed(Order::Spin)),
         ])),
         Hires(None, NOBODY, Hiring::Closed),
         ShutsDown(

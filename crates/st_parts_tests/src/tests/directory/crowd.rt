@@ -58,14 +58,12 @@ pub fn names_of_one_hash(rt: &Host<impl Abort>, directory: &mut Directory<u32>, 
     }
 }
 
-/// Whether the hash of a name, by the number that a directory begins with, has the kind 7: the 8 bits that a table keeps
-/// beside its place.
+/// Whether the hash of a name, by the known key, has the kind 7: the 8 bits that a table keeps beside its place.
 fn has_the_kind(name: &[u8]) -> bool {
     let Ok(name) = str::from_utf8(name) else {
         return false;
     };
     let mut hasher = DefaultHasher::new();
-    hasher.write_u64(0);
     name.hash(&mut hasher);
     let hash = hasher.finish();
     (hash >> 24 ^ hash >> 56) % 256 == 7

@@ -15,7 +15,7 @@ invariant_of-self g c =
 pub returns-then-not-removable-clause-running : goal.returns-then-not-removable-clause-running
 returns-then-not-removable-clause-running g c refused =
     let own = id_at (λ (machine : Shared _ _ _ _ _). id_of (arc_value machine)) c.args.id c.in_ok-machine.machine.now c.self.inside.directory.state.values c.self.invariant
-              c.in_ok-machine.ensures.found in
+    c.in_ok-machine.ensures.found in
     let asked = c.removable.ensures in
     (asked.0, record { own = asked.1.own ∙ (ap id_of c.deref.ensures ∙ own); journaled = asked.1.journaled }, sym c.if-not-removable.true ∙ asked.2)
 
@@ -23,6 +23,6 @@ returns-then-not-removable-clause-running g c refused =
 pub returns-clause-stopped : goal.returns-clause-stopped
 returns-clause-stopped g c =
     let own = id_at (λ (machine : Shared _ _ _ _ _). id_of (arc_value machine)) c.args.id c.in_ok-machine.machine.now c.self.inside.directory.state.values c.self.invariant
-              c.in_ok-machine.ensures.found in
+    c.in_ok-machine.ensures.found in
     let asked = c.removable.ensures in
     on_ok c.match-remove.result (asked.0, record { own = asked.1.own ∙ (ap id_of c.deref.ensures ∙ own); journaled = asked.1.journaled }, sym c.if-not-removable.false ∙ asked.2)

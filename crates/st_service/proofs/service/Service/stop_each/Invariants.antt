@@ -2,5 +2,5 @@ use Rattle.std.proofs.Common.{◌≡◌}
 use Rattle.st_service.proofs.service.Service.stop_each.Given as goal
 
 -- the threads are as they were
-abbrev pub invariant-loop-id : goal.invariant-loop-id
-invariant-loop-id g l = (goal.iterator-loop-id g).can_next l.id-iterator × (goal.iterator-loop-id g).is_finite l.id-iterator × (l.self.pool ≡ l.initial.self.pool)
+abbrev pub invariant-loop-slot : goal.invariant-loop-slot
+invariant-loop-slot g l = l.self.pool ≡ l.initial.self.pool

@@ -1,5 +1,5 @@
 use Rattle.std.proofs.Common.{◌≡◌}
-use Rattle.st_service.proofs.service.Service.hand_out_all.Given as goal
+use Rattle.st_service.proofs.service.Service.hand_out.Given as goal
 
 -- the threads are as they were
 abbrev pub invariant-loop : goal.invariant-loop

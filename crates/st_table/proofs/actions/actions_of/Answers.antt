@@ -1,0 +1,11 @@
+use Rattle.std.proofs.Common.{arith}
+use Rattle.st_table.specs.Lent.{hears}
+use Rattle.st_table.specs.Rules.{action_of}
+use Rattle.st_table.proofs.AskLemmas.{one_more}
+use Rattle.st_table.proofs.actions.actions_of.Goals as goal
+
+-- one ask more
+pub loop-ask-preserved : goal.loop-ask-preserved
+loop-ask-preserved c =
+    one_more (action_of (hears c.args.at) c.args.before.now c.args.registers.now) c.args.asks.now c.loop-ask.ask-index c.ask-item.result c.loop-ask.actions c.in_ok-actions.actions c.in_ok-asked.asked
+    (omega arith) c.ask-item.is c.loop-ask.invariant c.in_ok-asked.ensures c.in_ok-actions.ensures

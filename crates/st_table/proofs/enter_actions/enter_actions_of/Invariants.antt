@@ -1,0 +1,8 @@
+use Rattle.std.proofs.Common.{◌≡◌, take}
+use Rattle.st_table.specs.Lent.{hears}
+use Rattle.st_table.specs.Rules.{enter_actions_of}
+use Rattle.st_table.proofs.enter_actions.enter_actions_of.Given as goal
+
+-- what the asks so far ask for
+abbrev pub invariant-loop-ask : goal.invariant-loop-ask
+invariant-loop-ask l = l.actions ≡ enter_actions_of (hears l.at) l.before l.registers (take l.ask-index l.asks)

@@ -1,0 +1,44 @@
+-- When a rule hides another.
+use Rattle.std.specs.Prelude.{◌≡◌, ℕ, Bool, true, false, List, [], ◌∷◌, ◌++◌, Option, None, Some, ◌==◌, ◌&&◌}
+use Rattle.std.specs.List.{find}
+use Rattle.st_table.specs.declared.on.On.{On}
+use Rattle.st_table.specs.declared.on.On.TheVariants as on
+use Rattle.st_table.specs.declared.rule.Rule.{Rule}
+use Rattle.st_table.specs.declared.test.Test.{Test}
+
+-- whether each event of the later kind is of the earlier
+abbrev pub covers_kind : On → On → Bool
+covers_kind on.Any later = true
+covers_kind on.Call on.Call = true
+covers_kind on.Cast on.Cast = true
+covers_kind on.Info on.Info = true
+covers_kind on.Internal on.Internal = true
+covers_kind on.AnyTimeout on.AnyTimeout = true
+covers_kind on.AnyTimeout on.EventTimeout = true
+covers_kind on.AnyTimeout on.StateTimeout = true
+covers_kind on.AnyTimeout (on.NamedTimeout later) = true
+covers_kind on.EventTimeout on.EventTimeout = true
+covers_kind on.StateTimeout on.StateTimeout = true
+covers_kind (on.NamedTimeout earlier) (on.NamedTimeout later) = earlier == later
+covers_kind earlier later = false
+
+-- whether each symbol that the later rule wants is one that the earlier wants
+abbrev pub covers_symbol : Option ℕ → Option ℕ → Bool
+covers_symbol None later = true
+covers_symbol (Some earlier) (Some later) = earlier == later
+covers_symbol (Some earlier) None = false
+
+-- whether there is no guard
+abbrev pub has_no_guard : List Test → Bool
+has_no_guard [] = true
+has_no_guard (test ∷ tests) = false
+
+-- the earlier has no guard, and wants each event that the later wants
+abbrev pub covers : Rule → Rule → Bool
+covers earlier later = covers_kind earlier.on later.on && covers_symbol earlier.symbol later.symbol && has_no_guard earlier.guard
+
+-- a rule is never taken where an earlier one stands before it: the first rule that passes is the same without it, whatever
+-- rules stand before, between and behind
+abbrev pub IsNeverTaken : (Rule → Bool) → Rule → Rule → Type 0
+IsNeverTaken passes earlier later =
+    (front between back : List Rule) → find passes (front ++ earlier ∷ (between ++ later ∷ back)) ≡ find passes (front ++ earlier ∷ (between ++ back))
