@@ -1,5 +1,5 @@
 -- How the lines that are done and those that are left make up a script.
-use Rattle.std.proofs.Common.{◌≡◌, ℕ, ◌<◌, ◌+◌, Bool, ◌||◌, List, ◌∷◌, ◌++◌, length, get_or, drop, map, Option, Bor, refl, sym, ap, ◌∙◌, append_assoc, add-one, drop-cons}
+use Rattle.std.proofs.Common.{◌≡◌, ℕ, ◌<◌, ◌+◌, Bool, ◌||◌, List, ◌∷◌, ◌++◌, length, get_or, drop, map, Bor, refl, append_assoc, add-one, drop-cons}
 use Rattle.std.proofs.Math.Bool.{or_assoc}
 use Rattle.st_door.specs.declared.effect.Effect.{Effect}
 use Rattle.st_door.specs.Grammar.{line_of}

@@ -1,10 +1,11 @@
 //! The hall of a script's doors, as its workers serve it.
 ghost use Rattle.std.specs.Prelude.{◌≡◌, IfSome};
 
+use crate::Runtime;
 use st_door::{Door, DoorContent};
 use st_hall::{Hall, Hand, Refusal, Registry, Token};
-use st_pool::{Machines, Runtime};
-use std::alloc::Global;
+use st_pool::Machines;
+use std::alloc::{AllocError, Global};
 use std::sync::atomic::{AtomicBool, Ordering};
 
 /// The hall of a script's doors. Where a turn of theirs or a delivery finds no memory, the script is to end: that is noted,
@@ -16,12 +17,13 @@ pub(crate) struct DoorHall<R: Runtime> {
 }
 
 impl<R: Runtime> DoorHall<R> {
-    /// No door yet. It takes no memory.
-    pub(crate) fn new(rt: R, alloc: Global) -> DoorHall<R> {
-        DoorHall {
-            hall: Hall::new(rt, Registry::new(alloc)),
+    /// No door yet. It takes no memory. Refused where no random key can be drawn for the names.
+    pub(crate) fn new(rt: R, alloc: Global) -> Result<DoorHall<R>, AllocError> {
+        let registry = Registry::new_keyed(&rt, alloc)?;
+        Ok(DoorHall {
+            hall: Hall::new(rt, registry),
             out_of_memory: AtomicBool::new(false),
-        }
+        })
     }
 
     /// Whether any turn or delivery found no memory.

@@ -8,7 +8,8 @@ mod pooled_door;
 mod pooled_doors;
 mod pooled_script;
 mod run;
+mod runtime;
 
 pub use run::run_pool;
+pub use runtime::Runtime;
 pub use st_door::{ScriptFault, Sink, Source};
-pub use st_pool::Runtime;

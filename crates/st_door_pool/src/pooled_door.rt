@@ -13,7 +13,7 @@ use std::alloc::{AllocError, Global};
 use std::sync::{Arc, Wait};
 
 /// How many entries the journal of a door may have, however few events wait at the door.
-const JOURNAL_LIMIT: u64 = 4;
+const JOURNAL_LIMIT: u64 = 3;
 
 /// Over how many entries one walks in the time in which one event that waits is copied, about.
 const COPY_COST: u64 = 16;
@@ -107,7 +107,8 @@ impl PooledDoor {
         }
     }
 
-    /// Tells the door a moment, in milliseconds, and answers how many time-outs expire: none where that is refused.
+    /// Tells the door a moment, in milliseconds, and answers how many time-outs expire: none where that is refused. The tick
+    /// is an entry, and so is the turn of each.
     pub(crate) fn tick<R: Wait, W: Wake>(
         &mut self,
         rt: &R,
@@ -117,6 +118,7 @@ impl PooledDoor {
         match self.port.machine().tick(rt, moment) {
             Ok(ticked) => {
                 self.count(1);
+                self.count(ticked.expired);
                 if schedule(rt, wake, ticked.wake).is_some() {
                     return Err(AllocError);
                 }
@@ -137,6 +139,15 @@ impl PooledDoor {
             Ok(_word) => Ok(None),
             Err(refusal) => Ok(Some(unless_memory(refusal)?)),
         }
+    }
+
+    /// The moment at which the door's next time-out is due, while nobody serves it. Of one that has ended none comes.
+    pub(crate) fn next_due<R: Wait>(&self, rt: &R) -> Option<u64> {
+        let machine = self.port.machine();
+        if machine.ended(rt).is_some() {
+            return None;
+        }
+        machine.next_due(rt)
     }
 
     /// The status of the door, while nobody serves it.

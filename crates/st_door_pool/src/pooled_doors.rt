@@ -2,13 +2,21 @@
 
 use crate::pooled_door::PooledDoor;
 use st_client::{MachineId, Wake};
+use st_due::DueQueue;
 use std::alloc::{AllocError, Global};
 use std::sync::Wait;
 
-/// The doors that workers serve, each at the slot of its id, which no two doors have at once.
+/// How many doors are ticked before the workers rest, so that no more journals than these are long at once.
+const PART: usize = 1_024;
+
+/// The doors that workers serve, each at the slot of its id, which no two doors have at once. Those of which a time-out is to
+/// come are noted at the moment at which it is due, so that a tick goes to no other.
 #[derive(Drop)]
 pub(crate) struct PooledDoors {
     places: Vec<Option<PooledDoor>>,
+    due: DueQueue,
+    /// Those that were ticked and are to be noted anew, once the workers rest.
+    ticked: Vec<MachineId>,
 }
 
 impl PooledDoors {
@@ -16,6 +24,8 @@ impl PooledDoors {
     pub(crate) fn new(alloc: Global) -> PooledDoors {
         PooledDoors {
             places: Vec::new(alloc),
+            due: DueQueue::new(alloc),
+            ticked: Vec::new(alloc),
         }
     }
 
@@ -40,39 +50,75 @@ impl PooledDoors {
         if id.slot < self.places.len() {
             self.places[id.slot] = None;
         }
+        self.due.forget(id);
     }
 
-    /// Ticks each door at a moment, and answers how many time-outs expire.
+    /// Ticks doors of which something is due by a moment, but no more than a part of them, and answers how many time-outs expire.
+    /// Each is to be settled, once the workers rest. It answers nothing where no door is due.
     pub(crate) fn tick<R: Wait, W: Wake>(
         &mut self,
         rt: &R,
         wake: &W,
         now: u64,
-    ) -> Result<u128, AllocError> {
+    ) -> Result<Option<u128>, AllocError> {
         let mut expired = 0u128;
-        for place in self.places.iter_mut() {
-            if let Some(door) = place {
-                let count = door.tick(rt, wake, now)?;
-                expired = expired.saturating_add(u128::from(count));
-            }
+        for _ in 0..PART {
+            let Some(first) = self.due.take(now) else {
+                break;
+            };
+            self.ticked.push(first.machine)?;
+            let count = self.tick_one(rt, wake, first.machine, now)?;
+            expired = expired.saturating_add(u128::from(count));
         }
-        Ok(expired)
+        if self.ticked.is_empty() {
+            return Ok(None);
+        }
+        Ok(Some(expired))
     }
 
-    /// Cuts the journal of the door of an id where it is long, while the workers rest.
-    pub(crate) fn shorten_one<R: Wait>(&mut self, rt: &R, id: MachineId) -> Result<(), AllocError> {
+    /// Ticks the door of an id, and answers how many time-outs expire.
+    fn tick_one<R: Wait, W: Wake>(
+        &mut self,
+        rt: &R,
+        wake: &W,
+        id: MachineId,
+        now: u64,
+    ) -> Result<u64, AllocError> {
         match self.get_mut(id) {
-            Some(door) => door.shorten(rt),
-            None => Ok(()),
+            Some(door) => door.tick(rt, wake, now),
+            None => Ok(0),
         }
     }
 
-    /// Cuts the journal of each door where it is long, while the workers rest.
-    pub(crate) fn shorten<R: Wait>(&mut self, rt: &R) -> Result<(), AllocError> {
-        for place in self.places.iter_mut() {
-            if let Some(door) = place {
-                door.shorten(rt)?;
+    /// Settles the doors that were ticked at a moment, while the workers rest. None of them is due at it again.
+    pub(crate) fn settle<R: Wait>(&mut self, rt: &R, now: u64) -> Result<(), AllocError> {
+        for _ in 0..self.ticked.len() {
+            let Some(id) = self.ticked.pop() else {
+                break;
+            };
+            self.settle_one(rt, id, now.saturating_add(1))?;
+        }
+        Ok(())
+    }
+
+    /// Settles the door of an id, which may have had a turn, while the workers rest: its journal is cut where it is long, and it
+    /// is noted when its next time-out is due, no earlier than at `least`.
+    pub(crate) fn settle_one<R: Wait>(
+        &mut self,
+        rt: &R,
+        id: MachineId,
+        least: u64,
+    ) -> Result<(), AllocError> {
+        let Some(door) = self.get_mut(id) else {
+            return Ok(());
+        };
+        door.shorten(rt)?;
+        match door.next_due(rt) {
+            Some(moment) => {
+                self.due.reserve(1)?;
+                self.due.note(id, moment.max(least));
             }
+            None => self.due.forget(id),
         }
         Ok(())
     }

@@ -1,6 +1,7 @@
 //! A script whose doors are served by workers, between two of its lines.
 ghost use Rattle.std.specs.Prelude.{◌≡◌, ◌≤◌, ◌<◌, ◌^◌};
 
+use crate::Runtime;
 use crate::clock::Clock;
 use crate::door_hall::DoorHall;
 use crate::pooled_door::{PooledDoor, told_length, unless_memory};
@@ -8,7 +9,7 @@ use crate::pooled_doors::PooledDoors;
 use st_core::MOMENT_LIMIT;
 use st_door::{Digits, Door, DoorContent, Effect, Line, PlainText, code_length, expired, removed};
 use st_hall::{MachineId, Reason, Refusal, Started, Token};
-use st_pool::{Gate, Machines, Pool, Runtime, Scheduler};
+use st_pool::{Gate, Machines, Pool, Scheduler};
 use st_wake::schedule;
 use std::alloc::{AllocError, Global};
 use std::sync::Arc;
@@ -45,7 +46,7 @@ impl<R: Runtime> PooledScript<R> {
     pub(crate) fn start(rt: R, alloc: Global, workers: usize) -> Result<PooledScript<R>, AllocError>
         requires { (1 ≤ workers) × (workers ≤ 16) }
     {
-        let served = Arc::new(alloc, DoorHall::new(rt, alloc))?;
+        let served = Arc::new(alloc, DoorHall::new(rt, alloc)?)?;
         let clock = Arc::new(alloc, Clock::new())?;
         let pool = started(rt, alloc, workers, &served, &clock)?;
         let scheduler = pool.scheduler()?;
@@ -139,6 +140,13 @@ impl<R: Runtime> PooledScript<R> {
         Ok(Effect::Printed(PlainText::from(text)))
     }
 
+    /// Answers the status of a door that may have had a turn, once the workers rest, and settles it.
+    fn show_settled(&mut self, name: &str, id: MachineId) -> Result<Effect, AllocError> {
+        let effect = self.show(name, id)?;
+        self.doors.settle_one(&self.rt, id, 0)?;
+        Ok(effect)
+    }
+
     /// Presses a button of the door of a name, and answers its status.
     fn obey_button(&mut self, name: &str, digit: u8) -> Result<Effect, AllocError> {
         let Some(id) = self.find(name) else {
@@ -150,7 +158,7 @@ impl<R: Runtime> PooledScript<R> {
         if let Some(refusal) = door.press(&self.rt, &self.scheduler, digit)? {
             return Ok(Effect::Refuses(refusal));
         }
-        self.show(name, id)
+        self.show_settled(name, id)
     }
 
     /// Has the door of a name send a button to that of another, and answers the status of the other.
@@ -167,8 +175,8 @@ impl<R: Runtime> PooledScript<R> {
         if let Some(refusal) = door.relay(&self.rt, &self.scheduler, aim, digit)? {
             return Ok(Effect::Refuses(refusal));
         }
-        let effect = self.show(target, aim)?;
-        self.doors.shorten_one(&self.rt, id)?;
+        let effect = self.show_settled(target, aim)?;
+        self.doors.settle_one(&self.rt, id, 0)?;
         Ok(effect)
     }
 
@@ -183,7 +191,7 @@ impl<R: Runtime> PooledScript<R> {
         if let Some(refusal) = door.stop(&self.rt, reason)? {
             return Ok(Effect::Refuses(refusal));
         }
-        self.show(name, id)
+        self.show_settled(name, id)
     }
 
     /// Answers the status of the door of a name.
@@ -195,18 +203,31 @@ impl<R: Runtime> PooledScript<R> {
     }
 
     /// Lets time pass up to a moment, and answers how many time-outs expire. A moment before the script's counts as the
-    /// script's.
+    /// script's. It goes to the doors of which something is due: the others see it at their next turn.
     fn obey_at(&mut self, moment: u64) -> Result<Effect, AllocError> {
         if moment >= MOMENT_LIMIT {
             return Ok(Effect::Refuses(Refusal::Moment));
         }
         let now = self.clock.now().max(moment);
         self.clock.set(now);
-        let count = self.doors.tick(&self.rt, &self.scheduler, now)?;
-        self.rest()?;
-        self.doors.shorten(&self.rt)?;
+        let count = self.tick(now)?;
         let text = expired(self.alloc, now, count)?;
         Ok(Effect::Printed(PlainText::from(text)))
+    }
+
+    /// Ticks the doors of which something is due by a moment, part by part, and answers how many time-outs expire. No door's
+    /// time-out concerns another door, so it is as if all were ticked first.
+    fn tick(&mut self, now: u64) -> Result<u128, AllocError> {
+        let mut count = 0u128;
+        for _ in 0..u64::MAX {
+            let Some(expired) = self.doors.tick(&self.rt, &self.scheduler, now)? else {
+                break;
+            };
+            count = count.saturating_add(expired);
+            self.rest()?;
+            self.doors.settle(&self.rt, now)?;
+        }
+        Ok(count)
     }
 
     /// Takes out the door of a name, which has ended and has no message left.
@@ -236,7 +257,7 @@ impl<R: Runtime> PooledScript<R> {
         };
         self.rest()?;
         let digits = told_length(&self.rt, &request)?;
-        self.doors.shorten_one(&self.rt, id)?;
+        self.doors.settle_one(&self.rt, id, 0)?;
         let text = code_length(self.alloc, name, digits)?;
         Ok(Effect::Printed(PlainText::from(text)))
     }

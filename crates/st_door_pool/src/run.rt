@@ -4,12 +4,12 @@ ghost use Rattle.std.specs.Io.KnownBytes.{IsAtEnd, Keeps};
 ghost use Rattle.st_doors.specs.ScriptFault.{IsOfInput, read_failures_after, write_failures_after};
 ghost use Rattle.st_doors.specs.Streams.{ConsumesMoreThan};
 
+use crate::Runtime;
 use crate::pooled_script::PooledScript;
 use st_door::{
     INPUT_LIMIT, ScriptFault, Sink, Source, is_fault, printed, read_input, read_line, split_lines,
     without_return, write_output,
 };
-use st_pool::Runtime;
 use std::alloc::Global;
 
 /// Starts the workers, does the lines of an input and writes what they print, line by line.

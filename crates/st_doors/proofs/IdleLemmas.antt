@@ -1,7 +1,7 @@
 -- Doors go on until they rest.
-use Rattle.std.proofs.Common.{◌≡◌, ℕ, zero, suc, ◌<◌, Bool, true, false, List, [], ◌∷◌, length, get_or, set, map, Option, Some, None, refl, ap, sym, ◌∙◌, arith, inl, inr}
+use Rattle.std.proofs.Common.{◌≡◌, ℕ, zero, suc, ◌<◌, ◌≤◌, Bool, true, false, List, [], ◌∷◌, length, get_or, set, map, Option, Some, None, refl, ap, sym, ◌∙◌, arith, inl, inr}
 use Rattle.std.specs.List.{find, list_any}
-use Rattle.std.proofs.lemmas.Bool.{cases_Bool}
+use Rattle.std.proofs.lemmas.Bool.{cases_Bool, cases_lt}
 use Rattle.st_answers.specs.declared.command.Command.{Command}
 use Rattle.st_core.specs.Choice.{has_event_of, has_message_of, is_ready_of}
 use Rattle.st_core.specs.Start.{first_state}
@@ -14,7 +14,7 @@ use Rattle.st_doors.specs.declared.door_content.DoorContent.{DoorContent}
 use Rattle.st_doors.specs.declared.door_state.DoorState.TheVariants.{Locked}
 use Rattle.st_doors.specs.declared.service.Service.{Service}
 use Rattle.st_doors.specs.declared.service.Service.TheVariants.{Turn, TakeOut, Deliver}
-use Rattle.st_doors.specs.Doors.{DoorMachine, NamedDoor, KeptDoor, IsFirst, change_first, door_named, door_told_by, is_ready_door, kept_of, kept_told_by, SameLabels}
+use Rattle.st_doors.specs.Doors.{DoorMachine, NamedDoor, KeptDoor, IsFirst, RestsOutside, change_first, door_named, door_told_by, is_ready_door, kept_of, kept_told_by, SameLabels}
 use Rattle.st_doors.specs.Settling.{command_for, delivered, gone_on, gone_on_by, has_id, message_at, run_until_idle, served_door, source_for}
 use Rattle.st_doors.proofs.DoorLemmas.{IsFirst-changed, IsFirst-found}
 use Rattle.st_doors.proofs.ToldLemmas.{id-told}
@@ -160,3 +160,9 @@ run-rested (suc steps) moment doors none = rw (none, run_until_idle) refl
 pub run-none : (moment : ℕ) (doors : List NamedDoor) → run_until_idle 0 moment doors ≡ doors
 unfolding run_until_idle
 run-none moment doors = refl
+
+-- all rest, where none may be ready
+pub rests-all : (doors : List NamedDoor) (from until : ℕ) → until ≤ from → RestsOutside from until doors → list_any is_ready_door doors ≡ false
+rests-all doors from until none rests =
+    list_any-none is_ready_door doors no_door
+    (λ k less. rests k no_door less (elim (cases_lt k from) [ inl before ↦ inl before | inr after ↦ inr (omega (arith, none, after)) ]))

@@ -2,7 +2,7 @@
 use Rattle.std.proofs.Common.{◌≡◌, ℕ, zero, suc, ◌+◌, ◌^◌, ◌<◌, ◌≤◌, nat_lt, Bool, true, false, ◌&&◌, List, [], ◌∷◌, ◌++◌, length, get_or, set, map, Option, Some, None, is_none, is_some, IfSome, IfNone, Ok, Err, refl, ap, sym, ◌∙◌, arith, inl, inr}
 use Rattle.std.specs.Global.{Box}
 use Rattle.std.specs.List.{find, flat_map}
-use Rattle.std.proofs.lemmas.Bool.{cases_Bool, cases_lt}
+use Rattle.std.proofs.lemmas.Bool.{cases_Bool}
 use Rattle.std.proofs.lemmas.List.{length-set}
 use Rattle.std.proofs.lemmas.List.Sums.{sum_by-cons}
 use Rattle.st_core.specs.Choice.{has_message_of, is_ready_of, next_due_of}
@@ -22,7 +22,7 @@ use Rattle.st_journal.specs.declared.source.Source.TheVariants as source
 use Rattle.st_doors.specs.declared.door_content.DoorContent.{DoorContent}
 use Rattle.st_doors.specs.Doors.{DoorAnswer, DoorMachine, History, IsFirst, IsKept, KeptDoor, NamedDoor, SameLabels, all_expired_of, count_in, door_callbacks, door_named, door_of, door_told_by, expired_of, has_name, history_told, is_over, is_ready_door, kept_of, kept_told_by, names_of, slots_of, ticked_doors, told_door, told_kept, without_door}
 use Rattle.st_doors.specs.Entries.{DoorCellState, door_in, machine_in, past_in}
-use Rattle.st_doors.specs.Late.{AreInTime, IsInTime, IsQuietAt, IsQuietUntil, caught_by, caught_kept, caught_up, is_late, later, later_by}
+use Rattle.st_doors.specs.Late.{IsInTime, IsQuietAt, IsQuietUntil, caught_by, caught_kept, caught_up, is_late, later, later_by}
 use Rattle.st_doors.specs.Lines.{space}
 use Rattle.st_doors.specs.Settling.{has_id}
 use Rattle.st_doors.specs.Printing.{names_text, status_of}
@@ -116,22 +116,8 @@ in_time-caught late due door bounded it = record {
 pub in_time-quiet : (late due : ℕ) (door : KeptDoor) → caught_kept late door ≡ door → IsQuietUntil due door → IsInTime late due door
 in_time-quiet late due door same until = record { caught = inl same; quiet = λ moment low less. until moment less }
 
-pub quiet-lower : (low due : ℕ) (door : KeptDoor) → low ≤ due → IsQuietUntil due door → IsQuietUntil low door
-quiet-lower low due door order until = λ moment less. until moment (omega (arith, order, less))
-
--- with less to come
-pub in_time-lower : (late low due : ℕ) (door : KeptDoor) → low ≤ due → IsInTime late due door → IsInTime late low door
-in_time-lower late low due door order it = record { caught = it.caught; quiet = λ moment from less. it.quiet moment from (omega (arith, order, less)) }
-
--- and at a later moment
-pub in_time-later : (late moment due : ℕ) (door : KeptDoor) → late ≤ moment → moment < due → IsInTime late due door → IsInTime moment due door
-in_time-later late moment due door order less it = record {
-  caught = inr (it.quiet moment order less).told;
-  quiet = λ other from below. it.quiet other (omega (arith, order, from)) below;
-}
-
 -- ---- before what moment nothing is due
-quiet-said : (machine : DoorMachine) (moment : ℕ) (said : DoorAnswer) → step_of door_callbacks machine (command.Tick moment) ≡ (said, later moment machine) → count_in said ≡ 0
+pub quiet-said : (machine : DoorMachine) (moment : ℕ) (said : DoorAnswer) → step_of door_callbacks machine (command.Tick moment) ≡ (said, later moment machine) → count_in said ≡ 0
     → IsQuietAt moment (record { machine = machine; history = None })
 quiet-said machine moment said is zero_said = record {
   told = ap (λ (told : DoorAnswer × DoorMachine). record { machine = told.1; history = history_told source.Caller (command.Tick moment) told.0 None }) is;
@@ -278,76 +264,6 @@ at-caught_at late place [] d e less = absurd (omega arith)
 at-caught_at late zero (door ∷ doors) d e less = refl
 at-caught_at late (suc place) (door ∷ doors) d e less = at-caught_at late place doors d e (omega arith)
 
--- ---- the doors in time
-pub in_time-at : (late due place : ℕ) (doors : List NamedDoor) (d : NamedDoor) → place < length doors → AreInTime late due doors → IsInTime late due (kept_of (get_or doors place d))
-in_time-at late due place [] d less are = absurd (omega arith)
-in_time-at late due zero (door ∷ doors) d less are = are.0
-in_time-at late due (suc place) (door ∷ doors) d less are = in_time-at late due place doors d (omega arith) are.1
-
-pub are-lower : (late low due : ℕ) (doors : List NamedDoor) → low ≤ due → AreInTime late due doors → AreInTime late low doors
-are-lower late low due [] order are = tt
-are-lower late low due (door ∷ doors) order are = (in_time-lower late low due (kept_of door) order are.0, are-lower late low due doors order are.1)
-
-pub are-caught : (late due place : ℕ) (doors : List NamedDoor) → due ≤ 2 ^ 63 → AreInTime late due doors → AreInTime late due (caught_at late place doors)
-are-caught late due place [] bounded are = tt
-are-caught late due zero (door ∷ doors) bounded are = (in_time-caught late due (kept_of door) bounded are.0, are.1)
-are-caught late due (suc place) (door ∷ doors) bounded are = (are.0, are-caught late due place doors bounded are.1)
-
-pub are-told : (late low due place : ℕ) (source : Source) (command : Command DoorContent) (doors : List NamedDoor) → place < length doors → low ≤ due → AreInTime late due doors
-    → IsQuietUntil low (kept_of (get_or (told_at source command place (caught_at late place doors)) place no_door))
-    → AreInTime late low (told_at source command place (caught_at late place doors))
-are-told late low due place source command [] less order are until = absurd (omega arith)
-are-told late low due zero source command (door ∷ doors) less order are until = (
-  in_time-quiet late low (kept_told_by source command (caught_kept late (kept_of door)))
-      (told-caught late (caught_kept late (kept_of door)) source command (caught-twice late late (kept_of door) (omega arith))) until,
-  are-lower late low due doors order are.1,
-)
-are-told late low due (suc place) source command (door ∷ doors) less order are until =
-    (in_time-lower late low due (kept_of door) order are.0, are-told late low due place source command doors (omega arith) order are.1 until)
-
-pub are-pushed : (late low due : ℕ) (doors : List NamedDoor) (door : NamedDoor) → low ≤ due → AreInTime late due doors → IsInTime late low (kept_of door) → AreInTime late low (doors ++ door ∷ [])
-are-pushed late low due [] door order are it = (it, tt)
-are-pushed late low due (one ∷ doors) door order are it = (in_time-lower late low due (kept_of one) order are.0, are-pushed late low due doors door order are.1 it)
-
-pub are-without : (late due : ℕ) (name : List ℕ) (doors : List NamedDoor) → AreInTime late due doors → AreInTime late due (without_door name doors)
-are-without late due name [] are = tt
-are-without late due name (door ∷ doors) are = elim (cases_Bool (has_name name door)) [
-  | inl same ↦ rw same are.1
-  | inr other ↦ rw other (are.0, are-without late due name doors are.1)
-]
-
-pub are-later : (late moment due : ℕ) (doors : List NamedDoor) → late ≤ moment → moment < due → AreInTime late due doors → AreInTime moment due doors
-are-later late moment due [] order less are = tt
-are-later late moment due (door ∷ doors) order less are = (in_time-later late moment due (kept_of door) order less are.0, are-later late moment due doors order less are.1)
-
-pub are-until : (late low due : ℕ) (doors : List NamedDoor) → AreInTime late due doors
-    → ((place : ℕ) (d : NamedDoor) → place < length doors → IsQuietUntil low (kept_of (get_or doors place d))) → AreInTime late low doors
-are-until late low due [] are until = tt
-are-until late low due (door ∷ doors) are until = (
-  record { caught = are.0.caught; quiet = λ moment from less. until zero door (omega arith) moment less },
-  are-until late low due doors are.1 (λ place d less. until (suc place) d (omega arith)),
-)
-
--- ---- a tick at which nothing is due
-pub tick-seen : (late moment due : ℕ) (doors : List NamedDoor) → late ≤ moment → moment < due → due ≤ 2 ^ 63 → AreInTime late due doors
-    → map (caught_up moment) doors ≡ ticked_doors moment (map (caught_up late) doors)
-tick-seen late moment due [] order less bounded are = refl
-tick-seen late moment due (door ∷ doors) order less bounded are =
-    let below : moment < 2 ^ 63 = omega (arith, less, bounded) in
-    let here : told_kept (command.Tick moment) (caught_kept late (kept_of door)) ≡ caught_kept moment (kept_of door) =
-    tick-caught late moment (kept_of door) order below ∙ (are.0.quiet moment order less).told in
-    ap (λ (kept : KeptDoor). door_named door.name kept ∷ map (caught_up moment) doors) (sym here)
-    ∙ ap (λ t. told_door (command.Tick moment) (caught_up late door) ∷ t) (tick-seen late moment due doors order less bounded are.1)
-
-pub none-seen : (late moment due : ℕ) (doors : List NamedDoor) → late ≤ moment → moment < due → due ≤ 2 ^ 63 → AreInTime late due doors
-    → 0 ≡ all_expired_of moment (map (caught_up late) doors)
-none-seen late moment due [] order less bounded are = refl
-none-seen late moment due (door ∷ doors) order less bounded are =
-    let below : moment < 2 ^ 63 = omega (arith, less, bounded) in
-    let here : expired_of moment (caught_up late door) ≡ 0 = count-caught late moment (kept_of door) order below ∙ (are.0.quiet moment order less).none in
-    let rest : 0 ≡ all_expired_of moment (map (caught_up late) doors) = none-seen late moment due doors order less bounded are.1 in
-    sym (sum_by-cons (expired_of moment) (caught_up late door) (map (caught_up late) doors) ∙ rw (here, ← rest) refl)
-
 -- ---- doors of which no time-out expires
 ready-none : (machine : DoorMachine) (moment : ℕ) → count_in (step_of door_callbacks machine (command.Tick moment)).0 ≡ 0
     → is_ready_of (step_of door_callbacks machine (command.Tick moment)).1 ≡ is_ready_of machine
@@ -448,12 +364,9 @@ pushed-seen late [] name door early = ap (λ (kept : KeptDoor). door_named name 
 pushed-seen late (one ∷ doors) name door early = ap (λ t. caught_up late one ∷ t) (pushed-seen late doors name door early)
 
 -- ---- doors, one of which was told a command once a tick was made up for
-module _ (late due place : ℕ) (one two : List NamedDoor) (caught : two ≡ caught_at late place one) where
+module _ (late place : ℕ) (one two : List NamedDoor) (caught : two ≡ caught_at late place one) where
   pub caught-seen : map (caught_up late) two ≡ map (caught_up late) one
   caught-seen = rw caught (caught-set late place one)
-
-  pub caught-in_time : due ≤ 2 ^ 63 → AreInTime late due one → AreInTime late due two
-  caught-in_time bounded are = rw caught (are-caught late due place one bounded are)
 
   module _ (seen : List NamedDoor) (view : map (caught_up late) one ≡ seen) (less : place < length seen) where
     pub caught-within : place < length two
@@ -477,14 +390,6 @@ module _ (late due place : ℕ) (one two : List NamedDoor) (caught : two ≡ cau
     pub told-within : (source : Source) (command : Command DoorContent) (three : List NamedDoor) → three ≡ told_at source command place two → place < length three
     told-within source command three told = rw (told, length-set) caught-within
 
-    pub told-in_time : (source : Source) (command : Command DoorContent) (three : List NamedDoor) (low until : ℕ) → three ≡ told_at source command place two → low ≤ due → low ≤ until
-        → AreInTime late due one → IsQuietUntil until (kept_of (get_or three place no_door)) → AreInTime late low three
-    told-in_time source command three low until told first second are quiet =
-        let is : three ≡ told_at source command place (caught_at late place one) = told ∙ ap (λ (all : List NamedDoor). told_at source command place all) caught in
-        let here : IsQuietUntil until (kept_of (get_or (told_at source command place (caught_at late place one)) place no_door)) = rw (← is) quiet in
-        rw is (are-told late low due place source command one (within-caught late place one seen view less) first are
-        (quiet-lower low until (kept_of (get_or (told_at source command place (caught_at late place one)) place no_door)) second here))
-
 -- ---- a door whose history is not kept
 pub quiet-cell : (past : Option History) (due : ℕ) (cell : DoorCellState) → past ≡ None → IsQuietUntil due (record { machine = machine_in cell; history = None }) → IsQuietUntil due (door_in past cell)
 quiet-cell past due cell not until = rw not until
@@ -496,15 +401,3 @@ none-when (Some x) is = cc
 pub not-kept : (past : Option (Box History)) → is_some past ≡ false → past_in past ≡ None
 not-kept None is = refl
 not-kept (Some past) is = cc
-
--- ---- what is due of all doors
--- one door more was looked at
-pub quiet-more : (low due until place : ℕ) (doors : List NamedDoor) → low ≤ due → low ≤ until
-    → ((k : ℕ) (d : NamedDoor) → k < place → IsQuietUntil due (kept_of (get_or doors k d)))
-    → ((d : NamedDoor) → IsQuietUntil until (kept_of (get_or doors place d)))
-    → (k : ℕ) (d : NamedDoor) → k < place + 1 → IsQuietUntil low (kept_of (get_or doors k d))
-quiet-more low due until place doors first second before here k d less = elim (cases_lt k place) [
-  | inl earlier ↦ quiet-lower low due (kept_of (get_or doors k d)) first (before k d (omega (arith, earlier)))
-  | inr last ↦ let same : k ≡ place = omega (arith, last, less) in
-      rw same (quiet-lower low until (kept_of (get_or doors place d)) second (here d))
-]

@@ -10,6 +10,8 @@ pub mod PrintingLemmas
 pub mod LateLemmas
 pub mod IdleLemmas
 pub mod LateDoorsLemmas
+pub mod TwiceLemmas
+pub mod QueueLemmas
+pub mod NotesLemmas
 pub mod TickingLemmas
-pub mod PlacesLemmas
 pub mod PastLemmas

@@ -13,7 +13,7 @@ use Rattle.st_doors.specs.declared.door_content.DoorContent.{DoorContent}
 use Rattle.st_doors.specs.Doors.{NamedDoor, KeptDoor, DoorAnswer, IsFirst, door_callbacks, door_named, door_of, door_told_by, has_name, kept_told_by, told_of, without_door}
 use Rattle.st_doors.specs.Entries.{door_of_entry}
 use Rattle.st_doors.specs.Settling.{has_id}
-use Rattle.st_doors.specs.Numbers.{Numbered, doors_of_numbered, number_of, AreNumbered, AreSerials, DoRise, has_number, without_number, unnumbered, kept_doors, with_door}
+use Rattle.st_doors.specs.Numbers.{Numbered, doors_of_numbered, number_of, AreNumbered, AreSerials, DoRise, DoSerialsRise, has_number, without_number, unnumbered, kept_doors, with_door}
 
 -- ---- numbers and names compared
 pub other_number : (a b : ℕ) → a ≢ b → nat_eq a b ≡ false
@@ -42,6 +42,13 @@ module _ {A : Type 0} where
   lower : (low from : ℕ) (es : List (Numbered A)) (next : ℕ) → low ≤ from → AreNumbered from es next → AreNumbered low es next
   lower low from [] next less are = omega (arith, less, are)
   lower low from (e ∷ es) next less are = (omega (arith, less, are.0), are.1, are.2)
+
+  -- and the serials of the doors, which they are, rise
+  pub serials-rise : (from : ℕ) (es : List (Numbered A)) (next : ℕ) → AreNumbered from es next → AreSerials es → DoSerialsRise from (doors_of_numbered es)
+  serials-rise from [] next are serials = tt
+  serials-rise from (e ∷ es) next are serials =
+      let same : e.0 ≡ e.1.1.machine.id.serial = serials.0 in
+      rw (← same) (are.0, serials-rise (suc e.0) es next are.2 serials.1)
 
   -- by themselves
   pub numbers-rise : (from : ℕ) (es : List (Numbered A)) (next : ℕ) → AreNumbered from es next → DoRise from es

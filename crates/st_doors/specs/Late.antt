@@ -1,6 +1,6 @@
 -- Doors that are ticked late: a tick at which nothing of a door is due leaves it with a later moment and no more, and so
 -- may be made up for at the door's next command.
-use Rattle.std.specs.Prelude.{◌≡◌, ℕ, ◌<◌, ◌≤◌, ◌⊎◌, Bool, ◌&&◌, is_none, nat_lt, List, [], ◌∷◌, Option, Some, None}
+use Rattle.std.specs.Prelude.{◌≡◌, ℕ, ◌<◌, ◌≤◌, ◌⊎◌, Bool, ◌&&◌, is_none, nat_lt, Option, Some, None}
 use Rattle.st_core.specs.declared.machine_state.MachineState.{MachineState}
 use Rattle.st_answers.specs.declared.command.Command.TheVariants as command
 use Rattle.st_core.specs.Run.{step_of}
@@ -48,8 +48,3 @@ IsQuietUntil due door = (moment : ℕ) → moment < due → IsQuietAt moment doo
 pub record IsInTime (late due : ℕ) (door : KeptDoor) : Type 0 where
   pub caught : (caught_kept late door ≡ door) ⊎ (told_kept (command.Tick late) door ≡ caught_kept late door)
   pub quiet : (moment : ℕ) → late ≤ moment → moment < due → IsQuietAt moment door
-
--- and so it is with each of these
-abbrev pub AreInTime : ℕ → ℕ → List NamedDoor → Type 0
-AreInTime late due [] = Unit {0}
-AreInTime late due (door ∷ doors) = IsInTime late due (kept_of door) × AreInTime late due doors

@@ -7,6 +7,7 @@ pub mod Past
 pub mod Lending
 pub mod Late
 pub mod Lines
+pub mod Notes
 pub mod Printing
 pub mod ScriptFault
 pub mod Settling

@@ -60,6 +60,11 @@ abbrev pub AreSerials : {A : Type 0} → List (Numbered A) → Type 0
 AreSerials [] = ⊤
 AreSerials (entry ∷ entries) = (entry.0 ≡ entry.1.1.machine.id.serial) × AreSerials entries
 
+-- the serials of doors rise, from this one on
+abbrev pub DoSerialsRise : ℕ → List NamedDoor → Type 0
+DoSerialsRise from [] = ⊤
+DoSerialsRise from (door ∷ doors) = (from ≤ door.machine.id.serial) × DoSerialsRise (suc door.machine.id.serial) doors
+
 -- the table has the number of each name
 abbrev pub HasNumbers : {A : Type 0} → BTreeMap (String A) ℕ → List (Numbered A) → Type 0
 HasNumbers numbers entries = (name : List ℕ) → get_by_text numbers name ≡ number_of name entries

@@ -1,5 +1,5 @@
 -- How doors run until they rest: turns, and messages from door to door.
-use Rattle.std.specs.Prelude.{◌≡◌, ℕ, zero, suc, ◌<◌, ◌≤◌, ◌⊎◌, Bool, true, false, List, Option, Some, None, IfSome, find, length, nat_lt, slice_index_or}
+use Rattle.std.specs.Prelude.{◌≡◌, ℕ, zero, suc, Bool, true, false, List, Option, Some, None, find}
 use Rattle.std.specs.List.{list_any}
 use Rattle.st_core.specs.Choice.{has_event_of, has_message_of}
 use Rattle.st_answers.specs.declared.command.Command.{Command}
@@ -12,7 +12,6 @@ use Rattle.st_scheduled.specs.ScheduledMachine.{same_id}
 use Rattle.st_journal.specs.declared.source.Source.{Source}
 use Rattle.st_journal.specs.declared.source.Source.TheVariants as source
 use Rattle.st_doors.specs.declared.door_content.DoorContent.{DoorContent}
-use Rattle.st_doors.specs.declared.places.Places.{Places}
 use Rattle.st_doors.specs.declared.service.Service.{Service}
 use Rattle.st_doors.specs.declared.service.Service.TheVariants.{Turn, TakeOut, Deliver}
 use Rattle.st_doors.specs.Doors.{DoorMachine, KeptDoor, NamedDoor, change_first, door_told_by, is_ready_door, kept_told_by}
@@ -82,29 +81,3 @@ run_until_idle (suc steps) moment doors =
       | true ↦ run_until_idle steps moment (gone_on moment doors)
       | false ↦ doors
     ]
-
--- ---- which doors may be ready
--- a place is among some places: those from one up to another, and one more
-abbrev pub IsAmong : Places → ℕ → Type 0
-IsAmong places place = ((places.from ≤ place) × (place < places.until)) ⊎ (places.other ≡ Some place)
-
--- whether a place, if there is one, is before another
-abbrev pub is_before : Option ℕ → ℕ → Bool
-is_before None from = false
-is_before (Some place) from = nat_lt place from
-
--- none of them is so great
-pub record IsWithin (places : Places) (n : ℕ) : Type 0 where
-  pub until : places.until ≤ n
-  pub other : (place : ℕ) → places.other ≡ Some place → place < n
-
--- doors that rest, but for those at these places
-abbrev pub RestsBut : Places → List NamedDoor → Type 0
-RestsBut places doors =
-    (place : ℕ) (d : NamedDoor) → place < length doors → (IsAmong places place → ⊥) → is_ready_door (slice_index_or doors place d) ≡ false
-
--- doors of which one has changed, and perhaps another
-pub record ChangesAt (place : ℕ) (other : Option ℕ) (old new : List NamedDoor) : Type 0 where
-  pub count : length new ≡ length old
-  pub same : (k : ℕ) (d : NamedDoor) → (k ≡ place → ⊥) → (other ≡ Some k → ⊥) → slice_index_or new k d ≡ slice_index_or old k d
-  pub there : IfSome other (λ k. k < length old)

@@ -1,5 +1,5 @@
 //! A door of a script: its machine in a cell of its own.
-ghost use Rattle.std.specs.Prelude.{◌≡◌, ◌≤◌, ◌^◌, [], true, false, IfOk, IfErr, OnOk, OnErr, MatchResult};
+ghost use Rattle.std.specs.Prelude.{◌≡◌, ◌≤◌, ◌^◌, [], true, false, is_some, IfOk, IfErr, OnOk, OnErr, MatchResult};
 ghost use Rattle.std.specs.Io.KnownBytes.{Appends};
 ghost use Rattle.st_core.specs.Run.{step_of};
 ghost use Rattle.st_doors.specs.Doors.{door_at_first, door_callbacks, told_kept, serves};
@@ -117,6 +117,13 @@ impl DoorCell {
         ensures { result.now.machine ≡ self.now.machine }
     {
         self.cell.core()
+    }
+
+    /// Says whether the door's history is kept.
+    pub(crate) fn is_traced(&self) -> bool
+        ensures { result ≡ is_some self.now.history }
+    {
+        self.past.is_some()
     }
 
     /// Says whether the door has still to see a moment. One that has ended sees none, and one whose history is kept has seen

@@ -3,6 +3,7 @@ ghost use Rattle.std.specs.Prelude.{◌≡◌, ◌+◌, ◌<◌, ◌≤◌, ◌^
 ghost use Rattle.std.specs.Io.KnownBytes.{Appends};
 ghost use Rattle.st_doors.specs.Doors.{NamedDoor, door_named, IsFirst, has_name, door_of, without_door, is_ready_door, is_over, kept_of, told_of, told_door, serves};
 ghost use Rattle.st_doors.specs.Late.{IsQuietUntil, is_late};
+ghost use Rattle.st_doors.specs.Numbers.{DoSerialsRise};
 ghost use Rattle.st_doors.specs.Printing.{status_of, names_text};
 ghost use Rattle.st_core.specs.Choice.{has_message_of};
 ghost use Rattle.st_doors.specs.Settling.{CanServe, has_id, message_from, served_door};
@@ -175,6 +176,13 @@ impl Doors {
         ensures quiet { (d : NamedDoor) → IsQuietUntil result (kept_of (slice_index_or self.now place d)) }
     {
         self.entry_at(place).1.quiet_until()
+    }
+
+    /// The serials of the doors' ids rise, so no two doors have one id.
+    pub(crate) fn serials_rise(&self)
+        ensures { DoSerialsRise 0 self.now }
+    {
+        let _ = &self.entries;
     }
 
     /// Tells the door at a place a command that is no turn, and answers its answer. Where memory is wanted and there is

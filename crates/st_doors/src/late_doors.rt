@@ -2,8 +2,9 @@
 ghost use Rattle.std.specs.Prelude.{◌≡◌, ◌<◌, ◌≤◌, ◌^◌, ℕ, false, [], ◌∷◌, ◌++◌, None, find, IfOk, IfErr, OnOk, OnErr, MatchResult, IfSome, IfNone, length, slice_set, slice_index_or, string_bytes};
 ghost use Rattle.std.specs.Io.KnownBytes.{Appends};
 ghost use Rattle.st_core.specs.Choice.{has_message_of};
-ghost use Rattle.st_doors.specs.Doors.{NamedDoor, door_named, IsFirst, has_name, door_of, kept_of, without_door, is_over, is_ready_door, told_of, told_door, all_expired_of, ticked_doors, SameLabels, door_limit, serves};
-ghost use Rattle.st_doors.specs.Late.{IsInTime, IsQuietUntil, caught_up};
+ghost use Rattle.std.specs.List.{list_any};
+ghost use Rattle.st_doors.specs.Doors.{NamedDoor, door_named, IsFirst, has_name, door_of, without_door, is_over, is_ready_door, told_of, told_door, all_expired_of, ticked_doors, SameLabels, door_limit, serves};
+ghost use Rattle.st_doors.specs.Late.{caught_up};
 ghost use Rattle.st_doors.specs.Printing.{status_of, names_text};
 ghost use Rattle.st_doors.specs.Settling.{CanServe, has_id, message_from, served_door};
 ghost use Rattle.st_doors.specs.ScriptFault.{IsOfInput, write_failures_after};
@@ -13,37 +14,45 @@ ghost use Rattle.st_doors.specs.Traces.{trace_of_door};
 use crate::answers::{DoorAnswer, let_go};
 use crate::door_cell::DoorCell;
 use crate::doors::Doors;
+use crate::due_doors::{first_ready, note_at, prepare, reserve, tick_due};
 use crate::service::Service;
 use crate::{DoorContent, ScriptFault, Sink};
 use st_core::{Command, MOMENT_LIMIT};
+use st_due::DueQueue;
 use st_events::{MachineId, Message};
 use std::alloc::{AllocError, Global};
 use std::marker::Model;
 
 /// The doors of a script, which are ticked late. Contracts see them as if each tick were made at once.
 ///
-/// A tick at which nothing is due only brings a later moment. It goes to no door: the moment is kept here, and made up for
-/// at a door's next command, before anything of the door is looked at. From the late moment on nothing is due before
-/// `due`.
+/// A tick at which nothing of a door is due only brings a later moment. It does not go to the door: the moment is kept here,
+/// and made up for at the door's next command, before anything of the door is looked at. `due` has each door at a moment
+/// before which, from the late moment on, nothing of it is due; so a tick goes to those that are due, and to no other. Where
+/// the history of a door is kept, each tick stands in it, and goes to each door.
+///
+/// `awake` has each door that is ready, and perhaps some that are not, by their serials, which rise in order of registration.
 ///
 /// Ours: docs/SCRIPTS.md.
 #[derive(Drop)]
 pub struct LateDoors {
     doors: Doors,
+    traced: bool,
     late: u64,
-    due: u64,
+    due: DueQueue,
+    awake: DueQueue,
 }
 
 impl Model for LateDoors {
-    ghost use Rattle.std.specs.Prelude.{◌≤◌, ◌^◌, List, map};
+    ghost use Rattle.std.specs.Prelude.{List, map};
     ghost use Rattle.st_doors.specs.Doors.{NamedDoor};
-    ghost use Rattle.st_doors.specs.Late.{AreInTime, caught_up};
+    ghost use Rattle.st_doors.specs.Late.{caught_up};
+    ghost use Rattle.st_doors.specs.Notes.{AreWatched};
 
     ghost Value = { List NamedDoor };
 
     ghost view = { λ doors. map (caught_up doors.late) doors.doors };
 
-    ghost invariant = { λ doors. AreInTime doors.late doors.due doors.doors × (doors.due ≤ 2 ^ 63) };
+    ghost invariant = { λ doors. AreWatched doors.late doors.traced doors.due.machines doors.awake.machines doors.doors };
 }
 
 impl LateDoors {
@@ -55,8 +64,10 @@ impl LateDoors {
     {
         LateDoors {
             doors: Doors::new(alloc),
+            traced: false,
             late: 0,
-            due: MOMENT_LIMIT,
+            due: DueQueue::new(alloc),
+            awake: DueQueue::new(alloc),
         }
     }
 
@@ -102,9 +113,12 @@ impl LateDoors {
         if door.is_late(self.late) {
             return Err(AllocError);
         }
-        let due = door.quiet_until();
+        reserve(&mut self.due, &mut self.awake)?;
+        let place = self.doors.len();
+        let traced = door.is_traced();
         self.doors.push(name, door)?;
-        self.due = self.due.min(due);
+        self.traced |= traced;
+        note_at(&self.doors, &mut self.due, &mut self.awake, place, 0);
         Ok(())
     }
 
@@ -114,7 +128,14 @@ impl LateDoors {
     pub fn remove(&mut self, name: &str)
         ensures { self.new ≡ without_door name.now self.old }
     {
+        let Some(place) = self.doors.place_of(name) else {
+            return;
+        };
+        self.doors.serials_rise();
+        let id = self.doors.id_at(place);
         self.doors.remove(name);
+        self.due.forget(id);
+        self.awake.forget(id);
     }
 
     /// The id of the door at a place.
@@ -169,9 +190,15 @@ impl LateDoors {
 
         ensures unchanged { OnErr result (self.new ≡ self.old) }
     {
-        catch_up(&mut self.doors, place, self.late)?;
+        prepare(
+            &mut self.doors,
+            &mut self.due,
+            &mut self.awake,
+            place,
+            self.late,
+        )?;
         let answer = self.doors.tell_at(place, command)?;
-        self.due = self.due.min(self.doors.quiet_until_at(place));
+        note_at(&self.doors, &mut self.due, &mut self.awake, place, 0);
         Ok(answer)
     }
 
@@ -189,13 +216,31 @@ impl LateDoors {
 
         ensures unchanged { OnErr result (self.new ≡ self.old) }
     {
-        catch_up(&mut self.doors, place, self.late)?;
+        prepare(
+            &mut self.doors,
+            &mut self.due,
+            &mut self.awake,
+            place,
+            self.late,
+        )?;
         let message = self.doors.serve_at(place, service)?;
-        self.due = self.due.min(self.doors.quiet_until_at(place));
+        note_at(&self.doors, &mut self.due, &mut self.awake, place, 0);
         Ok(message)
     }
 
-    /// Ticks the doors, and answers how many time-outs expire. Where nothing is due no door is looked at.
+    /// The place of the first door that is ready, if one is.
+    pub(crate) fn first_ready(&mut self) -> Result<Option<usize>, AllocError>
+        ensures first { IfOk result (λ place. IfSome place (IsFirst is_ready_door self.old)) }
+        ensures none { IfOk result (λ place. IfNone place (list_any is_ready_door self.old ≡ false)) }
+
+        // Whatever the answer is.
+        ensures same { self.new ≡ self.old }
+    {
+        first_ready(&self.doors, &mut self.awake)
+    }
+
+    /// Ticks the doors, and answers how many time-outs expire. Only those are looked at of which something is due, unless a
+    /// history is kept.
     ///
     /// Ours: docs/SCRIPTS.md.
     pub fn tick(&mut self, moment: u64) -> Result<u128, AllocError>
@@ -206,13 +251,18 @@ impl LateDoors {
         // Whatever the answer is.
         ensures same_labels { SameLabels self.old self.new }
     {
-        if self.late <= moment && moment < self.due {
+        if !self.traced && self.late <= moment && moment < MOMENT_LIMIT {
+            let expired = tick_due(
+                &mut self.doors,
+                &mut self.due,
+                &mut self.awake,
+                self.late,
+                moment,
+            )?;
             self.late = moment;
-            return Ok(0);
+            return Ok(expired);
         }
-        let expired = self.tick_each(moment)?;
-        self.due = quiet_until(&self.doors);
-        Ok(expired)
+        self.tick_each(moment)
     }
 
     /// Ticks each door, in order of registration, and answers how many time-outs expire.
@@ -270,31 +320,4 @@ impl LateDoors {
     {
         self.doors.write_trace_at(alloc, place, writer)
     }
-}
-
-/// Makes up for a late tick at the door at a place. Where memory is wanted and there is none, the doors stay.
-fn catch_up(doors: &mut Doors, place: usize, moment: u64) -> Result<(), AllocError>
-    requires place { place < length doors.old }
-    requires late { (d : NamedDoor) → (due : ℕ) × IsInTime moment due (kept_of (slice_index_or doors.old place d)) }
-    ensures caught { OnOk result ((d : NamedDoor) → doors.new ≡ slice_set doors.old place (caught_up moment (slice_index_or doors.old place d))) }
-
-    ensures unchanged { OnErr result (doors.new ≡ doors.old) }
-{
-    if doors.is_late_at(place, moment) {
-        let answer = doors.tell_at(place, Command::Tick(moment))?;
-        let_go(answer);
-    }
-    Ok(())
-}
-
-/// A moment before which nothing of any door is due.
-fn quiet_until(doors: &Doors) -> u64
-    ensures bounded { result ≤ 2 ^ 63 }
-    ensures quiet { (place : ℕ) (d : NamedDoor) → place < length doors.now → IsQuietUntil result (kept_of (slice_index_or doors.now place d)) }
-{
-    let mut due = MOMENT_LIMIT;
-    for place in 0..doors.len() {
-        due = due.min(doors.quiet_until_at(place));
-    }
-    due
 }

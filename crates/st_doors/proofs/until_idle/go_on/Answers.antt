@@ -4,7 +4,6 @@ use Rattle.st_doors.specs.Doors.{SameLabels, is_ready_door}
 use Rattle.st_doors.specs.Settling.{has_id}
 use Rattle.st_doors.proofs.DoorLemmas.{IsFirst-within}
 use Rattle.st_doors.proofs.IdleLemmas.{no_door, event-ready, first-passes, gone-turned, gone-lost, gone-delivered, has-id, labels-same, labels-served, some-message}
-use Rattle.st_doors.proofs.PlacesLemmas.{changes-set, changes-twice}
 use Rattle.st_doors.proofs.until_idle.go_on.Goals as goal
 
 -- it is one of the doors
@@ -29,9 +28,6 @@ returns-then-not-has_message_at-clause-gone_on c =
     let none : c.has_message_at.result ≡ false = search rules in
     gone-turned c.args.moment c.args.doors.now c.serve_at.new.self c.args.place c.requires (sym (c.has_message_at.ensures no_door) ∙ none) (c.in_ok-serve_at.ensures.served no_door)
 
-pub returns-then-not-has_message_at-clause-changes : goal.returns-then-not-has_message_at-clause-changes
-returns-then-not-has_message_at-clause-changes c = changes-set c.args.doors.now c.serve_at.new.self c.args.place _ (c.in_ok-serve_at.ensures.served no_door)
-
 pub returns-then-not-has_message_at-clause-same_labels : goal.returns-then-not-has_message_at-clause-same_labels
 returns-then-not-has_message_at-clause-same_labels c =
     labels-served c.args.doors.now c.args.doors.now c.serve_at.new.self c.args.place (Turn c.args.moment) (labels-same c.args.doors.now)
@@ -50,9 +46,6 @@ pub returns-in_default-place_of_id-clause-gone_on : goal.returns-in_default-plac
 returns-in_default-place_of_id-clause-gone_on c =
     gone-lost c.args.moment c.args.doors.now c.serve_at-2.new.self c.args.place c.in-Some.message c.requires (sym c.in-Some.is ∙ c.in_ok-message.ensures.message no_door)
     (c.in_ok-message.ensures.served no_door) c.in_default-place_of_id.ensures.missing
-
-pub returns-in_default-place_of_id-clause-changes : goal.returns-in_default-place_of_id-clause-changes
-returns-in_default-place_of_id-clause-changes c = changes-set c.args.doors.now c.serve_at-2.new.self c.args.place _ (c.in_ok-message.ensures.served no_door)
 
 pub returns-in_default-place_of_id-clause-same_labels : goal.returns-in_default-place_of_id-clause-same_labels
 returns-in_default-place_of_id-clause-same_labels c =
@@ -76,12 +69,6 @@ pub returns-clause-gone_on : goal.returns-clause-gone_on
 returns-clause-gone_on c =
     gone-delivered c.args.moment c.args.doors.now c.serve_at-2.new.self c.serve_at-3.new.self c.args.place c.in-Some-place_of_id.target c.in-Some.message c.requires
     (sym c.in-Some.is ∙ c.in_ok-message.ensures.message no_door) (c.in_ok-message.ensures.served no_door) c.in-Some-place_of_id.ensures.place (c.in_ok-serve_at-2.ensures.served no_door)
-
-pub returns-clause-changes : goal.returns-clause-changes
-returns-clause-changes c =
-    changes-twice c.args.doors.now c.serve_at-2.new.self c.serve_at-3.new.self c.args.place c.in-Some-place_of_id.target _ _ (c.in_ok-message.ensures.served no_door)
-    (c.in_ok-serve_at-2.ensures.served no_door)
-    (IsFirst-within (has_id c.in-Some.message.target) c.serve_at-2.new.self c.in-Some-place_of_id.target c.in-Some-place_of_id.ensures.place)
 
 pub returns-clause-same_labels : goal.returns-clause-same_labels
 returns-clause-same_labels c =

@@ -1,33 +1,32 @@
-use Rattle.std.proofs.Common.{◌≤◌, ◌<◌, ◌∙◌, ap, arith}
-use Rattle.st_doors.specs.Doors.{ticked_doors}
-use Rattle.st_doors.proofs.LateDoorsLemmas.{are-later, are-until, labels-caught, none-seen, tick-seen}
+use Rattle.std.proofs.Common.{rules, ◌≡◌, ◌≤◌, ◌<◌, ◌^◌, ◌∙◌, ap, sym, false, arith}
+use Rattle.st_doors.specs.Doors.{all_expired_of, ticked_doors}
+use Rattle.st_doors.proofs.NotesLemmas.{counted-caught, labels-through, seen-after, ticked-caught, watched-untraced}
 use Rattle.st_doors.proofs.late_doors.LateDoors.tick.Goals as goal
 
--- nothing is due by the moment
-pub invariant_of-self : goal.invariant_of-self
-invariant_of-self c =
+pub tick_due-requires-clause-watched : goal.tick_due-requires-clause-watched
+tick_due-requires-clause-watched c =
+    let none : c.self.inside.traced ≡ false = search rules in
+    watched-untraced c.self.inside.late c.self.inside.traced c.self.inside.due.machines c.self.inside.awake.machines c.self.inside.doors none c.self.invariant
+
+-- some doors may have been ticked
+pub returns-in_err-expired-clause-same_labels : goal.returns-in_err-expired-clause-same_labels
+returns-in_err-expired-clause-same_labels c =
+    rw (← c.self.view_is) (labels-through c.self.inside.late c.self.inside.late c.self.inside.doors c.tick_due.new.doors c.tick_due.ensures.same_labels)
+
+-- those of which something was due were
+pub returns-then-moment-lt-MOMENT_LIMIT-clause-expired : goal.returns-then-moment-lt-MOMENT_LIMIT-clause-expired
+returns-then-moment-lt-MOMENT_LIMIT-clause-expired c =
     let order : c.self.inside.late ≤ c.args.moment = omega (arith, c.if-self-moment.true) in
-    let less : c.args.moment < c.self.inside.due = omega (arith, c.if-moment-self.true) in
-    (are-later c.self.inside.late c.args.moment c.self.inside.due c.self.inside.doors order less c.self.invariant.0, c.self.invariant.1)
+    let below : c.args.moment < 2 ^ 63 = omega (arith, c.if-moment-lt-MOMENT_LIMIT.true) in
+    c.in_ok-expired.ensures.expired ∙ (sym (counted-caught c.self.inside.late c.args.moment c.self.inside.doors order below) ∙ ap (all_expired_of c.args.moment) c.self.view_is)
 
-pub returns-then-moment-self-clause-expired : goal.returns-then-moment-self-clause-expired
-returns-then-moment-self-clause-expired c =
+pub returns-then-moment-lt-MOMENT_LIMIT-clause-ticked : goal.returns-then-moment-lt-MOMENT_LIMIT-clause-ticked
+returns-then-moment-lt-MOMENT_LIMIT-clause-ticked c =
     let order : c.self.inside.late ≤ c.args.moment = omega (arith, c.if-self-moment.true) in
-    let less : c.args.moment < c.self.inside.due = omega (arith, c.if-moment-self.true) in
-    rw (← c.self.view_is) (none-seen c.self.inside.late c.args.moment c.self.inside.due c.self.inside.doors order less c.self.invariant.1 c.self.invariant.0)
+    let below : c.args.moment < 2 ^ 63 = omega (arith, c.if-moment-lt-MOMENT_LIMIT.true) in
+    seen-after c.self.inside.late c.args.moment c.tick_due.new.due.machines c.tick_due.new.doors order c.in_ok-expired.ensures.after c.tick_due.ensures.watched.0
+    ∙ (c.tick_due.ensures.ticked ∙ (sym (ticked-caught c.self.inside.late c.args.moment c.self.inside.doors order below) ∙ ap (ticked_doors c.args.moment) c.self.view_is))
 
-pub returns-then-moment-self-clause-ticked : goal.returns-then-moment-self-clause-ticked
-returns-then-moment-self-clause-ticked c =
-    let order : c.self.inside.late ≤ c.args.moment = omega (arith, c.if-self-moment.true) in
-    let less : c.args.moment < c.self.inside.due = omega (arith, c.if-moment-self.true) in
-    tick-seen c.self.inside.late c.args.moment c.self.inside.due c.self.inside.doors order less c.self.invariant.1 c.self.invariant.0 ∙ ap (ticked_doors c.args.moment) c.self.view_is
-
-pub returns-then-moment-self-clause-same_labels : goal.returns-then-moment-self-clause-same_labels
-returns-then-moment-self-clause-same_labels c = rw (← c.self.view_is) (labels-caught c.self.inside.late c.args.moment c.self.inside.doors)
-
--- each door was looked at
-pub invariant_of-self-2 : goal.invariant_of-self-2
-invariant_of-self-2 c = (
-  are-until c.self-2.inside.late c.quiet_until-self-inside.result c.self-2.inside.due c.self-2.inside.doors c.self-2.invariant.0 c.quiet_until-self-inside.ensures.quiet,
-  c.quiet_until-self-inside.ensures.bounded,
-)
+pub returns-then-moment-lt-MOMENT_LIMIT-clause-same_labels : goal.returns-then-moment-lt-MOMENT_LIMIT-clause-same_labels
+returns-then-moment-lt-MOMENT_LIMIT-clause-same_labels c =
+    rw (← c.self.view_is) (labels-through c.self.inside.late c.args.moment c.self.inside.doors c.tick_due.new.doors c.tick_due.ensures.same_labels)

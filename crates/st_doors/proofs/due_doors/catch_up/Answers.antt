@@ -2,7 +2,7 @@ use Rattle.std.proofs.Common.{◌≡◌, ◌∙◌, sym, ap, set, get_or, true}
 use Rattle.st_doors.specs.Doors.{NamedDoor, KeptDoor, door_named, kept_of}
 use Rattle.st_doors.specs.Late.{is_late}
 use Rattle.st_doors.proofs.LateDoorsLemmas.{late-ticked}
-use Rattle.st_doors.proofs.late_doors.catch_up.Goals as goal
+use Rattle.st_doors.proofs.due_doors.catch_up.Goals as goal
 
 -- the tick comes to no more than a later moment
 pub returns-in_ok-answer-clause-caught : goal.returns-in_ok-answer-clause-caught
