@@ -84,7 +84,11 @@ impl Refusal {
 
 impl Display for Refusal {
     fn fmt<W: Write>(&self, f: &mut Formatter<W>) -> fmt::Result {
-        f.write_str(self.text())
+        let text = self.text();
+        match self {
+            Refusal::Stopped(reason) => write!(f, "{text} with reason {reason}"),
+            _ => f.write_str(text),
+        }
     }
 }
 

@@ -267,7 +267,7 @@ fn refusals_come_of_others(rt: &impl Abort) {
 fn refusals_have_numbers_and_texts(rt: HostRuntime) {
     static ROWS: [(Refusal, u8, &str); 12] = [
         (Refusal::NoMemory, 1, "no memory"),
-        (Refusal::Stopped(9), 2, "stopped"),
+        (Refusal::Stopped(9), 2, "stopped with reason 9"),
         (Refusal::Exhausted, 3, "too few numbers left"),
         (Refusal::Moment, 4, "moment out of range"),
         (Refusal::NotPossible, 5, "not possible"),
