@@ -10,7 +10,6 @@ mod chime;
 mod chimed;
 mod clerk;
 mod clocks;
-mod closing;
 mod courier;
 mod couriers;
 mod desk;
