@@ -1,0 +1,172 @@
+//! `machine`: checks, draws, runs and tests machines that are described in files. It has words, files, the clock and
+//! streams, and knows nothing of any rule.
+#![tactic(auto)]
+
+mod failure;
+mod files;
+mod live;
+mod order;
+mod shelf;
+mod words;
+
+use crate::failure::Failure;
+use crate::files::{input_bytes, wanted_bytes};
+use crate::live::run_live;
+use crate::order::Order;
+use crate::shelf::Files;
+use crate::words::read_words;
+use clap::Error;
+use clap::error::ErrorKind;
+use st_chart_views::Drawing;
+use st_machine::{Format, Output, check_text, draw_text, format_text, run_text, schema, test_text};
+use std::process::ExitCode;
+use std::{env, fs, io};
+
+/// The status of words that are at fault.
+const WORDS_AT_FAULT: u8 = 2;
+
+/// Writes what was made: the text to standard output, and faults to standard error.
+fn written(rt: &HostRuntime, output: &Output) -> Result<u8, Failure> {
+    let _ = io::Write::write_all(&mut rt.stderr(), output.faults.as_slice());
+    match io::Write::write_all(&mut rt.stdout(), output.text.as_slice()) {
+        Ok(()) => Ok(output.status),
+        Err(_error) => Err(Failure::Unwritten(String::from_str(rt.alloc(), "standard output")?)),
+    }
+}
+
+/// Tells what is wrong with a description.
+fn check(rt: &HostRuntime, file: &str) -> Result<u8, Failure> {
+    let text = wanted_bytes(rt, file)?;
+    written(rt, &check_text(rt.alloc(), file, text.as_slice())?)
+}
+
+/// Draws a description.
+fn draw(rt: &HostRuntime, file: &str, drawing: Drawing) -> Result<u8, Failure> {
+    let text = wanted_bytes(rt, file)?;
+    written(rt, &draw_text(rt.alloc(), file, text.as_slice(), drawing)?)
+}
+
+/// Prints a description laid out.
+fn format(rt: &HostRuntime, file: &str) -> Result<u8, Failure> {
+    let text = wanted_bytes(rt, file)?;
+    written(rt, &format_text(rt.alloc(), file, text.as_slice())?)
+}
+
+/// Runs events.
+fn run(rt: &HostRuntime, file: &str, format: Format) -> Result<u8, Failure> {
+    let text = wanted_bytes(rt, file)?;
+    let events = input_bytes(rt)?;
+    let output = run_text(
+        rt.alloc(),
+        file,
+        text.as_slice(),
+        events.as_slice(),
+        format,
+        &mut Files { rt },
+    )?;
+    written(rt, &output)
+}
+
+/// Runs cases, and compares what they print; or writes it.
+fn test(rt: &HostRuntime, file: &str, cases: &str, writes: bool) -> Result<u8, Failure> {
+    let text = wanted_bytes(rt, file)?;
+    let given = wanted_bytes(rt, cases)?;
+    let tested = test_text(
+        rt.alloc(),
+        file,
+        text.as_slice(),
+        given.as_slice(),
+        &mut Files { rt },
+    )?;
+    if !writes {
+        return written(rt, &tested.output);
+    }
+    match fs::write(rt, cases, tested.written.as_slice()) {
+        Ok(()) => Ok(0),
+        Err(_error) => Err(Failure::Unwritten(String::from_str(rt.alloc(), cases)?)),
+    }
+}
+
+/// Prints the format of descriptions.
+fn print_schema(rt: &HostRuntime) -> Result<u8, Failure> {
+    match print!(rt; "{}", schema()) {
+        Ok(()) => Ok(0),
+        Err(_error) => Err(Failure::Unwritten(String::from_str(rt.alloc(), "standard output")?)),
+    }
+}
+
+/// Does what is asked for, and returns the status.
+fn done(rt: &HostRuntime, order: Order) -> Result<u8, Failure> {
+    match order {
+        Order::Check(file) => check(rt, file.as_str()),
+        Order::Draw(file, drawing) => draw(rt, file.as_str(), drawing),
+        Order::Write(file) => format(rt, file.as_str()),
+        Order::Run(file, format) => run(rt, file.as_str(), format),
+        Order::Live(file, format) => run_live(rt, file.as_str(), format),
+        Order::Test(file, cases) => test(rt, file.as_str(), cases.as_str(), false),
+        Order::Rewrite(file, cases) => test(rt, file.as_str(), cases.as_str(), true),
+        Order::Schema => print_schema(rt),
+    }
+}
+
+/// Says what `clap` has to say, and returns the status: help and the version go to standard output, a fault of the words to
+/// standard error.
+fn told(rt: &HostRuntime, error: &Error) -> Result<u8, Failure> {
+    if error.kind() == ErrorKind::OutOfMemory {
+        return Err(Failure::Memory);
+    }
+    let text = error.to_string(rt.alloc())?;
+    if error.kind() == ErrorKind::DisplayHelp || error.kind() == ErrorKind::DisplayVersion {
+        return match print!(rt; "{text}") {
+            Ok(()) => Ok(0),
+            Err(_error) => Err(Failure::Unwritten(String::from_str(rt.alloc(), "standard output")?)),
+        };
+    }
+    let _ = eprint!(rt; "{text}");
+    Ok(WORDS_AT_FAULT)
+}
+
+/// Reads the words, and does what they ask for.
+fn asked(rt: &HostRuntime) -> Result<u8, Failure> {
+    let words: Vec<String> = match env::args(rt) {
+        Ok(words) => words.collect(rt.alloc())?,
+        Err(_error) => return Err(Failure::System),
+    };
+    match read_words(rt.alloc(), words.as_slice()) {
+        Ok(order) => done(rt, order),
+        Err(error) => told(rt, &error),
+    }
+}
+
+/// Says why the program cannot go on, and returns the status.
+fn ended(rt: &HostRuntime, failure: Failure) -> u8 {
+    match failure {
+        Failure::Memory => {
+            let _ = eprintln!(rt; "machine: no memory");
+            4
+        }
+        Failure::Unread(name) => {
+            let _ = eprintln!(rt; "machine: {name} cannot be read");
+            3
+        }
+        Failure::Unwritten(name) => {
+            let _ = eprintln!(rt; "machine: {name} cannot be written");
+            3
+        }
+        Failure::TooLong => {
+            let _ = eprintln!(rt; "machine: standard input has more than 1,048,576 bytes");
+            3
+        }
+        Failure::System => {
+            let _ = eprintln!(rt; "machine: the system gives no clock, no thread or no words");
+            3
+        }
+    }
+}
+
+fn main(rt: HostRuntime) -> ExitCode {
+    match asked(&rt) {
+        Ok(status) => ExitCode::from(status),
+        Err(failure) => ExitCode::from(ended(&rt, failure)),
+    }
+}

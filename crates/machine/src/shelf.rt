@@ -1,0 +1,17 @@
+//! Descriptions from files.
+
+use crate::files::file_bytes;
+use st_machine::Shelf;
+use std::alloc::{AllocError, Global};
+
+/// Descriptions from files, by their paths.
+#[derive(Drop)]
+pub(crate) struct Files<'a> {
+    pub(crate) rt: &'a HostRuntime,
+}
+
+impl Shelf for Files<'_> {
+    fn description(&mut self, _alloc: Global, name: &str) -> Result<Option<Vec<u8>>, AllocError> {
+        Ok(file_bytes(self.rt, name))
+    }
+}
