@@ -67,3 +67,75 @@ fn next(rt: &HostRuntime, lines: &Receiver<String, Global>, wait: Duration) -> C
         Err(RecvTimeoutError::Disconnected) => Came::End,
     }
 }
+
+/// Does what came, and returns whether a line may still come.
+fn take(
+    rt: &HostRuntime,
+    session: &mut Session,
+    came: Came,
+    start: Instant,
+    out: &mut Vec<u8>,
+) -> Result<bool, Failure> {
+    session.pass(passed(rt, start)?, out)?;
+    match came {
+        Came::Line(line) => {
+            session.line(&mut Files { rt }, line.as_bytes(), out)?;
+            Ok(true)
+        }
+        Came::Time => Ok(true),
+        Came::End => Ok(false),
+    }
+}
+
+/// Waits until the next time-out is due, where no line comes any more.
+fn sleep(rt: &HostRuntime, session: &mut Session, start: Instant, out: &mut Vec<u8>) -> Result<(), Failure> {
+    let wait = wait_until(session.next_due(), passed(rt, start)?);
+    thread::sleep(rt, wait);
+    Ok(session.pass(passed(rt, start)?, out)?)
+}
+
+/// Whether nothing can happen any more.
+fn is_over(session: &Session, has_lines: bool) -> bool {
+    session.is_over() || !has_lines && session.next_due().is_none()
+}
+
+/// Takes lines and lets time pass, until nothing can happen any more.
+fn serve(rt: &HostRuntime, session: &mut Session, lines: &Receiver<String, Global>) -> Result<u8, Failure> {
+    let Ok(start) = Instant::now(rt) else {
+        return Err(Failure::System);
+    };
+    let mut out = Vec::new(rt.alloc());
+    let mut has_lines = true;
+    for _ in rt.forever() {
+        if is_over(session, has_lines) {
+            break;
+        }
+        if has_lines {
+            let wait = wait_until(session.next_due(), passed(rt, start)?);
+            let came = next(rt, lines, wait);
+            has_lines = take(rt, session, came, start, &mut out)?;
+        } else {
+            sleep(rt, session, start, &mut out)?;
+        }
+        written(rt, &mut out)?;
+    }
+    session.finish(&mut out)?;
+    written(rt, &mut out)?;
+    Ok(session.status())
+}
+
+/// Runs events that come while the clock goes on. It ends when each machine has ended, or when no line comes any more and
+/// no time-out runs.
+pub(crate) fn run_live(rt: &HostRuntime, file: &str, format: Format) -> Result<u8, Failure> {
+    let text = wanted_bytes(rt, file)?;
+    let mut session = match open_text(rt.alloc(), file, text.as_slice(), format)? {
+        Opened::Session(session) => session,
+        Opened::Faults(output) => return crate::written(rt, &output),
+    };
+    let threads = *rt;
+    let (to, from) = bounded(rt.alloc(), 16)?;
+    let Ok(_reader) = thread::spawn(rt, move || pump(&threads, &to)) else {
+        return Err(Failure::System);
+    };
+    serve(rt, &mut session, &from)
+}
