@@ -1,12 +1,31 @@
 //! A machine's description: a JSON text, read to a table with its names. It knows nothing of how machines run.
 #![tactic(auto)]
 
+mod actions;
 mod chart;
+mod draft;
+mod events;
+mod expressions;
 mod fault;
+mod faults;
+mod guard;
+mod machine;
 mod marks;
+mod members;
 mod names;
+mod naming;
+mod operand;
+mod places;
 mod read;
+mod reading;
+mod rules;
+mod scope;
+mod states;
+mod syntax;
+mod tree;
 mod vocabulary;
+mod wording;
+mod words;
 
 pub use chart::Chart;
 pub use fault::Fault;

@@ -1,0 +1,316 @@
+//! Actions of rules.
+
+use crate::expressions::{expression_in, nothing, operand_in};
+use crate::members::is_object_of;
+use crate::naming::{symbol, text_in, timer};
+use crate::reading::Reading;
+use crate::scope::{Part, Scope};
+use crate::tree::{Node, Shape};
+use crate::{Ask, Expression, Operand, PlainList, Raised, Say, Timer};
+use std::alloc::AllocError;
+
+/// What an action does.
+#[derive(Clone, Copy)]
+enum Verb {
+    Reply,
+    Raise,
+    Set,
+    Cancel,
+    Update,
+    Send,
+    Postpone,
+    Hibernate,
+}
+
+/// What the key of an action says, and the members that it may have.
+fn verb_of(key: &str) -> Option<(Verb, &'static str)> {
+    match key {
+        "reply" => Some((Verb::Reply, "reply with to")),
+        "raise" => Some((Verb::Raise, "raise with as")),
+        "set" => Some((Verb::Set, "set after say with")),
+        "cancel" => Some((Verb::Cancel, "cancel")),
+        "update" => Some((Verb::Update, "update say with")),
+        "send" => Some((Verb::Send, "send with to")),
+        "postpone" => Some((Verb::Postpone, "postpone")),
+        "hibernate" => Some((Verb::Hibernate, "hibernate")),
+        _ => None,
+    }
+}
+
+/// What an action cannot do in a part.
+fn refusal(verb: Verb, part: Part) -> Option<&'static str> {
+    match (verb, part) {
+        (Verb::Postpone | Verb::Raise | Verb::Send, Part::Entry) => {
+            Some(" cannot stand in an entry: it has no event, and inserts and sends none")
+        }
+        (Verb::Postpone, Part::Start) => Some(" cannot stand in a start: it has no event"),
+        _ => None,
+    }
+}
+
+/// Whether an action may stand in a part. If not, a fault is noted.
+fn is_allowed(
+    reading: &mut Reading<'_>,
+    verb: Verb,
+    part: Part,
+    at: usize,
+    key: &str,
+) -> Result<bool, AllocError> {
+    match refusal(verb, part) {
+        Some(after) => {
+            reading.wrong_name(at, "", key, after)?;
+            Ok(false)
+        }
+        None => Ok(true),
+    }
+}
+
+/// The argument of what is said.
+fn said_with(
+    reading: &mut Reading<'_>,
+    part: Part,
+    node: &Node<'_>,
+) -> Result<Expression, AllocError> {
+    match node.member("with") {
+        Some(with) => expression_in(reading, Scope::now(part), with),
+        None => Ok(nothing(reading.alloc)),
+    }
+}
+
+/// What is said, by the member that has the symbol.
+fn said(
+    reading: &mut Reading<'_>,
+    part: Part,
+    node: &Node<'_>,
+    member: &Node<'_>,
+) -> Result<Say, AllocError> {
+    let name = text_in(reading, member)?;
+    let symbol = symbol(reading, member.at, name)?;
+    let argument = said_with(reading, part, node)?;
+    Ok(Say { symbol, argument })
+}
+
+/// What a time-out says: `timeout`, unless a member has another symbol.
+fn said_by_timer(
+    reading: &mut Reading<'_>,
+    part: Part,
+    node: &Node<'_>,
+) -> Result<Say, AllocError> {
+    match node.member("say") {
+        Some(member) => said(reading, part, node, member),
+        None => {
+            let symbol = symbol(reading, node.at, "timeout")?;
+            let argument = said_with(reading, part, node)?;
+            Ok(Say { symbol, argument })
+        }
+    }
+}
+
+/// To whom is replied or sent.
+fn to_whom(
+    reading: &mut Reading<'_>,
+    part: Part,
+    node: &Node<'_>,
+    verb: Verb,
+) -> Result<Operand, AllocError> {
+    match (node.member("to"), verb) {
+        (Some(to), _) => operand_in(reading, Scope::now(part), to),
+        (None, Verb::Reply) => Ok(Operand::Caller),
+        (None, _) => {
+            reading.wrong(node.at, "\"send\" wants a member \"to\"")?;
+            Ok(Operand::Caller)
+        }
+    }
+}
+
+/// As what an event is raised.
+fn raised(reading: &mut Reading<'_>, node: &Node<'_>) -> Result<Raised, AllocError> {
+    let Some(kind) = node.member("as") else {
+        return Ok(Raised::Internal);
+    };
+    match (kind.shape, kind.text) {
+        (Shape::Text, "internal") => Ok(Raised::Internal),
+        (Shape::Text, "cast") => Ok(Raised::Cast),
+        (Shape::Text, "info") => Ok(Raised::Info),
+        _ => {
+            reading.wrong(kind.at, "\"internal\", \"cast\" or \"info\" is wanted here")?;
+            Ok(Raised::Internal)
+        }
+    }
+}
+
+/// How long a time-out is to last.
+fn duration(
+    reading: &mut Reading<'_>,
+    part: Part,
+    node: &Node<'_>,
+) -> Result<Expression, AllocError> {
+    match node.member("after") {
+        Some(after) => expression_in(reading, Scope::now(part), after),
+        None => {
+            let text = "\"set\" wants a member \"after\": so many milliseconds, or \"none\"";
+            reading.wrong(node.at, text)?;
+            Ok(nothing(reading.alloc))
+        }
+    }
+}
+
+/// The timer that a member names.
+fn timer_in(reading: &mut Reading<'_>, member: &Node<'_>) -> Result<Timer, AllocError> {
+    let name = text_in(reading, member)?;
+    timer(reading, member.at, name)
+}
+
+/// Reads a setting of a timer.
+fn setting(
+    reading: &mut Reading<'_>,
+    part: Part,
+    node: &Node<'_>,
+    member: &Node<'_>,
+) -> Result<Ask, AllocError> {
+    let timer = timer_in(reading, member)?;
+    let after = duration(reading, part, node)?;
+    let say = said_by_timer(reading, part, node)?;
+    Ok(Ask::Set(timer, after, say))
+}
+
+/// Reads an action on a timer.
+fn timer_ask(
+    reading: &mut Reading<'_>,
+    part: Part,
+    node: &Node<'_>,
+    member: &Node<'_>,
+    verb: Verb,
+) -> Result<Ask, AllocError> {
+    match verb {
+        Verb::Set => setting(reading, part, node, member),
+        Verb::Update => {
+            let timer = timer_in(reading, member)?;
+            Ok(Ask::Update(timer, said_by_timer(reading, part, node)?))
+        }
+        _ => Ok(Ask::Cancel(timer_in(reading, member)?)),
+    }
+}
+
+/// Reads an action that says something.
+fn saying_ask(
+    reading: &mut Reading<'_>,
+    part: Part,
+    node: &Node<'_>,
+    member: &Node<'_>,
+    verb: Verb,
+) -> Result<Ask, AllocError> {
+    if let Verb::Raise = verb {
+        let raised = raised(reading, node)?;
+        return Ok(Ask::Raise(raised, said(reading, part, node, member)?));
+    }
+    let to = to_whom(reading, part, node, verb)?;
+    let say = said(reading, part, node, member)?;
+    Ok(match verb {
+        Verb::Reply => Ask::Reply(to, say),
+        _ => Ask::Send(to, say),
+    })
+}
+
+/// What a verb asks for.
+fn ask_of(
+    reading: &mut Reading<'_>,
+    part: Part,
+    node: &Node<'_>,
+    member: &Node<'_>,
+    verb: Verb,
+) -> Result<Ask, AllocError> {
+    match verb {
+        Verb::Reply | Verb::Raise | Verb::Send => saying_ask(reading, part, node, member, verb),
+        Verb::Set | Verb::Cancel | Verb::Update => timer_ask(reading, part, node, member, verb),
+        Verb::Postpone => Ok(Ask::Postpone),
+        Verb::Hibernate => Ok(Ask::Hibernate),
+    }
+}
+
+const ACTIONS: &str = "one of \"reply\", \"raise\", \"set\", \"cancel\", \"update\", \"send\", \"postpone\" and \"hibernate\" is wanted here";
+
+/// The member of an action that says what it does.
+fn verb_in<'n, 'a>(node: &'n Node<'a>) -> Option<(&'n Node<'a>, Verb, &'static str)> {
+    for part in &node.parts {
+        if let Some((verb, words)) = verb_of(part.key) {
+            return Some((part, verb, words));
+        }
+    }
+    None
+}
+
+/// Reads an action that is an object.
+fn object_action(
+    reading: &mut Reading<'_>,
+    part: Part,
+    node: &Node<'_>,
+    asks: &mut PlainList<Ask>,
+) -> Result<(), AllocError> {
+    let Some((member, verb, words)) = verb_in(node) else {
+        return reading.wrong(node.at, ACTIONS);
+    };
+    is_object_of(reading, node, "this action has no ", words)?;
+    if !is_allowed(reading, verb, part, member.key_at, member.key)? {
+        return Ok(());
+    }
+    if let (Verb::Postpone | Verb::Hibernate, Shape::Null | Shape::False) = (verb, member.shape) {
+        return reading.wrong(member.at, "true is wanted here");
+    }
+    asks.push(ask_of(reading, part, node, member, verb)?)?;
+    Ok(())
+}
+
+/// Reads an action that is a text.
+fn text_action(
+    reading: &mut Reading<'_>,
+    part: Part,
+    node: &Node<'_>,
+    asks: &mut PlainList<Ask>,
+) -> Result<(), AllocError> {
+    let (verb, ask) = match node.text {
+        "postpone" => (Verb::Postpone, Ask::Postpone),
+        "hibernate" => (Verb::Hibernate, Ask::Hibernate),
+        _ => {
+            let text = "an action is \"postpone\", \"hibernate\" or an object";
+            return reading.stands(node.at, text, node.text);
+        }
+    };
+    if is_allowed(reading, verb, part, node.at, node.text)? {
+        asks.push(ask)?;
+    }
+    Ok(())
+}
+
+/// Reads an action.
+fn action(
+    reading: &mut Reading<'_>,
+    part: Part,
+    node: &Node<'_>,
+    asks: &mut PlainList<Ask>,
+) -> Result<(), AllocError> {
+    match node.shape {
+        Shape::Text => text_action(reading, part, node, asks),
+        Shape::Object => object_action(reading, part, node, asks),
+        _ => reading.wrong(node.at, "an action is wanted here: a text or an object"),
+    }
+}
+
+/// Reads an action or a list of actions.
+pub(crate) fn actions(
+    reading: &mut Reading<'_>,
+    part: Part,
+    node: &Node<'_>,
+    asks: &mut PlainList<Ask>,
+) -> Result<(), AllocError> {
+    let (Shape::List) = node.shape else {
+        return action(reading, part, node, asks);
+    };
+    for one in &node.parts {
+        if reading.faults.is_full() {
+            break;
+        }
+        action(reading, part, one, asks)?;
+    }
+    Ok(())
+}

@@ -1,0 +1,239 @@
+//! Rules.
+
+use crate::actions::actions;
+use crate::expressions::{expression_in, nothing, text_expression};
+use crate::guard::guard;
+use crate::members::{description, is_double, is_object_of, is_set};
+use crate::naming::{register, state_in, symbol};
+use crate::reading::Reading;
+use crate::scope::{Part, Scope};
+use crate::tree::{Node, Shape};
+use crate::{Ask, Mark, On, PlainList, Rule, Say, Target, Timer, Update};
+use std::alloc::{AllocError, Global};
+
+/// How many rules a key has at most.
+const MOST_OF_A_KEY: usize = 64;
+
+/// How many rules there are at most, and how many keys they stand under at most.
+pub(crate) const MOST_RULES: usize = 10_000;
+
+/// For what events rules are, and where they stand.
+#[derive(Clone, Copy)]
+pub(crate) struct Heading<'k> {
+    pub(crate) part: Part,
+    pub(crate) on: On,
+    pub(crate) symbol: Option<u32>,
+    /// The key under which they stand.
+    pub(crate) key: &'k str,
+}
+
+/// A rule of which all is to come.
+pub(crate) fn blank_rule(alloc: Global, on: On, symbol: Option<u32>) -> Rule {
+    Rule {
+        on,
+        symbol,
+        guard: PlainList::new(alloc),
+        updates: PlainList::new(alloc),
+        target: Target::Keep,
+        asks: PlainList::new(alloc),
+    }
+}
+
+/// Where a rule stands.
+pub(crate) fn mark(reading: &Reading<'_>, at: usize, key: &str) -> Result<Mark, AllocError> {
+    let spot = reading.places.spot(at);
+    Ok(Mark {
+        line: spot.line,
+        column: spot.column,
+        key: String::from_str(reading.alloc, key)?,
+    })
+}
+
+/// Reads what a rule assigns.
+fn assignments(
+    reading: &mut Reading<'_>,
+    part: Part,
+    node: &Node<'_>,
+    updates: &mut PlainList<Update>,
+) -> Result<(), AllocError> {
+    let (Shape::Object) = node.shape else {
+        return reading.wrong(node.at, "an object is wanted here: registers and their values");
+    };
+    for member in &node.parts {
+        if reading.faults.is_full() {
+            break;
+        }
+        is_double(reading, node, member)?;
+        let register = register(reading, member.key_at, member.key)?;
+        let value = expression_in(reading, Scope::assignment(part), member)?;
+        updates.push(Update { register, value })?;
+    }
+    Ok(())
+}
+
+/// Notes a member of a rule that cannot stand with another, or in its part.
+fn refuse(
+    reading: &mut Reading<'_>,
+    node: &Node<'_>,
+    key: &str,
+    after: &str,
+) -> Result<(), AllocError> {
+    match node.member(key) {
+        Some(member) => reading.wrong_name(member.key_at, "", key, after),
+        None => Ok(()),
+    }
+}
+
+/// Notes what cannot stand with one another, or in the part.
+fn check_target(
+    reading: &mut Reading<'_>,
+    part: Part,
+    node: &Node<'_>,
+    repeats: bool,
+) -> Result<(), AllocError> {
+    if let Part::Entry = part {
+        refuse(reading, node, "target", " cannot stand in an entry, which leads to no other state")?;
+    }
+    if repeats && matches!(part, Part::Entry | Part::Start) {
+        refuse(reading, node, "reenter", " stands in rules of events alone")?;
+    }
+    if node.member("stop").is_some() {
+        refuse(reading, node, "target", " cannot stand beside \"stop\"")?;
+        refuse(reading, node, "reenter", " cannot stand beside \"stop\"")?;
+    }
+    if repeats && node.member("target").is_some() {
+        refuse(reading, node, "reenter", " cannot stand beside \"target\"")?;
+    }
+    Ok(())
+}
+
+/// Where a rule leads.
+fn target(reading: &mut Reading<'_>, part: Part, node: &Node<'_>) -> Result<Target, AllocError> {
+    let repeats = is_set(reading, node, "reenter")?;
+    check_target(reading, part, node, repeats)?;
+    if let Some(reason) = node.member("stop") {
+        return Ok(Target::Stop(expression_in(reading, Scope::now(part), reason)?));
+    }
+    if let Some(place) = node.member("target") {
+        return Ok(Target::Next(state_in(reading, place)?));
+    }
+    Ok(if repeats { Target::Repeat } else { Target::Keep })
+}
+
+/// Reads the guard and the assignments of a rule.
+fn fill_first(
+    reading: &mut Reading<'_>,
+    part: Part,
+    node: &Node<'_>,
+    rule: &mut Rule,
+) -> Result<(), AllocError> {
+    if let Some(member) = node.member("guard") {
+        guard(reading, Scope::now(part), member, &mut rule.guard)?;
+    }
+    if let Some(member) = node.member("assign") {
+        assignments(reading, part, member, &mut rule.updates)?;
+    }
+    Ok(())
+}
+
+/// Reads a rule that is an object.
+fn fill(
+    reading: &mut Reading<'_>,
+    part: Part,
+    node: &Node<'_>,
+    rule: &mut Rule,
+) -> Result<(), AllocError> {
+    let words = "guard target reenter stop assign actions description";
+    if !is_object_of(reading, node, "a rule has no ", words)? {
+        return Ok(());
+    }
+    description(reading, node)?;
+    fill_first(reading, part, node, rule)?;
+    rule.target = target(reading, part, node)?;
+    if let Some(member) = node.member("actions") {
+        actions(reading, part, member, &mut rule.asks)?;
+    }
+    Ok(())
+}
+
+/// Adds that the state time-out is set for so long as a member's key says.
+pub(crate) fn add_after(
+    reading: &mut Reading<'_>,
+    member: &Node<'_>,
+    asks: &mut PlainList<Ask>,
+) -> Result<(), AllocError> {
+    let scope = Scope::now(Part::Entry);
+    let time = text_expression(reading, scope, member.key_at, member.key)?;
+    let say = Say {
+        symbol: symbol(reading, member.key_at, "timeout")?,
+        argument: nothing(reading.alloc),
+    };
+    asks.push(Ask::Set(Timer::State, time, say))?;
+    Ok(())
+}
+
+/// Reads a rule: an object, or for events a state's name. An entry sets the state's time-out, if there is one.
+fn rule(
+    reading: &mut Reading<'_>,
+    heading: Heading<'_>,
+    after: Option<&Node<'_>>,
+    node: &Node<'_>,
+) -> Result<Rule, AllocError> {
+    let mut rule = blank_rule(reading.alloc, heading.on, heading.symbol);
+    match (node.shape, heading.part) {
+        (Shape::Text, Part::Call | Part::Event) => {
+            rule.target = Target::Next(state_in(reading, node)?);
+        }
+        _ => fill(reading, heading.part, node, &mut rule)?,
+    }
+    if let Some(member) = after {
+        add_after(reading, member, &mut rule.asks)?;
+    }
+    Ok(rule)
+}
+
+/// Reads a rule to the end of others.
+fn add_rule(
+    reading: &mut Reading<'_>,
+    heading: Heading<'_>,
+    after: Option<&Node<'_>>,
+    node: &Node<'_>,
+    rules: &mut PlainList<Rule>,
+    marks: &mut PlainList<Mark>,
+) -> Result<(), AllocError> {
+    if reading.rules > MOST_RULES {
+        return Ok(());
+    }
+    reading.rules += 1;
+    if reading.rules > MOST_RULES {
+        return reading.wrong(node.at, "more than 10,000 rules");
+    }
+    marks.push(mark(reading, node.at, heading.key)?)?;
+    rules.push(rule(reading, heading, after, node)?)?;
+    Ok(())
+}
+
+/// Reads the rules of a key: one, or a list. Of entries it is told the member that says how long the state's time-out lasts,
+/// if there is one.
+pub(crate) fn rules_in(
+    reading: &mut Reading<'_>,
+    heading: Heading<'_>,
+    after: Option<&Node<'_>>,
+    node: &Node<'_>,
+    rules: &mut PlainList<Rule>,
+    marks: &mut PlainList<Mark>,
+) -> Result<(), AllocError> {
+    let (Shape::List) = node.shape else {
+        return add_rule(reading, heading, after, node, rules, marks);
+    };
+    for (place, one) in node.parts.iter().enumerate() {
+        if place == MOST_OF_A_KEY {
+            return reading.wrong(one.at, "more than 64 rules of one key");
+        }
+        if reading.faults.is_full() {
+            break;
+        }
+        add_rule(reading, heading, after, one, rules, marks)?;
+    }
+    Ok(())
+}
