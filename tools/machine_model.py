@@ -542,7 +542,7 @@ class Session:
                 other = self.machines[target]
                 text = f"  {name} sends {self.content(content, machine)} to {self.name_of(target)}"
                 if other is None or other.ended:
-                    self.say(text + (", which is not there" if other is None else ", which has stopped"))
+                    self.say(text + ", lost")
                 else:
                     self.say(text)
                     other.post("info", content)
@@ -617,7 +617,6 @@ class Session:
         elif words[0] == "stop":
             machine.end(int(words[1]))
             self.touched.append(machine)
-            self.say(f"  {self.name_of(machine.id)} stopped {machine.ended[0]} word {machine.ended[1]}")
             self.collect(machine)
         else:
             machine.post(words[0], (words[1], self.value(words[2]) if len(words) > 2 else None))

@@ -2,20 +2,27 @@
 
 use crate::failure::Failure;
 use crate::files::wanted_bytes;
+use crate::put;
 use crate::shelf::Files;
 use crossbeam_channel::{Receiver, RecvTimeoutError, Sender, bounded};
 use st_machine::{Format, Opened, Session, open_text};
 use std::alloc::Global;
 use std::io::Write;
+use std::rt::Clock;
 use std::sync::Wait;
-use std::thread;
+use std::thread::{self, Threads};
 use std::time::{Duration, Instant};
 
 /// How long is waited for a line where no time-out runs, in milliseconds.
 const LONGEST_WAIT: u64 = 3_600_000;
 
+/// What a thread that reads carries, and what waits for lines and moments.
+pub(crate) trait Live: Input + AllocGlobal + Clock + Wait + Threads + Copy + Send {}
+
+impl<R: Input + AllocGlobal + Clock + Wait + Threads + Copy + Send> Live for R {}
+
 /// Sends each line of the input, until it ends or nobody takes them any more.
-fn pump<R: Input + Alloc<A = Global> + Wait>(rt: &R, lines: &Sender<String, Global>) {
+fn pump<R: Live>(rt: &R, lines: &Sender<String, Global>) {
     for line in rt.lines(rt.alloc()) {
         let Ok(line) = line else {
             return;
@@ -53,6 +60,7 @@ fn written(rt: &HostRuntime, out: &mut Vec<u8>) -> Result<(), Failure> {
 }
 
 /// What came next: a line, that time has passed, or that no line comes any more.
+#[derive(Drop)]
 enum Came {
     Line(String),
     Time,
@@ -60,8 +68,8 @@ enum Came {
 }
 
 /// Waits for a line, or until a moment.
-fn next(rt: &HostRuntime, lines: &Receiver<String, Global>, wait: Duration) -> Came {
-    match lines.recv_timeout(rt, wait) {
+fn next<R: Live>(threads: R, lines: &Receiver<String, Global>, wait: Duration) -> Came {
+    match lines.recv_timeout(&threads, wait) {
         Ok(line) => Came::Line(line),
         Err(RecvTimeoutError::Timeout) => Came::Time,
         Err(RecvTimeoutError::Disconnected) => Came::End,
@@ -100,19 +108,24 @@ fn is_over(session: &Session, has_lines: bool) -> bool {
 }
 
 /// Takes lines and lets time pass, until nothing can happen any more.
-fn serve(rt: &HostRuntime, session: &mut Session, lines: &Receiver<String, Global>) -> Result<u8, Failure> {
+fn serve<R: Live>(
+    rt: &HostRuntime,
+    threads: R,
+    session: &mut Session,
+    lines: &Receiver<String, Global>,
+) -> Result<u8, Failure> {
     let Ok(start) = Instant::now(rt) else {
         return Err(Failure::System);
     };
     let mut out = Vec::new(rt.alloc());
     let mut has_lines = true;
-    for _ in rt.forever() {
+    for _ in threads.forever() {
         if is_over(session, has_lines) {
             break;
         }
         if has_lines {
             let wait = wait_until(session.next_due(), passed(rt, start)?);
-            let came = next(rt, lines, wait);
+            let came = next(threads, lines, wait);
             has_lines = take(rt, session, came, start, &mut out)?;
         } else {
             sleep(rt, session, start, &mut out)?;
@@ -126,16 +139,20 @@ fn serve(rt: &HostRuntime, session: &mut Session, lines: &Receiver<String, Globa
 
 /// Runs events that come while the clock goes on. It ends when each machine has ended, or when no line comes any more and
 /// no time-out runs.
-pub(crate) fn run_live(rt: &HostRuntime, file: &str, format: Format) -> Result<u8, Failure> {
+pub(crate) fn run_live<R: Live + 'static>(
+    rt: &HostRuntime,
+    threads: R,
+    file: &str,
+    format: Format,
+) -> Result<u8, Failure> {
     let text = wanted_bytes(rt, file)?;
     let mut session = match open_text(rt.alloc(), file, text.as_slice(), format)? {
         Opened::Session(session) => session,
-        Opened::Faults(output) => return crate::written(rt, &output),
+        Opened::Faults(output) => return put(rt, &output),
     };
-    let threads = *rt;
     let (to, from) = bounded(rt.alloc(), 16)?;
-    let Ok(_reader) = thread::spawn(rt, move || pump(&threads, &to)) else {
+    let Ok(_reader) = thread::spawn(&threads, move || pump(&threads, &to)) else {
         return Err(Failure::System);
     };
-    serve(rt, &mut session, &from)
+    serve(rt, threads, &mut session, &from)
 }

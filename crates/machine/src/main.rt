@@ -11,45 +11,56 @@ mod words;
 
 use crate::failure::Failure;
 use crate::files::{input_bytes, wanted_bytes};
-use crate::live::run_live;
+use crate::live::{Live, run_live};
 use crate::order::Order;
 use crate::shelf::Files;
 use crate::words::read_words;
 use clap::Error;
 use clap::error::ErrorKind;
-use st_chart_views::Drawing;
-use st_machine::{Format, Output, check_text, draw_text, format_text, run_text, schema, test_text};
+use st_machine::{
+    Drawing, Format, Output, check_text, draw_text, format_text, run_text, schema, test_text,
+};
 use std::process::ExitCode;
 use std::{env, fs, io};
 
 /// The status of words that are at fault.
 const WORDS_AT_FAULT: u8 = 2;
 
-/// Writes what was made: the text to standard output, and faults to standard error.
-fn written(rt: &HostRuntime, output: &Output) -> Result<u8, Failure> {
-    let _ = io::Write::write_all(&mut rt.stderr(), output.faults.as_slice());
-    match io::Write::write_all(&mut rt.stdout(), output.text.as_slice()) {
-        Ok(()) => Ok(output.status),
+/// Writes a text to standard output, and faults to standard error; the status is as it was.
+fn written(rt: &HostRuntime, text: &[u8], faults: &[u8], status: u8) -> Result<u8, Failure> {
+    let _ = io::Write::write_all(&mut rt.stderr(), faults);
+    match io::Write::write_all(&mut rt.stdout(), text) {
+        Ok(()) => Ok(status),
         Err(_error) => Err(Failure::Unwritten(String::from_str(rt.alloc(), "standard output")?)),
     }
+}
+
+/// Writes what was made of a description.
+fn put(rt: &HostRuntime, output: &Output) -> Result<u8, Failure> {
+    written(
+        rt,
+        output.text.as_slice(),
+        output.faults.as_slice(),
+        output.status,
+    )
 }
 
 /// Tells what is wrong with a description.
 fn check(rt: &HostRuntime, file: &str) -> Result<u8, Failure> {
     let text = wanted_bytes(rt, file)?;
-    written(rt, &check_text(rt.alloc(), file, text.as_slice())?)
+    put(rt, &check_text(rt.alloc(), file, text.as_slice())?)
 }
 
 /// Draws a description.
 fn draw(rt: &HostRuntime, file: &str, drawing: Drawing) -> Result<u8, Failure> {
     let text = wanted_bytes(rt, file)?;
-    written(rt, &draw_text(rt.alloc(), file, text.as_slice(), drawing)?)
+    put(rt, &draw_text(rt.alloc(), file, text.as_slice(), drawing)?)
 }
 
 /// Prints a description laid out.
 fn format(rt: &HostRuntime, file: &str) -> Result<u8, Failure> {
     let text = wanted_bytes(rt, file)?;
-    written(rt, &format_text(rt.alloc(), file, text.as_slice())?)
+    put(rt, &format_text(rt.alloc(), file, text.as_slice())?)
 }
 
 /// Runs events.
@@ -64,7 +75,7 @@ fn run(rt: &HostRuntime, file: &str, format: Format) -> Result<u8, Failure> {
         format,
         &mut Files { rt },
     )?;
-    written(rt, &output)
+    put(rt, &output)
 }
 
 /// Runs cases, and compares what they print; or writes it.
@@ -79,7 +90,12 @@ fn test(rt: &HostRuntime, file: &str, cases: &str, writes: bool) -> Result<u8, F
         &mut Files { rt },
     )?;
     if !writes {
-        return written(rt, &tested.output);
+        return written(
+            rt,
+            tested.text.as_slice(),
+            tested.faults.as_slice(),
+            tested.status,
+        );
     }
     match fs::write(rt, cases, tested.written.as_slice()) {
         Ok(()) => Ok(0),
@@ -96,13 +112,13 @@ fn print_schema(rt: &HostRuntime) -> Result<u8, Failure> {
 }
 
 /// Does what is asked for, and returns the status.
-fn done(rt: &HostRuntime, order: Order) -> Result<u8, Failure> {
+fn done<R: Live + 'static>(rt: &HostRuntime, threads: R, order: Order) -> Result<u8, Failure> {
     match order {
         Order::Check(file) => check(rt, file.as_str()),
         Order::Draw(file, drawing) => draw(rt, file.as_str(), drawing),
         Order::Write(file) => format(rt, file.as_str()),
         Order::Run(file, format) => run(rt, file.as_str(), format),
-        Order::Live(file, format) => run_live(rt, file.as_str(), format),
+        Order::Live(file, format) => run_live(rt, threads, file.as_str(), format),
         Order::Test(file, cases) => test(rt, file.as_str(), cases.as_str(), false),
         Order::Rewrite(file, cases) => test(rt, file.as_str(), cases.as_str(), true),
         Order::Schema => print_schema(rt),
@@ -127,13 +143,13 @@ fn told(rt: &HostRuntime, error: &Error) -> Result<u8, Failure> {
 }
 
 /// Reads the words, and does what they ask for.
-fn asked(rt: &HostRuntime) -> Result<u8, Failure> {
+fn asked<R: Live + 'static>(rt: &HostRuntime, threads: R) -> Result<u8, Failure> {
     let words: Vec<String> = match env::args(rt) {
         Ok(words) => words.collect(rt.alloc())?,
         Err(_error) => return Err(Failure::System),
     };
     match read_words(rt.alloc(), words.as_slice()) {
-        Ok(order) => done(rt, order),
+        Ok(order) => done(rt, threads, order),
         Err(error) => told(rt, &error),
     }
 }
@@ -165,7 +181,7 @@ fn ended(rt: &HostRuntime, failure: Failure) -> u8 {
 }
 
 fn main(rt: HostRuntime) -> ExitCode {
-    match asked(&rt) {
+    match asked(&rt, rt) {
         Ok(status) => ExitCode::from(status),
         Err(failure) => ExitCode::from(ended(&rt, failure)),
     }

@@ -1,7 +1,6 @@
 //! What a command line asks for.
 
-use st_chart_views::Drawing;
-use st_machine::Format;
+use st_machine::{Drawing, Format};
 
 /// What the program is asked to do.
 #[derive(Drop)]

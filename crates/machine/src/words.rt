@@ -2,8 +2,7 @@
 
 use crate::order::Order;
 use clap::{Arg, ArgAction, ArgMatches, Command, Error};
-use st_chart_views::Drawing;
-use st_machine::Format;
+use st_machine::{Drawing, Format};
 use std::alloc::{AllocError, Global};
 
 const VERSION: &str = "1.0.0";
