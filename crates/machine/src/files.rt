@@ -2,32 +2,30 @@
 
 use crate::failure::Failure;
 use std::alloc::{AllocError, Global};
+use std::io::{self, ErrorKind, Read};
 use std::fs;
-use std::io::Read;
 
 /// The most bytes that may be read of a file.
-pub(crate) const FILE_LIMIT: u64 = 1_048_576;
+const FILE_LIMIT: u64 = 1_048_576;
 
-/// The bytes that a reader has, at most one more than the limit. `None` where a read fails.
-fn bytes_of<R: Read + Drop>(alloc: Global, reader: R) -> Option<Vec<u8>> {
+/// The bytes that a reader has, at most one more than the limit.
+fn bytes_of<R: Read + Drop>(alloc: Global, reader: R) -> io::Result<Vec<u8>> {
     let mut bytes = Vec::new(alloc);
     let mut limited = reader.take(FILE_LIMIT + 1);
-    match limited.read_to_end(&mut bytes) {
-        Ok(_count) => Some(bytes),
-        Err(_error) => None,
-    }
+    limited.read_to_end(&mut bytes)?;
+    Ok(bytes)
 }
 
-/// The bytes of a file, at most one more than the limit. `None` where it cannot be read.
-pub(crate) fn file_bytes(rt: &HostRuntime, name: &str) -> Option<Vec<u8>> {
-    match fs::open(rt, name) {
-        Ok(file) => bytes_of(rt.alloc(), file),
-        Err(_error) => None,
-    }
+/// The bytes of a file, at most one more than the limit.
+pub(crate) fn file_bytes(rt: &HostRuntime, name: &str) -> io::Result<Vec<u8>> {
+    bytes_of(rt.alloc(), fs::open(rt, name)?)
 }
 
-/// A failure with a name.
-pub(crate) fn unread(alloc: Global, name: &str) -> Failure {
+/// Why the program cannot go on, where something of a name was not read.
+fn unread(alloc: Global, name: &str, kind: ErrorKind) -> Failure {
+    if kind == ErrorKind::OutOfMemory {
+        return Failure::Memory;
+    }
     match String::from_str(alloc, name) {
         Ok(name) => Failure::Unread(name),
         Err(AllocError) => Failure::Memory,
@@ -37,18 +35,16 @@ pub(crate) fn unread(alloc: Global, name: &str) -> Failure {
 /// The bytes of a file that is to be there.
 pub(crate) fn wanted_bytes(rt: &HostRuntime, name: &str) -> Result<Vec<u8>, Failure> {
     match file_bytes(rt, name) {
-        Some(bytes) => Ok(bytes),
-        None => Err(unread(rt.alloc(), name)),
+        Ok(bytes) => Ok(bytes),
+        Err(error) => Err(unread(rt.alloc(), name, error.kind())),
     }
 }
 
 /// The bytes of standard input.
 pub(crate) fn input_bytes(rt: &HostRuntime) -> Result<Vec<u8>, Failure> {
-    let Some(bytes) = bytes_of(rt.alloc(), rt.stdin()) else {
-        return Err(unread(rt.alloc(), "standard input"));
-    };
-    if bytes.len() as u64 > FILE_LIMIT {
-        return Err(Failure::TooLong);
+    match bytes_of(rt.alloc(), rt.stdin()) {
+        Ok(bytes) if bytes.len() as u64 > FILE_LIMIT => Err(Failure::TooLong),
+        Ok(bytes) => Ok(bytes),
+        Err(error) => Err(unread(rt.alloc(), "standard input", error.kind())),
     }
-    Ok(bytes)
 }

@@ -146,7 +146,7 @@ fn told(rt: &HostRuntime, error: &Error) -> Result<u8, Failure> {
 fn asked<R: Live + 'static>(rt: &HostRuntime, threads: R) -> Result<u8, Failure> {
     let words: Vec<String> = match env::args(rt) {
         Ok(words) => words.collect(rt.alloc())?,
-        Err(_error) => return Err(Failure::System),
+        Err(_error) => return Err(Failure::Memory),
     };
     match read_words(rt.alloc(), words.as_slice()) {
         Ok(order) => done(rt, threads, order),
@@ -174,7 +174,7 @@ fn ended(rt: &HostRuntime, failure: Failure) -> u8 {
             3
         }
         Failure::System => {
-            let _ = eprintln!(rt; "machine: the system gives no clock, no thread or no words");
+            let _ = eprintln!(rt; "machine: the system gives no clock or no thread");
             3
         }
     }
