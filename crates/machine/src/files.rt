@@ -2,8 +2,8 @@
 
 use crate::failure::Failure;
 use std::alloc::{AllocError, Global};
-use std::io::{self, ErrorKind, Read};
 use std::fs;
+use std::io::{self, ErrorKind, Read};
 
 /// The most bytes that may be read of a file.
 const FILE_LIMIT: u64 = 1_048_576;

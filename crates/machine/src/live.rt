@@ -96,7 +96,12 @@ fn take(
 }
 
 /// Waits until the next time-out is due, where no line comes any more.
-fn sleep(rt: &HostRuntime, session: &mut Session, start: Instant, out: &mut Vec<u8>) -> Result<(), Failure> {
+fn sleep(
+    rt: &HostRuntime,
+    session: &mut Session,
+    start: Instant,
+    out: &mut Vec<u8>,
+) -> Result<(), Failure> {
     let wait = wait_until(session.next_due(), passed(rt, start)?);
     thread::sleep(rt, wait);
     Ok(session.pass(passed(rt, start)?, out)?)

@@ -135,7 +135,10 @@ fn told(rt: &HostRuntime, error: &Error) -> Result<u8, Failure> {
     if error.kind() == ErrorKind::DisplayHelp || error.kind() == ErrorKind::DisplayVersion {
         return match print!(rt; "{text}") {
             Ok(()) => Ok(0),
-            Err(_error) => Err(Failure::Unwritten(String::from_str(rt.alloc(), "standard output")?)),
+            Err(_error) => Err(Failure::Unwritten(String::from_str(
+                rt.alloc(),
+                "standard output",
+            )?)),
         };
     }
     let _ = eprint!(rt; "{text}");

@@ -17,11 +17,7 @@ const EXAMPLES: &str = "Examples:
 docs/MACHINES.md says how a description is written.";
 
 /// A subcommand about a description.
-fn about_file<'a>(
-    alloc: Global,
-    name: &'a str,
-    help: &'a str,
-) -> Result<Command<'a>, AllocError> {
+fn about_file<'a>(alloc: Global, name: &'a str, help: &'a str) -> Result<Command<'a>, AllocError> {
     let file = Arg::new(alloc, "FILE")
         .required(true)
         .help("The description, a JSON file");
@@ -100,8 +96,9 @@ fn program<'a>(alloc: Global) -> Result<Command<'a>, AllocError> {
         "Tells what is wrong with a description, and what looks wrong",
     )?;
     let format = about_file(alloc, "format", "Prints a description laid out")?;
-    let schema =
-        Command::new(alloc, "schema").about("Prints the format of descriptions as a JSON Schema");
+    let schema = Command::new(alloc, "schema").about(
+        "Prints the format of descriptions as a JSON Schema",
+    );
     let with_views = bare
         .subcommand(check)?
         .subcommand(draw(alloc)?)?

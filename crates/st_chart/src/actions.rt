@@ -1,6 +1,7 @@
 //! Actions of rules.
 
 use crate::expressions::{expression_in, nothing, operand_in};
+use crate::lists::add_to;
 use crate::members::is_object_of;
 use crate::naming::{symbol, text_in, timer};
 use crate::reading::Reading;
@@ -22,18 +23,32 @@ enum Verb {
     Hibernate,
 }
 
-/// What the key of an action says, and the members that it may have.
-fn verb_of(key: &str) -> Option<(Verb, &'static str)> {
+/// What the key of an action says.
+fn verb_of(key: &str) -> Option<Verb> {
     match key {
-        "reply" => Some((Verb::Reply, "reply with to")),
-        "raise" => Some((Verb::Raise, "raise with as")),
-        "set" => Some((Verb::Set, "set after say with")),
-        "cancel" => Some((Verb::Cancel, "cancel")),
-        "update" => Some((Verb::Update, "update say with")),
-        "send" => Some((Verb::Send, "send with to")),
-        "postpone" => Some((Verb::Postpone, "postpone")),
-        "hibernate" => Some((Verb::Hibernate, "hibernate")),
+        "reply" => Some(Verb::Reply),
+        "raise" => Some(Verb::Raise),
+        "set" => Some(Verb::Set),
+        "cancel" => Some(Verb::Cancel),
+        "update" => Some(Verb::Update),
+        "send" => Some(Verb::Send),
+        "postpone" => Some(Verb::Postpone),
+        "hibernate" => Some(Verb::Hibernate),
         _ => None,
+    }
+}
+
+/// The members that an action may have.
+fn words_of(verb: Verb) -> &'static str {
+    match verb {
+        Verb::Reply => "reply with to",
+        Verb::Raise => "raise with as",
+        Verb::Set => "set after say with",
+        Verb::Cancel => "cancel",
+        Verb::Update => "update say with",
+        Verb::Send => "send with to",
+        Verb::Postpone => "postpone",
+        Verb::Hibernate => "hibernate",
     }
 }
 
@@ -212,6 +227,14 @@ fn saying_ask(
     })
 }
 
+/// What a verb asks for that says all.
+fn short_ask(verb: Verb) -> Ask {
+    match verb {
+        Verb::Postpone => Ask::Postpone,
+        _ => Ask::Hibernate,
+    }
+}
+
 /// What a verb asks for.
 fn ask_of(
     reading: &mut Reading<'_>,
@@ -223,21 +246,37 @@ fn ask_of(
     match verb {
         Verb::Reply | Verb::Raise | Verb::Send => saying_ask(reading, part, node, member, verb),
         Verb::Set | Verb::Cancel | Verb::Update => timer_ask(reading, part, node, member, verb),
-        Verb::Postpone => Ok(Ask::Postpone),
-        Verb::Hibernate => Ok(Ask::Hibernate),
+        Verb::Postpone | Verb::Hibernate => Ok(short_ask(verb)),
     }
 }
 
-const ACTIONS: &str = "one of \"reply\", \"raise\", \"set\", \"cancel\", \"update\", \"send\", \"postpone\" and \"hibernate\" is wanted here";
+const ACTIONS: &str =
+    "one of \"reply\", \"raise\", \"set\", \"cancel\", \"update\", \"send\", \"postpone\" and \"hibernate\" is wanted here";
 
 /// The member of an action that says what it does.
-fn verb_in<'n, 'a>(node: &'n Node<'a>) -> Option<(&'n Node<'a>, Verb, &'static str)> {
+fn verb_in<'n, 'a>(node: &'n Node<'a>) -> Option<(&'n Node<'a>, Verb)> {
     for part in &node.parts {
-        if let Some((verb, words)) = verb_of(part.key) {
-            return Some((part, verb, words));
+        if let Some(verb) = verb_of(part.key) {
+            return Some((part, verb));
         }
     }
     None
+}
+
+/// Whether an action that is an object may stand where it stands, with what it has. If not, a fault is noted.
+fn is_fit(
+    reading: &mut Reading<'_>,
+    part: Part,
+    node: &Node<'_>,
+    member: &Node<'_>,
+    verb: Verb,
+) -> Result<bool, AllocError> {
+    is_object_of(reading, node, "this action has no ", words_of(verb))?;
+    if let (Verb::Postpone | Verb::Hibernate, Shape::Null | Shape::False) = (verb, member.shape) {
+        reading.wrong(member.at, "true is wanted here")?;
+        return Ok(false);
+    }
+    is_allowed(reading, verb, part, member.key_at, member.key)
 }
 
 /// Reads an action that is an object.
@@ -247,18 +286,14 @@ fn object_action(
     node: &Node<'_>,
     asks: &mut PlainList<Ask>,
 ) -> Result<(), AllocError> {
-    let Some((member, verb, words)) = verb_in(node) else {
+    let Some((member, verb)) = verb_in(node) else {
         return reading.wrong(node.at, ACTIONS);
     };
-    is_object_of(reading, node, "this action has no ", words)?;
-    if !is_allowed(reading, verb, part, member.key_at, member.key)? {
+    if !is_fit(reading, part, node, member, verb)? {
         return Ok(());
     }
-    if let (Verb::Postpone | Verb::Hibernate, Shape::Null | Shape::False) = (verb, member.shape) {
-        return reading.wrong(member.at, "true is wanted here");
-    }
-    asks.push(ask_of(reading, part, node, member, verb)?)?;
-    Ok(())
+    let ask = ask_of(reading, part, node, member, verb)?;
+    add_to(asks, ask)
 }
 
 /// Reads an action that is a text.
@@ -268,18 +303,18 @@ fn text_action(
     node: &Node<'_>,
     asks: &mut PlainList<Ask>,
 ) -> Result<(), AllocError> {
-    let (verb, ask) = match node.text {
-        "postpone" => (Verb::Postpone, Ask::Postpone),
-        "hibernate" => (Verb::Hibernate, Ask::Hibernate),
+    let verb = match node.text {
+        "postpone" => Verb::Postpone,
+        "hibernate" => Verb::Hibernate,
         _ => {
             let text = "an action is \"postpone\", \"hibernate\" or an object";
             return reading.stands(node.at, text, node.text);
         }
     };
-    if is_allowed(reading, verb, part, node.at, node.text)? {
-        asks.push(ask)?;
+    if !is_allowed(reading, verb, part, node.at, node.text)? {
+        return Ok(());
     }
-    Ok(())
+    add_to(asks, short_ask(verb))
 }
 
 /// Reads an action.

@@ -65,6 +65,14 @@ fn kind_of(class: Class) -> On {
     }
 }
 
+/// In which part the rules of a key stand.
+fn part_of(class: Class) -> Part {
+    match class {
+        Class::Call => Part::Call,
+        _ => Part::Event,
+    }
+}
+
 /// Which time-outs are of a name.
 fn timeout_of(timer: Timer) -> On {
     match timer {
@@ -96,32 +104,52 @@ fn whole_key(alloc: Global, kind: &str, name: &str) -> Result<String, AllocError
     }
 }
 
-/// Notes a key that is none, or that stands a second time. Those before it are numbered, and stand at these bytes.
+/// Whether a key comes in for the first time.
+fn is_first(alloc: Global, keys: &mut Names, kind: &str, name: &str) -> Result<bool, AllocError> {
+    let before = keys.len();
+    let whole = whole_key(alloc, kind, name)?;
+    match keys.number(alloc, whole.as_str()) {
+        Ok(_) => Ok(keys.len() > before),
+        Err(error) => Err(error),
+    }
+}
+
+/// Where a key stands first that means this.
+fn first_at(on: &Node<'_>, kind: &str, name: &str) -> Option<usize> {
+    for part in &on.parts {
+        if let Some((_, other_kind, other_name)) = parted(part.key) {
+            if other_kind == kind && other_name == name {
+                return Some(part.key_at);
+            }
+        }
+    }
+    None
+}
+
+/// Notes a key that is none, or that stands a second time.
 fn check_key(
     reading: &mut Reading<'_>,
+    on: &Node<'_>,
     part: &Node<'_>,
     keys: &mut Names,
-    places: &mut Vec<usize>,
 ) -> Result<(), AllocError> {
     let Some((_, kind, name)) = parted(part.key) else {
         let text = "a key is call, cast, info, internal, timeout or *, a blank, and a name or *";
         return reading.stands(part.key_at, text, part.key);
     };
-    let whole = whole_key(reading.alloc, kind, name)?;
-    let number = keys.number(reading.alloc, whole.as_str())?;
-    match places.get(number as usize) {
-        Some(first) => reading.double(part.key_at, part.key, *first),
-        None => {
-            places.push(part.key_at)?;
-            Ok(())
-        }
+    if is_first(reading.alloc, keys, kind, name)? {
+        return Ok(());
     }
+    let first = first_at(on, kind, name).unwrap_or(on.at);
+    reading.double(part.key_at, part.key, first)
 }
 
 /// Notes keys that are none, or that stand a second time.
-fn check_keys(reading: &mut Reading<'_>, on: &Node<'_>) -> Result<(), AllocError> {
-    let mut keys = Names::new(reading.alloc);
-    let mut places = Vec::new(reading.alloc);
+fn check_keys(
+    reading: &mut Reading<'_>,
+    on: &Node<'_>,
+    keys: &mut Names,
+) -> Result<(), AllocError> {
     for (place, part) in on.parts.iter().enumerate() {
         if place == MOST_RULES {
             return reading.wrong(part.key_at, "more than 10,000 keys");
@@ -129,12 +157,32 @@ fn check_keys(reading: &mut Reading<'_>, on: &Node<'_>) -> Result<(), AllocError
         if reading.faults.is_full() {
             break;
         }
-        check_key(reading, part, &mut keys, &mut places)?;
+        check_key(reading, on, part, keys)?;
     }
     Ok(())
 }
 
-/// Reads the rules of one key.
+/// Reads the rules of a key, which is written so with one blank.
+fn headed(
+    reading: &mut Reading<'_>,
+    part: &Node<'_>,
+    class: Class,
+    name: &str,
+    key: &str,
+    rules: &mut PlainList<Rule>,
+    marks: &mut PlainList<Mark>,
+) -> Result<(), AllocError> {
+    let (on, symbol) = events_of(reading, part.key_at, class, name)?;
+    let heading = Heading {
+        part: part_of(class),
+        on,
+        symbol,
+        key,
+    };
+    rules_in(reading, heading, None, part, rules, marks)
+}
+
+/// Reads the rules of a key. One without rules gives its name no number.
 fn keyed(
     reading: &mut Reading<'_>,
     part: &Node<'_>,
@@ -142,19 +190,12 @@ fn keyed(
     rules: &mut PlainList<Rule>,
     marks: &mut PlainList<Mark>,
 ) -> Result<(), AllocError> {
+    if matches!(part.shape, Shape::List) && part.parts.is_empty() {
+        return Ok(());
+    }
     let (class, kind, name) = key;
-    let (on, symbol) = events_of(reading, part.key_at, class, name)?;
     let whole = whole_key(reading.alloc, kind, name)?;
-    let heading = Heading {
-        part: match class {
-            Class::Call => Part::Call,
-            _ => Part::Event,
-        },
-        on,
-        symbol,
-        key: whole.as_str(),
-    };
-    rules_in(reading, heading, None, part, rules, marks)
+    headed(reading, part, class, name, whole.as_str(), rules, marks)
 }
 
 /// Reads the rules of the keys of one rank.
@@ -194,16 +235,6 @@ fn after_rules(
     rules_in(reading, heading, None, after, rules, marks)
 }
 
-/// Where a key of the state time-out stands among keys.
-fn state_timeout_at(on: &Node<'_>) -> Option<usize> {
-    for part in &on.parts {
-        if let Some((Class::Timeout, _, "state")) = parted(part.key) {
-            return Some(part.key_at);
-        }
-    }
-    None
-}
-
 /// Notes what is wrong in the keys of rules of events, and that a state has two keys of its time-out.
 fn check_on(
     reading: &mut Reading<'_>,
@@ -213,8 +244,9 @@ fn check_on(
     let (Shape::Object) = on.shape else {
         return reading.wrong(on.at, "an object is wanted here");
     };
-    check_keys(reading, on)?;
-    match (state_timeout_at(on), after) {
+    let mut keys = Names::new(reading.alloc);
+    check_keys(reading, on, &mut keys)?;
+    match (first_at(on, "timeout", "state"), after) {
         (Some(at), Some(after)) => {
             let (first, second) = (at.min(after.key_at), at.max(after.key_at));
             reading.double(second, "timeout state", first)

@@ -1,5 +1,6 @@
 //! Expressions.
 
+use crate::lists::add_to;
 use crate::operand::{number, operand};
 use crate::reading::Reading;
 use crate::scope::Scope;
@@ -82,8 +83,7 @@ fn further_term(
     }
     words.advance();
     let operand = operand(reading, scope, words)?;
-    terms.push(Term { operator, operand })?;
-    Ok(())
+    add_to(terms, Term { operator, operand })
 }
 
 /// Reads the terms of an expression, of which so many brackets are open.
@@ -105,7 +105,8 @@ fn further_terms(
             break;
         };
         if binds > level {
-            let text = "this is computed from left to right, so brackets are wanted, as in (a + b) * c";
+            let text =
+                "this is computed from left to right, so brackets are wanted, as in (a + b) * c";
             return words.wrong(reading, text);
         }
         level = binds;
@@ -129,6 +130,14 @@ pub(crate) fn expression(
     Ok(whole)
 }
 
+/// Notes a word where there is to be none.
+fn ended(reading: &mut Reading<'_>, words: &mut Words<'_>, text: &str) -> Result<(), AllocError> {
+    if words.word.is_empty() {
+        return Ok(());
+    }
+    words.wrong(reading, text)
+}
+
 /// The expression that a text is.
 pub(crate) fn text_expression(
     reading: &mut Reading<'_>,
@@ -138,10 +147,14 @@ pub(crate) fn text_expression(
 ) -> Result<Expression, AllocError> {
     let mut words = Words::new(reading, at, text);
     let whole = expression(reading, scope, &mut words)?;
-    if !words.word.is_empty() {
-        words.wrong(reading, "an operator or the end of the text is wanted here")?;
+    match ended(
+        reading,
+        &mut words,
+        "an operator or the end of the text is wanted here",
+    ) {
+        Ok(()) => Ok(whole),
+        Err(error) => Err(error),
     }
-    Ok(whole)
 }
 
 /// The expression that a value is: a number or a text.
@@ -157,7 +170,10 @@ pub(crate) fn expression_in(
             Ok(alone(reading.alloc, Operand::Constant(Value::Number(number))))
         }
         _ => {
-            reading.wrong(node.at, "a number, or a text with an expression, is wanted here")?;
+            reading.wrong(
+                node.at,
+                "a number, or a text with an expression, is wanted here",
+            )?;
             Ok(nothing(reading.alloc))
         }
     }
@@ -175,8 +191,8 @@ pub(crate) fn operand_in(
     };
     let mut words = Words::new(reading, node.at, node.text);
     let whole = operand(reading, scope, &mut words)?;
-    if !words.word.is_empty() {
-        words.wrong(reading, "the end of the text is wanted here")?;
+    match ended(reading, &mut words, "the end of the text is wanted here") {
+        Ok(()) => Ok(whole),
+        Err(error) => Err(error),
     }
-    Ok(whole)
 }

@@ -1,6 +1,7 @@
 //! The faults that were found.
 
 use crate::Fault;
+use crate::lists::add_to;
 use crate::places::Places;
 use st_events::PlainList;
 use std::alloc::{AllocError, Global};
@@ -62,7 +63,7 @@ impl Faults {
         noted.sort_unstable_by_key(|noted| noted.at);
         let mut faults = PlainList::new(alloc);
         for Noted { at, text } in noted {
-            faults.push(fault_at(places, at, text))?;
+            add_to(&mut faults, fault_at(places, at, text))?;
         }
         Ok(faults)
     }

@@ -1,6 +1,7 @@
 //! Guards.
 
 use crate::expressions::expression;
+use crate::lists::add_to;
 use crate::reading::Reading;
 use crate::scope::Scope;
 use crate::tree::{Node, Shape};
@@ -37,9 +38,19 @@ fn test(
     };
     words.advance();
     let right = expression(reading, scope, words)?;
-    let (left, right) = if is_turned { (right, left) } else { (left, right) };
-    tests.push(Test { left, relation, right })?;
-    Ok(())
+    let (left, right) = if is_turned {
+        (right, left)
+    } else {
+        (left, right)
+    };
+    add_to(
+        tests,
+        Test {
+            left,
+            relation,
+            right,
+        },
+    )
 }
 
 /// Reads a guard.
@@ -59,7 +70,10 @@ pub(crate) fn guard(
             return Ok(());
         }
         if words.word != "and" {
-            return words.wrong(reading, "an operator, \"and\" or the end of the text is wanted here");
+            return words.wrong(
+                reading,
+                "an operator, \"and\" or the end of the text is wanted here",
+            );
         }
         words.advance();
     }

@@ -9,6 +9,7 @@ mod expressions;
 mod fault;
 mod faults;
 mod guard;
+mod lists;
 mod machine;
 mod marks;
 mod members;
@@ -34,7 +35,7 @@ pub use names::Names;
 pub use read::{Unread, read_chart};
 pub use st_events::{MachineId, PlainList, PlainText, Tag, Timer};
 pub use st_table::{
-    Ask, Expression, Interpreter, On, Operand, Operator, Place, Raised, Relation, Rule, Say, Signal,
-    StateRow, Table, Target, Term, Test, Update, Value,
+    Ask, Expression, Interpreter, On, Operand, Operator, Place, Raised, Relation, Rule, Say,
+    Signal, StateRow, Table, Target, Term, Test, Update, Value,
 };
 pub use vocabulary::Vocabulary;

@@ -3,11 +3,12 @@
 use crate::draft::Draft;
 use crate::events::events;
 use crate::expressions::{alone, expression_in};
+use crate::lists::add_to;
 use crate::members::{description, is_double, is_object_of};
 use crate::naming::{MOST_NAMES, named, state_in, text_in};
 use crate::operand::number;
 use crate::reading::Reading;
-use crate::rules::{Heading, blank_rule, mark, rules_in};
+use crate::rules::{Heading, add_mark, blank_rule, rules_in, set_target};
 use crate::scope::{Part, Scope};
 use crate::states::{add_states, name_states};
 use crate::tree::{Node, Shape};
@@ -37,7 +38,10 @@ fn context(
     registers: &mut PlainList<Value>,
 ) -> Result<(), AllocError> {
     let (Shape::Object) = object.shape else {
-        return reading.wrong(object.at, "an object is wanted here: registers and their first values");
+        return reading.wrong(
+            object.at,
+            "an object is wanted here: registers and their first values",
+        );
     };
     for (place, part) in object.parts.iter().enumerate() {
         if place == MOST_REGISTERS {
@@ -46,7 +50,8 @@ fn context(
         is_double(reading, object, part)?;
         named(reading, part.key_at, part.key)?;
         reading.names.registers.number(reading.alloc, part.key)?;
-        registers.push(first_value(reading, part)?)?;
+        let value = first_value(reading, part)?;
+        add_to(registers, value)?;
     }
     Ok(())
 }
@@ -62,11 +67,7 @@ fn first_argument(list: &Node<'_>, name: &str) -> usize {
 }
 
 /// Reads an argument of a start.
-fn argument(
-    reading: &mut Reading<'_>,
-    list: &Node<'_>,
-    part: &Node<'_>,
-) -> Result<(), AllocError> {
+fn argument(reading: &mut Reading<'_>, list: &Node<'_>, part: &Node<'_>) -> Result<(), AllocError> {
     let name = text_in(reading, part)?;
     if !named(reading, part.at, name)? {
         return Ok(());
@@ -122,7 +123,7 @@ fn given_registers(
         let name = reading.names.registers.name(register);
         if let Some(number) = reading.names.arguments.find(name) {
             let value = alone(reading.alloc, Operand::Before(number));
-            updates.push(Update { register, value })?;
+            add_to(updates, Update { register, value })?;
         }
     }
     Ok(())
@@ -134,27 +135,32 @@ fn initial(
     place: &Node<'_>,
     draft: &mut Draft,
 ) -> Result<(), AllocError> {
+    add_mark(reading, place.at, "initial", &mut draft.marks.start)?;
+    let first = state_in(reading, place)?;
     let mut rule = blank_rule(reading.alloc, On::Any, None);
-    given_registers(reading, &mut rule.updates)?;
-    rule.target = Target::Next(state_in(reading, place)?);
-    draft.table.start.push(rule)?;
-    draft.marks.start.push(mark(reading, place.at, "initial")?)?;
-    Ok(())
+    set_target(&mut rule, Target::Next(first));
+    match given_registers(reading, &mut rule.updates) {
+        Ok(()) => add_to(&mut draft.table.start, rule),
+        Err(error) => Err(error),
+    }
 }
 
 /// Reads the rules of a start.
-fn start(
-    reading: &mut Reading<'_>,
-    node: &Node<'_>,
-    draft: &mut Draft,
-) -> Result<(), AllocError> {
+fn start(reading: &mut Reading<'_>, node: &Node<'_>, draft: &mut Draft) -> Result<(), AllocError> {
     let heading = Heading {
         part: Part::Start,
         on: On::Any,
         symbol: None,
         key: "start",
     };
-    rules_in(reading, heading, None, node, &mut draft.table.start, &mut draft.marks.start)
+    rules_in(
+        reading,
+        heading,
+        None,
+        node,
+        &mut draft.table.start,
+        &mut draft.marks.start,
+    )
 }
 
 /// Reads how the machine begins.
@@ -177,11 +183,7 @@ fn beginning(
 }
 
 /// Reads the name of the machine.
-fn id(
-    reading: &mut Reading<'_>,
-    machine: &Node<'_>,
-    draft: &mut Draft,
-) -> Result<(), AllocError> {
+fn id(reading: &mut Reading<'_>, machine: &Node<'_>, draft: &mut Draft) -> Result<(), AllocError> {
     let Some(part) = machine.member("id") else {
         return Ok(());
     };
@@ -201,7 +203,13 @@ fn rules(
         add_states(reading, states, draft)?;
     }
     let on = machine.member("on");
-    events(reading, on, None, &mut draft.table.any, &mut draft.marks.any)?;
+    events(
+        reading,
+        on,
+        None,
+        &mut draft.table.any,
+        &mut draft.marks.any,
+    )?;
     if let Some(last) = machine.member("last") {
         draft.table.last = expression_in(reading, Scope::now(Part::Last), last)?;
     }

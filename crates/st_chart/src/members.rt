@@ -82,10 +82,7 @@ pub(crate) fn is_set(
 }
 
 /// Passes a description.
-pub(crate) fn description(
-    reading: &mut Reading<'_>,
-    object: &Node<'_>,
-) -> Result<(), AllocError> {
+pub(crate) fn description(reading: &mut Reading<'_>, object: &Node<'_>) -> Result<(), AllocError> {
     match object.member("description") {
         Some(part) => match part.shape {
             Shape::Text => Ok(()),

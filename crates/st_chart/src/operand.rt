@@ -30,12 +30,33 @@ fn meaning_of(word: &str) -> Option<Meaning> {
     }
 }
 
-/// Whether a word begins an operand that is a name.
-fn is_named(word: &str) -> bool {
-    match word.as_bytes().first() {
-        Some(b'a'..=b'z' | b'A'..=b'Z' | b'_') => !matches!(word, "min" | "max" | "and"),
-        _ => false,
+/// What a word is that may be an operand.
+#[derive(Clone, Copy)]
+enum Sort {
+    Number,
+    Name,
+    Text,
+    None,
+}
+
+fn sort_of(word: &str) -> Sort {
+    let Some(first) = word.as_bytes().first() else {
+        return Sort::None;
+    };
+    if first.is_ascii_digit() {
+        Sort::Number
+    } else if first.is_ascii_alphabetic() {
+        Sort::Name
+    } else if *first == b'\'' {
+        Sort::Text
+    } else {
+        Sort::None
     }
+}
+
+/// Whether a word stands between operands.
+fn is_between(word: &str) -> bool {
+    word == "min" || word == "max" || word == "and"
 }
 
 /// Where else a word has its meaning, if it has none here.
@@ -148,12 +169,11 @@ fn word_operand(
 }
 
 /// A text in single quotes.
-fn text_operand(
-    reading: &mut Reading<'_>,
-    at: usize,
-    word: &str,
-) -> Result<Operand, AllocError> {
-    match word.strip_prefix('\'').and_then(|rest| rest.strip_suffix('\'')) {
+fn text_operand(reading: &mut Reading<'_>, at: usize, word: &str) -> Result<Operand, AllocError> {
+    match word
+        .strip_prefix('\'')
+        .and_then(|rest| rest.strip_suffix('\''))
+    {
         Some(text) => {
             let text = PlainText::copied(reading.alloc, text)?;
             Ok(Operand::Constant(Value::Text(text)))
@@ -165,6 +185,24 @@ fn text_operand(
     }
 }
 
+/// What a word means that may be an operand.
+fn sorted_operand(
+    reading: &mut Reading<'_>,
+    scope: Scope,
+    at: usize,
+    word: &str,
+    sort: Sort,
+) -> Result<Operand, AllocError> {
+    match sort {
+        Sort::Number => {
+            let number = number(reading, at, word)?;
+            Ok(Operand::Constant(Value::Number(number)))
+        }
+        Sort::Text => text_operand(reading, at, word),
+        _ => word_operand(reading, scope, at, word),
+    }
+}
+
 /// The operand that the words begin with.
 pub(crate) fn operand(
     reading: &mut Reading<'_>,
@@ -172,15 +210,14 @@ pub(crate) fn operand(
     words: &mut Words<'_>,
 ) -> Result<Operand, AllocError> {
     let (at, word) = (words.at(), words.word);
-    let operand = match word.as_bytes().first() {
-        Some(b'0'..=b'9') => Operand::Constant(Value::Number(number(reading, at, word)?)),
-        Some(_) if is_named(word) => word_operand(reading, scope, at, word)?,
-        Some(b'\'') => text_operand(reading, at, word)?,
-        _ => {
-            words.wrong(reading, "a number, a name or a text in single quotes is wanted here")?;
-            Operand::Caller
-        }
-    };
+    let sort = sort_of(word);
+    if matches!(sort, Sort::None) || is_between(word) {
+        words.wrong(
+            reading,
+            "a number, a name or a text in single quotes is wanted here",
+        )?;
+        return Ok(Operand::Caller);
+    }
     words.advance();
-    Ok(operand)
+    sorted_operand(reading, scope, at, word, sort)
 }

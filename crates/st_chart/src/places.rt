@@ -45,6 +45,15 @@ fn behind_all(first: Spot, bytes: &[u8]) -> Spot {
     spot
 }
 
+/// Where a byte of a text stands, of which no place is kept.
+pub(crate) fn spot_in(bytes: &[u8], at: usize) -> Spot {
+    let first = Spot { line: 1, column: 1 };
+    match bytes.get(..at) {
+        Some(passed) => behind_all(first, passed),
+        None => first,
+    }
+}
+
 impl<'a> Places<'a> {
     pub(crate) fn new(alloc: Global, bytes: &'a [u8]) -> Result<Places<'a>, AllocError> {
         let mut spots = Vec::new(alloc);

@@ -1,11 +1,13 @@
 //! A description from bytes.
 
 use crate::draft::Draft;
+use crate::lists::add_to;
 use crate::machine::machine;
+use crate::places::spot_in;
 use crate::reading::Reading;
 use crate::syntax::{place_of, syntax_text};
 use crate::tree::{Broken, Node, Standing, tree_of};
-use crate::{Chart, Fault};
+use crate::{Chart, Fault, Vocabulary};
 use json::Scratch;
 use st_events::PlainList;
 use std::alloc::{AllocError, Global};
@@ -29,23 +31,25 @@ impl From<AllocError> for Unread {
     }
 }
 
-/// The one fault of a description.
-fn only_fault(
-    alloc: Global,
-    bytes: &[u8],
-    at: usize,
-    text: &str,
-) -> Result<PlainList<Fault>, AllocError> {
-    let mut reading = Reading::new(alloc, bytes)?;
-    reading.wrong(at, text)?;
-    let Reading { faults, places, .. } = reading;
-    faults.told(alloc, &places)
+/// Why a description was not read that has one fault.
+fn not_read(alloc: Global, bytes: &[u8], at: usize, text: String) -> Unread {
+    let spot = spot_in(bytes, at);
+    let mut faults = PlainList::new(alloc);
+    let fault = Fault {
+        line: spot.line,
+        column: spot.column,
+        text,
+    };
+    match add_to(&mut faults, fault) {
+        Ok(()) => Unread::Faults(faults),
+        Err(_) => Unread::Memory,
+    }
 }
 
-/// The one fault of a description, as the reason why it was not read.
-fn not_read(alloc: Global, bytes: &[u8], at: usize, text: &str) -> Unread {
-    match only_fault(alloc, bytes, at, text) {
-        Ok(faults) => Unread::Faults(faults),
+/// The same, where the words are to be copied.
+fn not_read_for(alloc: Global, bytes: &[u8], at: usize, text: &str) -> Unread {
+    match String::from_str(alloc, text) {
+        Ok(text) => not_read(alloc, bytes, at, text),
         Err(_) => Unread::Memory,
     }
 }
@@ -54,49 +58,64 @@ fn not_read(alloc: Global, bytes: &[u8], at: usize, text: &str) -> Unread {
 fn no_tree(alloc: Global, text: &str, at: usize, standing: Standing) -> Unread {
     let at = place_of(text.as_bytes(), at, standing);
     match syntax_text(alloc, text, at, standing) {
-        Ok(words) => not_read(alloc, text.as_bytes(), at, words.as_str()),
+        Ok(words) => not_read(alloc, text.as_bytes(), at, words),
         Err(_) => Unread::Memory,
+    }
+}
+
+/// The faults that were noted, as the reason why a description was not read.
+fn refused(alloc: Global, reading: Reading<'_>) -> Unread {
+    match reading.told(alloc) {
+        Ok(faults) => Unread::Faults(faults),
+        Err(_) => Unread::Memory,
+    }
+}
+
+/// The description, of which no fault was noted.
+fn complete(alloc: Global, names: Vocabulary, draft: Draft) -> Result<Chart, Unread> {
+    let Draft { id, table, marks } = draft;
+    match Arc::new(alloc, table) {
+        Ok(table) => Ok(Chart {
+            id,
+            table,
+            names,
+            marks,
+        }),
+        Err(_) => Err(Unread::Memory),
     }
 }
 
 /// The description, or the faults that were noted.
 fn finished(alloc: Global, reading: Reading<'_>, draft: Draft) -> Result<Chart, Unread> {
-    let Reading {
-        places,
-        faults,
-        names,
-        ..
-    } = reading;
-    if !faults.is_empty() {
-        return Err(Unread::Faults(faults.told(alloc, &places)?));
+    if reading.faults.is_empty() {
+        return complete(alloc, reading.into_names(), draft);
     }
-    let Draft { id, table, marks } = draft;
-    Ok(Chart {
-        id,
-        table: Arc::new(alloc, table).or(Err(AllocError))?,
-        names,
-        marks,
-    })
+    Err(refused(alloc, reading))
 }
 
 /// Reads a description from its tree.
-fn chart_of(alloc: Global, text: &str, parts: &[Node<'_>]) -> Result<Chart, Unread> {
+fn chart_of(alloc: Global, text: &str, node: &Node<'_>) -> Result<Chart, Unread> {
     let mut reading = Reading::new(alloc, text.as_bytes())?;
     let mut draft = Draft::new(alloc);
-    if let Some(node) = parts.first() {
-        machine(&mut reading, node, &mut draft)?;
+    match machine(&mut reading, node, &mut draft) {
+        Ok(()) => finished(alloc, reading, draft),
+        Err(_) => Err(Unread::Memory),
     }
-    finished(alloc, reading, draft)
+}
+
+/// Reads a description from a text, with memory for texts that have escapes.
+fn read_by<'a>(alloc: Global, text: &'a str, scratch: &'a mut Scratch) -> Result<Chart, Unread> {
+    match tree_of(alloc, text, scratch) {
+        Ok(node) => chart_of(alloc, text, &node),
+        Err(Broken::Memory) => Err(Unread::Memory),
+        Err(Broken::Syntax(at, standing)) => Err(no_tree(alloc, text, at, standing)),
+    }
 }
 
 /// Reads a description from a text.
 fn read_text(alloc: Global, text: &str) -> Result<Chart, Unread> {
     let mut scratch = Scratch::new(alloc);
-    match tree_of(alloc, text, &mut scratch) {
-        Ok(parts) => chart_of(alloc, text, parts.as_slice()),
-        Err(Broken::Memory) => Err(Unread::Memory),
-        Err(Broken::Syntax(at, standing)) => Err(no_tree(alloc, text, at, standing)),
-    }
+    read_by(alloc, text, &mut scratch)
 }
 
 /// Reads a description: a JSON text in UTF-8, of at most 1,048,576 bytes. It may find no memory.
@@ -105,13 +124,13 @@ fn read_text(alloc: Global, text: &str) -> Result<Chart, Unread> {
 pub fn read_chart(alloc: Global, text: &[u8]) -> Result<Chart, Unread> {
     if text.len() > MOST_BYTES {
         let words = "the description has more than 1,048,576 bytes";
-        return Err(not_read(alloc, &[], 0, words));
+        return Err(not_read_for(alloc, &[], 0, words));
     }
     match std::str::from_utf8(text) {
         Ok(text) => read_text(alloc, text),
         Err(fault) => {
             let words = "the description is no UTF-8 from here on";
-            Err(not_read(alloc, text, fault.valid_up_to(), words))
+            Err(not_read_for(alloc, text, fault.valid_up_to(), words))
         }
     }
 }

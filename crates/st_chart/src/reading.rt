@@ -1,9 +1,9 @@
 //! What is known while a description is read.
 
-use crate::Vocabulary;
 use crate::faults::Faults;
 use crate::places::Places;
 use crate::wording::quoted;
+use crate::{Fault, PlainList, Vocabulary};
 use std::alloc::{AllocError, Global};
 
 /// What is known while a description is read.
@@ -35,6 +35,17 @@ impl<'a> Reading<'a> {
             names: Vocabulary::new(alloc),
             rules: 0,
         })
+    }
+
+    /// The names, where all was read.
+    pub(crate) fn into_names(self) -> Vocabulary {
+        self.names
+    }
+
+    /// The faults in the order of their places.
+    pub(crate) fn told(self, alloc: Global) -> Result<PlainList<Fault>, AllocError> {
+        let Reading { places, faults, .. } = self;
+        faults.told(alloc, &places)
     }
 
     /// Notes a fault.
@@ -88,19 +99,16 @@ impl<'a> Reading<'a> {
     }
 
     /// Notes that something stands a second time.
-    pub(crate) fn double(
-        &mut self,
-        at: usize,
-        name: &str,
-        first: usize,
-    ) -> Result<(), AllocError> {
+    pub(crate) fn double(&mut self, at: usize, name: &str, first: usize) -> Result<(), AllocError> {
         if !self.faults.wants(at) {
             return Ok(());
         }
         let spot = self.places.spot(first);
         let (line, column) = (spot.line, spot.column);
         let name = quoted(self.alloc, name)?;
-        let text = format!(in self.alloc; "{name} stands here a second time; the first is at {line}:{column}")?;
+        let text = format!(in self.alloc;
+            "{name} stands here a second time; the first is at {line}:{column}"
+        )?;
         self.faults.note(at, text)
     }
 }

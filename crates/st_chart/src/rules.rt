@@ -3,6 +3,7 @@
 use crate::actions::actions;
 use crate::expressions::{expression_in, nothing, text_expression};
 use crate::guard::guard;
+use crate::lists::add_to;
 use crate::members::{description, is_double, is_object_of, is_set};
 use crate::naming::{register, state_in, symbol};
 use crate::reading::Reading;
@@ -49,6 +50,17 @@ pub(crate) fn mark(reading: &Reading<'_>, at: usize, key: &str) -> Result<Mark, 
     })
 }
 
+/// Adds where a rule stands.
+pub(crate) fn add_mark(
+    reading: &Reading<'_>,
+    at: usize,
+    key: &str,
+    marks: &mut PlainList<Mark>,
+) -> Result<(), AllocError> {
+    let mark = mark(reading, at, key)?;
+    add_to(marks, mark)
+}
+
 /// Reads what a rule assigns.
 fn assignments(
     reading: &mut Reading<'_>,
@@ -57,7 +69,10 @@ fn assignments(
     updates: &mut PlainList<Update>,
 ) -> Result<(), AllocError> {
     let (Shape::Object) = node.shape else {
-        return reading.wrong(node.at, "an object is wanted here: registers and their values");
+        return reading.wrong(
+            node.at,
+            "an object is wanted here: registers and their values",
+        );
     };
     for member in &node.parts {
         if reading.faults.is_full() {
@@ -66,7 +81,7 @@ fn assignments(
         is_double(reading, node, member)?;
         let register = register(reading, member.key_at, member.key)?;
         let value = expression_in(reading, Scope::assignment(part), member)?;
-        updates.push(Update { register, value })?;
+        add_to(updates, Update { register, value })?;
     }
     Ok(())
 }
@@ -92,7 +107,12 @@ fn check_target(
     repeats: bool,
 ) -> Result<(), AllocError> {
     if let Part::Entry = part {
-        refuse(reading, node, "target", " cannot stand in an entry, which leads to no other state")?;
+        refuse(
+            reading,
+            node,
+            "target",
+            " cannot stand in an entry, which leads to no other state",
+        )?;
     }
     if repeats && matches!(part, Part::Entry | Part::Start) {
         refuse(reading, node, "reenter", " stands in rules of events alone")?;
@@ -117,7 +137,16 @@ fn target(reading: &mut Reading<'_>, part: Part, node: &Node<'_>) -> Result<Targ
     if let Some(place) = node.member("target") {
         return Ok(Target::Next(state_in(reading, place)?));
     }
-    Ok(if repeats { Target::Repeat } else { Target::Keep })
+    Ok(if repeats {
+        Target::Repeat
+    } else {
+        Target::Keep
+    })
+}
+
+/// Says where a rule leads.
+pub(crate) fn set_target(rule: &mut Rule, target: Target) {
+    rule.target = target;
 }
 
 /// Reads the guard and the assignments of a rule.
@@ -130,10 +159,10 @@ fn fill_first(
     if let Some(member) = node.member("guard") {
         guard(reading, Scope::now(part), member, &mut rule.guard)?;
     }
-    if let Some(member) = node.member("assign") {
-        assignments(reading, part, member, &mut rule.updates)?;
+    match node.member("assign") {
+        Some(member) => assignments(reading, part, member, &mut rule.updates),
+        None => Ok(()),
     }
-    Ok(())
 }
 
 /// Reads a rule that is an object.
@@ -149,11 +178,12 @@ fn fill(
     }
     description(reading, node)?;
     fill_first(reading, part, node, rule)?;
-    rule.target = target(reading, part, node)?;
-    if let Some(member) = node.member("actions") {
-        actions(reading, part, member, &mut rule.asks)?;
+    let target = target(reading, part, node)?;
+    set_target(rule, target);
+    match node.member("actions") {
+        Some(member) => actions(reading, part, member, &mut rule.asks),
+        None => Ok(()),
     }
-    Ok(())
 }
 
 /// Adds that the state time-out is set for so long as a member's key says.
@@ -163,37 +193,53 @@ pub(crate) fn add_after(
     asks: &mut PlainList<Ask>,
 ) -> Result<(), AllocError> {
     let scope = Scope::now(Part::Entry);
+    let symbol = symbol(reading, member.key_at, "timeout")?;
     let time = text_expression(reading, scope, member.key_at, member.key)?;
     let say = Say {
-        symbol: symbol(reading, member.key_at, "timeout")?,
+        symbol,
         argument: nothing(reading.alloc),
     };
-    asks.push(Ask::Set(Timer::State, time, say))?;
-    Ok(())
+    add_to(asks, Ask::Set(Timer::State, time, say))
 }
 
 /// Reads a rule: an object, or for events a state's name. An entry sets the state's time-out, if there is one.
-fn rule(
+fn fill_rule(
     reading: &mut Reading<'_>,
-    heading: Heading<'_>,
+    part: Part,
     after: Option<&Node<'_>>,
     node: &Node<'_>,
-) -> Result<Rule, AllocError> {
-    let mut rule = blank_rule(reading.alloc, heading.on, heading.symbol);
-    match (node.shape, heading.part) {
+    rule: &mut Rule,
+) -> Result<(), AllocError> {
+    match (node.shape, part) {
         (Shape::Text, Part::Call | Part::Event) => {
-            rule.target = Target::Next(state_in(reading, node)?);
+            let place = state_in(reading, node)?;
+            set_target(rule, Target::Next(place));
         }
-        _ => fill(reading, heading.part, node, &mut rule)?,
+        _ => fill(reading, part, node, rule)?,
     }
-    if let Some(member) = after {
-        add_after(reading, member, &mut rule.asks)?;
+    match after {
+        Some(member) => add_after(reading, member, &mut rule.asks),
+        None => Ok(()),
     }
-    Ok(rule)
 }
 
 /// Reads a rule to the end of others.
 fn add_rule(
+    reading: &mut Reading<'_>,
+    heading: Heading<'_>,
+    after: Option<&Node<'_>>,
+    node: &Node<'_>,
+    rules: &mut PlainList<Rule>,
+) -> Result<(), AllocError> {
+    let mut rule = blank_rule(reading.alloc, heading.on, heading.symbol);
+    match fill_rule(reading, heading.part, after, node, &mut rule) {
+        Ok(()) => add_to(rules, rule),
+        Err(error) => Err(error),
+    }
+}
+
+/// Reads a rule and its mark, unless there are too many.
+fn add_marked(
     reading: &mut Reading<'_>,
     heading: Heading<'_>,
     after: Option<&Node<'_>>,
@@ -208,9 +254,8 @@ fn add_rule(
     if reading.rules > MOST_RULES {
         return reading.wrong(node.at, "more than 10,000 rules");
     }
-    marks.push(mark(reading, node.at, heading.key)?)?;
-    rules.push(rule(reading, heading, after, node)?)?;
-    Ok(())
+    add_mark(reading, node.at, heading.key, marks)?;
+    add_rule(reading, heading, after, node, rules)
 }
 
 /// Reads the rules of a key: one, or a list. Of entries it is told the member that says how long the state's time-out lasts,
@@ -224,7 +269,7 @@ pub(crate) fn rules_in(
     marks: &mut PlainList<Mark>,
 ) -> Result<(), AllocError> {
     let (Shape::List) = node.shape else {
-        return add_rule(reading, heading, after, node, rules, marks);
+        return add_marked(reading, heading, after, node, rules, marks);
     };
     for (place, one) in node.parts.iter().enumerate() {
         if place == MOST_OF_A_KEY {
@@ -233,7 +278,7 @@ pub(crate) fn rules_in(
         if reading.faults.is_full() {
             break;
         }
-        add_rule(reading, heading, after, one, rules, marks)?;
+        add_marked(reading, heading, after, one, rules, marks)?;
     }
     Ok(())
 }

@@ -2,10 +2,11 @@
 
 use crate::draft::Draft;
 use crate::events::events;
+use crate::lists::add_to;
 use crate::members::{description, is_double, is_object_of};
 use crate::naming::{MOST_NAMES, named};
 use crate::reading::Reading;
-use crate::rules::{Heading, add_after, blank_rule, mark, rules_in};
+use crate::rules::{Heading, add_after, add_mark, blank_rule, mark, rules_in};
 use crate::scope::Part;
 use crate::tree::{Node, Shape};
 use crate::{On, PlainList, RowMarks, StateRow};
@@ -60,7 +61,14 @@ fn written_entries(
         symbol: None,
         key: "entry",
     };
-    rules_in(reading, heading, after, entry, &mut row.entries, &mut marks.entries)
+    rules_in(
+        reading,
+        heading,
+        after,
+        entry,
+        &mut row.entries,
+        &mut marks.entries,
+    )
 }
 
 /// Whether no entry may be taken, since there is none or the last has a guard.
@@ -81,11 +89,12 @@ fn after_entry(
     if !lacks_entry(row) {
         return Ok(());
     }
+    add_mark(reading, member.key_at, "after", &mut marks.entries)?;
     let mut entry = blank_rule(reading.alloc, On::Any, None);
-    add_after(reading, member, &mut entry.asks)?;
-    row.entries.push(entry)?;
-    marks.entries.push(mark(reading, member.key_at, "after")?)?;
-    Ok(())
+    match add_after(reading, member, &mut entry.asks) {
+        Ok(()) => add_to(&mut row.entries, entry),
+        Err(error) => Err(error),
+    }
 }
 
 /// Reads the entries of a state.
@@ -112,6 +121,9 @@ fn row_parts(
     row: &mut StateRow,
     marks: &mut RowMarks,
 ) -> Result<(), AllocError> {
+    if let Shape::Null = part.shape {
+        return Ok(());
+    }
     let words = "entry on after description";
     if !is_object_of(reading, part, "a state has no ", words)? {
         return Ok(());
@@ -123,29 +135,29 @@ fn row_parts(
     events(reading, on, after, &mut row.rules, &mut marks.rules)
 }
 
+/// Adds a state to the end of others.
+fn keep_state(row: StateRow, marks: RowMarks, draft: &mut Draft) -> Result<(), AllocError> {
+    draft.table.enters = draft.table.enters || row.entries.len() > 0;
+    add_to(&mut draft.table.states, row)?;
+    add_to(&mut draft.marks.states, marks)
+}
+
 /// Reads a state to the end of others.
 fn add_state(
     reading: &mut Reading<'_>,
     part: &Node<'_>,
     draft: &mut Draft,
 ) -> Result<(), AllocError> {
-    let mut row = blank_row(reading.alloc);
     let mut marks = row_marks(reading, part)?;
-    match part.shape {
-        Shape::Null => {}
-        _ => row_parts(reading, part, &mut row, &mut marks)?,
+    let mut row = blank_row(reading.alloc);
+    match row_parts(reading, part, &mut row, &mut marks) {
+        Ok(()) => keep_state(row, marks, draft),
+        Err(error) => Err(error),
     }
-    draft.table.enters = draft.table.enters || row.entries.len() > 0;
-    draft.marks.states.push(marks)?;
-    draft.table.states.push(row)?;
-    Ok(())
 }
 
 /// Numbers the states.
-pub(crate) fn name_states(
-    reading: &mut Reading<'_>,
-    states: &Node<'_>,
-) -> Result<(), AllocError> {
+pub(crate) fn name_states(reading: &mut Reading<'_>, states: &Node<'_>) -> Result<(), AllocError> {
     let (Shape::Object) = states.shape else {
         return reading.wrong(states.at, "an object is wanted here: states");
     };

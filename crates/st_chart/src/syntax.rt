@@ -54,26 +54,28 @@ fn is_open(standing: Standing, before: u8) -> bool {
     }
 }
 
-/// Whether a byte ends a word.
-fn ends_word(byte: u8) -> bool {
+/// Whether a byte ends a word, or the part of a text that is shown.
+fn ends_word(byte: u8, is_text: bool) -> bool {
+    if is_text {
+        return matches!(byte, b'"' | b'\n');
+    }
     is_blank(byte) || matches!(byte, b',' | b':' | b'{' | b'}' | b'[' | b']' | b'"')
 }
 
-/// The word that begins at a place: what is between quotes, or what stands before a sign, or a sign.
+/// The word that begins at a place: what is between quotes on the line, or what stands before a sign, or a sign.
 fn word_at(text: &str, at: usize) -> &str {
     let rest = text.get(at..).unwrap_or("");
-    if let Some(inner) = rest.strip_prefix('"') {
-        return match inner.find('"') {
-            Some(end) => inner.get(..end).unwrap_or(inner),
-            None => inner,
-        };
-    }
-    for (place, byte) in rest.as_bytes().iter().enumerate() {
-        if ends_word(*byte) {
-            return rest.get(..place.max(1)).unwrap_or(rest);
+    let (word, is_text) = match rest.strip_prefix('"') {
+        Some(inner) => (inner, true),
+        None => (rest, false),
+    };
+    for (place, byte) in word.as_bytes().iter().enumerate() {
+        if ends_word(*byte, is_text) {
+            let least = if is_text { 0 } else { 1 };
+            return word.get(..place.max(least)).unwrap_or(word);
         }
     }
-    rest
+    word
 }
 
 /// The words of a fault of JSON.
@@ -94,7 +96,9 @@ pub(crate) fn syntax_text(
     }
     let word = quoted(alloc, word)?;
     if is_open(standing, before) && text.as_bytes().get(at) == Some(&b'"') {
-        return format!(in alloc; "the text {word} has no end, or a character or an escape that JSON refuses");
+        return format!(in alloc;
+            "the text {word} has no end, or a character or an escape that JSON refuses"
+        );
     }
     format!(in alloc; "{wanted} is wanted here; there stands {word}")
 }

@@ -123,16 +123,15 @@ fn fill<'a>(
     }
 }
 
-/// Reads one value to the end of others.
+/// Reads one value.
 #[cycle(tree)]
-fn add<'a>(
+fn value<'a>(
     alloc: Global,
     reader: &mut Reader<'a>,
     depth: usize,
     standing: Standing,
     key: (&'a str, usize),
-    parts: &mut Vec<Node<'a>>,
-) -> Result<(), Broken> {
+) -> Result<Node<'a>, Broken> {
     let at = reader.offset();
     let token = reader.next();
     let Some((shape, text)) = begun(token) else {
@@ -146,8 +145,26 @@ fn add<'a>(
         text,
         parts: Vec::new(alloc),
     };
-    fill(alloc, reader, depth, &mut node)?;
-    parts.push(node).or(Err(Broken::Memory))
+    match fill(alloc, reader, depth, &mut node) {
+        Ok(()) => Ok(node),
+        Err(broken) => Err(broken),
+    }
+}
+
+/// Reads one value to the end of others.
+#[cycle(tree)]
+fn add<'a>(
+    alloc: Global,
+    reader: &mut Reader<'a>,
+    depth: usize,
+    standing: Standing,
+    key: (&'a str, usize),
+    parts: &mut Vec<Node<'a>>,
+) -> Result<(), Broken> {
+    match parts.push(value(alloc, reader, depth, standing, key)?) {
+        Ok(()) => Ok(()),
+        Err(_) => Err(Broken::Memory),
+    }
 }
 
 /// Reads the values of a list, and its end.
@@ -191,18 +208,23 @@ fn members<'a>(
     Ok(())
 }
 
-/// Reads a text to a tree, which is a list of one part.
+/// Reads a text to a tree.
 pub(crate) fn tree_of<'a>(
     alloc: Global,
     text: &'a str,
     scratch: &'a mut Scratch,
-) -> Result<Vec<Node<'a>>, Broken> {
+) -> Result<Node<'a>, Broken> {
     let mut reader = Reader::new(text, scratch)?;
-    let mut parts = Vec::new(alloc);
-    add(alloc, &mut reader, MOST_NESTED, Standing::Beginning, ("", 0), &mut parts)?;
+    let node = value(
+        alloc,
+        &mut reader,
+        MOST_NESTED,
+        Standing::Beginning,
+        ("", 0),
+    )?;
     let at = reader.offset();
     match reader.next() {
-        None => Ok(parts),
+        None => Ok(node),
         Some(_) => Err(Broken::Syntax(at, Standing::End)),
     }
 }

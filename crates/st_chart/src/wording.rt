@@ -46,20 +46,34 @@ fn push_listed(text: &mut String, name: &str) -> Result<(), AllocError> {
     push_quoted(text, name)
 }
 
+/// Writes the names that there are.
+fn write_names(text: &mut String, names: &Names) -> Result<(), AllocError> {
+    let count = names.len();
+    for place in 0..count.min(MOST_SHOWN) {
+        push_listed(text, names.name(place as u32))?;
+    }
+    if count <= MOST_SHOWN {
+        return Ok(());
+    }
+    let more = count - MOST_SHOWN;
+    write!(text, " .. and {more} more")
+}
+
+/// What stands before names, by how many there are.
+fn before_names(count: usize) -> &'static str {
+    match count {
+        0 => "there is none",
+        1 => "there is ",
+        _ => "there are ",
+    }
+}
+
 /// The names that there are: `there are "open", "locked"`.
 pub(crate) fn listed_names(alloc: Global, names: &Names) -> Result<String, AllocError> {
     let mut text = String::new(alloc);
-    let count = names.len();
-    for place in 0..count.min(MOST_SHOWN) {
-        push_listed(&mut text, names.name(place as u32))?;
-    }
-    let more = count.saturating_sub(MOST_SHOWN);
-    match (count, more) {
-        (0, _) => String::from_str(alloc, "there is none"),
-        (1, _) => format!(in alloc; "there is {text}"),
-        (_, 0) => format!(in alloc; "there are {text}"),
-        _ => format!(in alloc; "there are {text} .. and {more} more"),
-    }
+    write_names(&mut text, names)?;
+    let before = before_names(names.len());
+    format!(in alloc; "{before}{text}")
 }
 
 /// Words that are parted by blanks, as a list: `"guard", "target"`.

@@ -97,7 +97,10 @@ impl<'t> Words<'t> {
         let blanks = span(self.rest.as_bytes(), Class::Blank);
         let rest = self.rest.get(blanks..).unwrap_or("");
         let length = length_of(rest);
-        self.begin = self.begin.saturating_add(self.word.len()).saturating_add(blanks);
+        self.begin = self
+            .begin
+            .saturating_add(self.word.len())
+            .saturating_add(blanks);
         self.word = rest.get(..length).unwrap_or("");
         self.rest = rest.get(length..).unwrap_or("");
     }

@@ -35,7 +35,7 @@ use Rattle.st_table.specs.declared.value.Value.TheVariants.{Nothing, Number, Cal
 use Rattle.st_table.specs.Values.{computed, same_value, time_of, value_of}
 use Rattle.st_table.specs.Rules.{updated}
 use Rattle.st_table.specs.Calls.{starting, handle_of, enter_of, init_of, terminate_of}
-use Rattle.st_table.specs.Covers.{covers}
+use Rattle.st_table.specs.Covers.{covers, hider}
 
 -- ---- numbers stop at 0 and at 2^64 - 1
 
@@ -215,3 +215,7 @@ last_word = refl
 -- ---- which rule hides which
 hidden : (covers press third_press ≡ true) × (covers third_press press ≡ false) × (covers (plain on.AnyTimeout None target.Keep []) (plain (on.NamedTimeout 8) (Some 3) target.Keep []) ≡ true) × (covers (plain on.Call (Some 1) target.Keep []) (plain on.Call None target.Keep []) ≡ false)
 hidden = (refl, refl, refl, refl)
+
+-- a press behind two others: one with a guard, which leaves it some events, and one without, which leaves it none
+hidden_in_a_list : (hider (third_press ∷ press ∷ press ∷ []) 2 ≡ Some 1) × (hider (third_press ∷ press ∷ []) 1 ≡ None) × (hider (press ∷ []) 1 ≡ None)
+hidden_in_a_list = (refl, refl, refl)

@@ -1,6 +1,6 @@
 -- When a rule hides another.
-use Rattle.std.specs.Prelude.{◌≡◌, ℕ, Bool, true, false, List, [], ◌∷◌, ◌++◌, Option, None, Some, ◌==◌, ◌&&◌}
-use Rattle.std.specs.List.{find}
+use Rattle.std.specs.Prelude.{◌≡◌, ℕ, Bool, true, false, List, [], ◌∷◌, ◌++◌, Option, None, Some, ◌==◌, ◌&&◌, take, slice_get, position}
+use Rattle.std.specs.List.{find, remove}
 use Rattle.st_table.specs.declared.on.On.{On}
 use Rattle.st_table.specs.declared.on.On.TheVariants as on
 use Rattle.st_table.specs.declared.rule.Rule.{Rule}
@@ -42,3 +42,16 @@ covers earlier later = covers_kind earlier.on later.on && covers_symbol earlier.
 abbrev pub IsNeverTaken : (Rule → Bool) → Rule → Rule → Type 0
 IsNeverTaken passes earlier later =
     (front between back : List Rule) → find passes (front ++ earlier ∷ (between ++ later ∷ back)) ≡ find passes (front ++ earlier ∷ (between ++ back))
+
+-- the place of the first of these rules that covers a later one
+abbrev pub first_cover : List Rule → Option Rule → Option ℕ
+first_cover earlier None = None
+first_cover earlier (Some later) = position (λ rule. covers rule later) earlier
+
+-- the place of the first rule that covers the one at a place, among the rules before it
+abbrev pub hider : List Rule → ℕ → Option ℕ
+hider rules place = first_cover (take place rules) (slice_get rules place)
+
+-- the rule at a place makes no difference: the first rule that passes is the same without it
+abbrev pub IsIdle : (Rule → Bool) → List Rule → ℕ → Type 0
+IsIdle passes rules place = find passes (remove rules place) ≡ find passes rules

@@ -1,11 +1,11 @@
 //! Whether a rule hides another.
-ghost use Rattle.std.specs.Prelude.{◌≡◌, List, true};
+ghost use Rattle.std.specs.Prelude.{◌≡◌, List, true, OnSome, position};
 ghost use Rattle.st_events.specs.declared.kind.Kind.{Kind};
 ghost use Rattle.st_table.specs.Values.{Heard};
 ghost use Rattle.st_table.specs.declared.signal.Signal.{Signal};
 ghost use Rattle.st_table.specs.declared.value.Value.{Value};
 ghost use Rattle.st_table.specs.Matching.{fits, is_guarded};
-ghost use Rattle.st_table.specs.Covers.{covers_kind, covers_symbol, covers, IsNeverTaken};
+ghost use Rattle.st_table.specs.Covers.{covers_kind, covers_symbol, covers, IsNeverTaken, hider, IsIdle};
 
 use crate::{On, Rule};
 
@@ -65,4 +65,28 @@ pub fn covers(earlier: &Rule, later: &Rule) -> bool
     ensures never_entered { result ≡ true → (heard : Heard) (before registers : List Value) → IsNeverTaken (is_guarded heard before registers) earlier.now later.now }
 {
     covers_events(earlier, later)
+}
+
+/// The place of the first rule that covers a later one.
+fn first_cover(earlier: &[Rule], later: &Rule) -> Option<usize>
+    ensures { result ≡ position (λ rule. covers rule later.now) earlier.now }
+{
+    earlier.iter().position(|rule| covers(rule, later))
+}
+
+/// The place of the first rule that stands before the one at a place and covers it, or `None` where no rule before it
+/// does, or the place is none of the list. It is for who checks tables.
+///
+/// Ours: the first rule that fits is taken.
+pub fn hider(rules: &[Rule], place: usize) -> Option<usize>
+    ensures hidden { result ≡ hider rules.now place }
+
+    // The first rule that fits is the same without the one at the place, for each event and all registers.
+    ensures never_taken { OnSome result ((kind : Kind) (signal : Signal) (registers : List Value) → IsIdle (fits kind signal registers) rules.now place) }
+    ensures never_entered { OnSome result ((heard : Heard) (before registers : List Value) → IsIdle (is_guarded heard before registers) rules.now place) }
+{
+    match rules.get(place) {
+        None => None,
+        Some(later) => first_cover(&rules[..place], later),
+    }
 }

@@ -35,7 +35,7 @@ mod value;
 
 pub use ask::Ask;
 pub use expression::Expression;
-pub use hiding::covers;
+pub use hiding::{covers, hider};
 pub use interpreter::Interpreter;
 pub use on::On;
 pub use operand::Operand;

@@ -1,0 +1,12 @@
+//! What a session writes.
+
+/// What a session writes.
+#[derive(Clone, Copy)]
+pub enum Format {
+    /// A transcript: each line of events, and what came of it.
+    Plain,
+    /// A trace of each machine, at the end.
+    Trace,
+    /// The journal of each machine as lines of JSON, at the end.
+    Json,
+}
