@@ -45,10 +45,16 @@ fn put(rt: &HostRuntime, output: &Output) -> Result<u8, Failure> {
     )
 }
 
-/// Tells what is wrong with a description.
+/// Tells what is wrong with a description, also its faults, on standard output.
 fn check(rt: &HostRuntime, file: &str) -> Result<u8, Failure> {
     let text = wanted_bytes(rt, file)?;
-    put(rt, &check_text(rt.alloc(), file, text.as_slice())?)
+    let output = check_text(rt.alloc(), file, text.as_slice())?;
+    let told = if output.status == 0 {
+        &output.text
+    } else {
+        &output.faults
+    };
+    written(rt, told.as_slice(), &[], output.status)
 }
 
 /// Draws a description.
