@@ -84,7 +84,7 @@ fn run(rt: &HostRuntime, file: &str, format: Format) -> Result<u8, Failure> {
     put(rt, &output)
 }
 
-/// Runs cases, and compares what they print; or writes it.
+/// Runs cases, and compares what they print; or writes it, unless the description has faults.
 fn test(rt: &HostRuntime, file: &str, cases: &str, writes: bool) -> Result<u8, Failure> {
     let text = wanted_bytes(rt, file)?;
     let given = wanted_bytes(rt, cases)?;
@@ -95,7 +95,7 @@ fn test(rt: &HostRuntime, file: &str, cases: &str, writes: bool) -> Result<u8, F
         given.as_slice(),
         &mut Files { rt },
     )?;
-    if !writes {
+    if !writes || !tested.faults.is_empty() {
         return written(
             rt,
             tested.text.as_slice(),

@@ -71,7 +71,49 @@ pub(crate) fn note_begun(begun: &mut [bool], part: Part<'_>) {
     }
 }
 
-/// Warns of the time-outs that a rule sets and nobody handles.
+/// The state that a machine is in once it has taken a rule, if it is known.
+fn state_then(subject: Subject, rule: &Rule) -> Option<u32> {
+    if let Target::Next(place) = &rule.target {
+        return Some(place.number);
+    }
+    match subject {
+        Subject::Entry(state) => Some(state),
+        Subject::Rule(state) => Some(state),
+        _ => None,
+    }
+}
+
+/// The first time-out that a rule sets and nobody handles, if there is one.
+fn unhandled(table: &Table, rule: &Rule, state: Option<u32>) -> Option<Timer> {
+    for ask in rule.asks.as_slice() {
+        if let Some(timer) = set_by(ask) {
+            if !is_handled(table, timer, state) {
+                return Some(timer);
+            }
+        }
+    }
+    None
+}
+
+/// What is said of a time-out that nobody handles.
+fn unhandled_text(
+    found: &Found<'_>,
+    timer: Timer,
+    state: Option<u32>,
+) -> Result<String, AllocError> {
+    let name = timer_name(found.names, timer);
+    let mut said = format!(in found.alloc; " sets the time-out \"{name}\", which nobody handles")?;
+    if let Timer::Named(_) = timer {
+        return Ok(said);
+    }
+    if let Some(state) = state {
+        let state = found.names.states.name(state);
+        write!(said, " in \"{state}\"")?;
+    }
+    Ok(said)
+}
+
+/// Warns of the first time-out that a rule sets and nobody handles. One that stops the machine is not looked at.
 pub(crate) fn warn_unhandled(
     found: &mut Found<'_>,
     table: &Table,
@@ -79,30 +121,15 @@ pub(crate) fn warn_unhandled(
     place: usize,
     rule: &Rule,
 ) -> Result<(), AllocError> {
-    let state = match (part.subject, &rule.target) {
-        (_, Target::Stop(_)) => return Ok(()),
-        (Subject::Entry(state), _) => Some(state),
-        (_, Target::Next(place)) => Some(place.number),
-        (Subject::Rule(state), _) => Some(state),
-        _ => None,
-    };
-    for ask in rule.asks.as_slice() {
-        let Some(timer) = set_by(ask) else {
-            continue;
-        };
-        if !is_handled(table, timer, state) {
-            let name = timer_name(found.names, timer);
-            let mut said = format!(in found.alloc;
-                " sets the time-out \"{name}\", which nobody handles"
-            )?;
-            if let (Timer::Event | Timer::State, Some(state)) = (timer, state) {
-                let state = found.names.states.name(state);
-                write!(said, " in \"{state}\"")?;
-            }
-            return found.warn(part.subject, part.marks.get(place), said.as_str());
-        }
+    if let Target::Stop(_) = &rule.target {
+        return Ok(());
     }
-    Ok(())
+    let state = state_then(part.subject, rule);
+    let Some(timer) = unhandled(table, rule, state) else {
+        return Ok(());
+    };
+    let said = unhandled_text(found, timer, state)?;
+    found.warn(part.subject, part.marks.get(place), said.as_str())
 }
 
 /// Warns of a time-out for which a rule waits and that nobody sets, the first time.

@@ -1,15 +1,17 @@
 //! One machine.
 ghost use Rattle.std.specs.Prelude.{◌≡◌, ◌<◌, ◌^◌, IfOk, IfErr};
+ghost use Rattle.std.specs.Option.{option_map};
 ghost use Rattle.st_events.specs.declared.refusal.Refusal.TheVariants.{NoMemory};
-ghost use Rattle.st_core.specs.Choice.{has_event_of, has_message_of, is_ready_of, waiting_of, timers_of, next_due_of};
+ghost use Rattle.st_core.specs.Choice.{next_event_of, has_event_of, has_message_of, is_ready_of, waiting_of, timers_of, next_due_of};
 
 use st_agenda::Agenda;
-use st_events::{MachineId, Module, PlainList, Reason, Refusal, Tag, Timer};
+use st_events::{Kind, MachineId, Module, PlainList, Reason, Refusal, Tag, Timer};
 use st_outbox::Outgoing;
 use st_requests::Requests;
 use st_timeouts::Due;
 use std::alloc::Global;
 use std::marker::Model;
+use std::mem::replace;
 
 /// One machine: a callback module with its state, its data, the events that wait, the time-outs that run,
 /// the requests that are open or kept, and the messages that were not taken out yet.
@@ -76,6 +78,15 @@ impl<M: Module> Core<M> {
         self.ended.is_none() && self.agenda.has_next()
     }
 
+    /// The number, the kind and the content of the event that a turn would handle next, if there is one; it stays.
+    ///
+    /// Ours: docs/TRANSITIONS.md, Next event.
+    pub fn next(&self) -> Option<(u64, Kind, &M::Content)>
+        ensures { option_map (λ seen. record { number = seen.0; kind = seen.1; content = seen.2.now }) result ≡ next_event_of self.now.machine }
+    {
+        self.agenda.next()
+    }
+
     /// Says whether there is a message that `take_out` would take out, ended or not.
     ///
     /// Ours: docs/DECISIONS.md, Messages.
@@ -101,6 +112,17 @@ impl<M: Module> Core<M> {
         ensures { result.now ≡ self.now.module_ }
     {
         &self.module
+    }
+
+    /// Puts another module in the place of the machine's, which is returned. The machine stays as it is: what it is
+    /// told from then on is done as the new module answers.
+    ///
+    /// Ours: docs/DECISIONS.md, Callbacks are functions.
+    pub fn replace_module(&mut self, module: M) -> M
+        ensures module { result ≡ self.old.module_ }
+        ensures replaced { self.new ≡ record self.old { module_ = «module» } }
+    {
+        replace(&mut self.module, module)
     }
 
     /// The callback module alone: the machine is let go, and its `terminate` is not called.

@@ -8,6 +8,7 @@ mod compared;
 mod enters;
 mod few;
 mod host;
+mod hosting;
 mod journal;
 mod long_lists;
 mod machine;
