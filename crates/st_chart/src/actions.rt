@@ -2,7 +2,7 @@
 
 use crate::expressions::{expression_in, nothing, operand_in};
 use crate::lists::add_to;
-use crate::members::is_object_of;
+use crate::members::{has_word, is_object_of};
 use crate::naming::{symbol, text_in, timer};
 use crate::reading::Reading;
 use crate::scope::{Part, Scope};
@@ -148,7 +148,7 @@ fn raised(reading: &mut Reading<'_>, node: &Node<'_>) -> Result<Raised, AllocErr
         (Shape::Text, "cast") => Ok(Raised::Cast),
         (Shape::Text, "info") => Ok(Raised::Info),
         _ => {
-            reading.wrong(kind.at, "\"internal\", \"cast\" or \"info\" is wanted here")?;
+            reading.wanted(kind, "\"internal\", \"cast\" or \"info\" is wanted here")?;
             Ok(Raised::Internal)
         }
     }
@@ -251,7 +251,25 @@ fn ask_of(
 }
 
 const ACTIONS: &str =
-    "one of \"reply\", \"raise\", \"set\", \"cancel\", \"update\", \"send\", \"postpone\" and \"hibernate\" is wanted here";
+    "; there are \"reply\", \"raise\", \"set\", \"cancel\", \"update\", \"send\", \"postpone\" and \"hibernate\"";
+
+/// The member of an object without a verb that was to be one.
+fn meant_verb<'n, 'a>(node: &'n Node<'a>) -> Option<&'n Node<'a>> {
+    for part in &node.parts {
+        if !has_word("with to as after say", part.key) {
+            return Some(part);
+        }
+    }
+    None
+}
+
+/// Notes an object that is no action.
+fn no_action(reading: &mut Reading<'_>, node: &Node<'_>) -> Result<(), AllocError> {
+    match meant_verb(node) {
+        Some(part) => reading.wrong_name(part.key_at, "no action ", part.key, ACTIONS),
+        None => reading.wrong_name(node.at, "no action ", "{}", ACTIONS),
+    }
+}
 
 /// The member of an action that says what it does.
 fn verb_in<'n, 'a>(node: &'n Node<'a>) -> Option<(&'n Node<'a>, Verb)> {
@@ -273,7 +291,7 @@ fn is_fit(
 ) -> Result<bool, AllocError> {
     is_object_of(reading, node, "this action has no ", words_of(verb))?;
     if let (Verb::Postpone | Verb::Hibernate, Shape::Null | Shape::False) = (verb, member.shape) {
-        reading.wrong(member.at, "true is wanted here")?;
+        reading.wanted(member, "true is wanted here")?;
         return Ok(false);
     }
     is_allowed(reading, verb, part, member.key_at, member.key)
@@ -287,7 +305,7 @@ fn object_action(
     asks: &mut PlainList<Ask>,
 ) -> Result<(), AllocError> {
     let Some((member, verb)) = verb_in(node) else {
-        return reading.wrong(node.at, ACTIONS);
+        return no_action(reading, node);
     };
     if !is_fit(reading, part, node, member, verb)? {
         return Ok(());
@@ -327,7 +345,7 @@ fn action(
     match node.shape {
         Shape::Text => text_action(reading, part, node, asks),
         Shape::Object => object_action(reading, part, node, asks),
-        _ => reading.wrong(node.at, "an action is wanted here: a text or an object"),
+        _ => reading.wanted(node, "an action is wanted here: a text or an object"),
     }
 }
 

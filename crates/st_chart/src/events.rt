@@ -242,7 +242,7 @@ fn check_on(
     after: Option<&Node<'_>>,
 ) -> Result<(), AllocError> {
     let (Shape::Object) = on.shape else {
-        return reading.wrong(on.at, "an object is wanted here");
+        return reading.wanted(on, "an object is wanted here: keys and their rules");
     };
     let mut keys = Names::new(reading.alloc);
     check_keys(reading, on, &mut keys)?;

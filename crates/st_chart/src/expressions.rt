@@ -170,8 +170,8 @@ pub(crate) fn expression_in(
             Ok(alone(reading.alloc, Operand::Constant(Value::Number(number))))
         }
         _ => {
-            reading.wrong(
-                node.at,
+            reading.wanted(
+                node,
                 "a number, or a text with an expression, is wanted here",
             )?;
             Ok(nothing(reading.alloc))
@@ -186,7 +186,7 @@ pub(crate) fn operand_in(
     node: &Node<'_>,
 ) -> Result<Operand, AllocError> {
     let (Shape::Text) = node.shape else {
-        reading.wrong(node.at, "a text with one operand is wanted here")?;
+        reading.wanted(node, "a text with one operand is wanted here")?;
         return Ok(Operand::Caller);
     };
     let mut words = Words::new(reading, node.at, node.text);

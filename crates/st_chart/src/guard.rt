@@ -61,7 +61,7 @@ pub(crate) fn guard(
     tests: &mut PlainList<Test>,
 ) -> Result<(), AllocError> {
     let (Shape::Text) = node.shape else {
-        return reading.wrong(node.at, "a text with comparisons is wanted here");
+        return reading.wanted(node, "a text with comparisons is wanted here");
     };
     let mut words = Words::new(reading, node.at, node.text);
     for _ in 0..MOST_TESTS {

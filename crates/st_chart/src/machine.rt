@@ -25,7 +25,7 @@ fn first_value(reading: &mut Reading<'_>, part: &Node<'_>) -> Result<Value, Allo
         Shape::Number => Ok(Value::Number(number(reading, part.at, part.text)?)),
         Shape::Text => Ok(Value::Text(PlainText::copied(reading.alloc, part.text)?)),
         _ => {
-            reading.wrong(part.at, "a number, a text or null is wanted here")?;
+            reading.wanted(part, "a number, a text or null is wanted here")?;
             Ok(Value::Nothing)
         }
     }
@@ -38,8 +38,8 @@ fn context(
     registers: &mut PlainList<Value>,
 ) -> Result<(), AllocError> {
     let (Shape::Object) = object.shape else {
-        return reading.wrong(
-            object.at,
+        return reading.wanted(
+            object,
             "an object is wanted here: registers and their first values",
         );
     };
@@ -82,7 +82,7 @@ fn argument(reading: &mut Reading<'_>, list: &Node<'_>, part: &Node<'_>) -> Resu
 /// Reads the arguments of a start.
 fn arguments(reading: &mut Reading<'_>, list: &Node<'_>) -> Result<(), AllocError> {
     let (Shape::List) = list.shape else {
-        return reading.wrong(list.at, "a list of names is wanted here");
+        return reading.wanted(list, "a list of names is wanted here");
     };
     for (place, part) in list.parts.iter().enumerate() {
         if place.saturating_add(reading.names.registers.len()) == MOST_NAMES {

@@ -6,7 +6,7 @@ use crate::wording::listed_words;
 use std::alloc::AllocError;
 
 /// Whether a word is among words that are parted by blanks.
-fn has_word(words: &str, word: &str) -> bool {
+pub(crate) fn has_word(words: &str, word: &str) -> bool {
     words.split(' ').any(|one| one == word)
 }
 
@@ -46,7 +46,7 @@ pub(crate) fn is_object_of(
     words: &str,
 ) -> Result<bool, AllocError> {
     let (Shape::Object) = object.shape else {
-        reading.wrong(object.at, "an object is wanted here")?;
+        reading.wanted(object, "an object is wanted here")?;
         return Ok(false);
     };
     for part in &object.parts {
@@ -74,7 +74,7 @@ pub(crate) fn is_set(
             Shape::True => Ok(true),
             Shape::False => Ok(false),
             _ => {
-                reading.wrong(part.at, "true or false is wanted here")?;
+                reading.wanted(part, "true or false is wanted here")?;
                 Ok(false)
             }
         },
@@ -86,7 +86,7 @@ pub(crate) fn description(reading: &mut Reading<'_>, object: &Node<'_>) -> Resul
     match object.member("description") {
         Some(part) => match part.shape {
             Shape::Text => Ok(()),
-            _ => reading.wrong(part.at, "a text is wanted here"),
+            _ => reading.wanted(part, "a text is wanted here"),
         },
         None => Ok(()),
     }

@@ -53,7 +53,7 @@ pub(crate) fn text_in<'n>(
     match node.shape {
         Shape::Text => Ok(node.text),
         _ => {
-            reading.wrong(node.at, "a text is wanted here")?;
+            reading.wanted(node, "a text is wanted here")?;
             Ok("")
         }
     }

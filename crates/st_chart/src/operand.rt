@@ -3,6 +3,7 @@
 use crate::naming::{argument, register, state};
 use crate::reading::Reading;
 use crate::scope::{Part, Scope};
+use crate::wording::listed_names;
 use crate::words::Words;
 use crate::{Operand, PlainText, Value};
 use std::alloc::AllocError;
@@ -127,6 +128,17 @@ fn given(
     Ok(Operand::Before(argument(reading, at, name)?))
 }
 
+/// The number of a register. Where there is none, the word may have been meant as a text.
+fn register_or_text(reading: &mut Reading<'_>, at: usize, word: &str) -> Result<u32, AllocError> {
+    if let Some(number) = reading.names.registers.find(word) {
+        return Ok(number);
+    }
+    let mut listed = listed_names(reading.alloc, &reading.names.registers)?;
+    listed.push_str("; a text stands in single quotes")?;
+    reading.unknown(at, "register", word, listed)?;
+    Ok(0)
+}
+
 /// What a word with a dot, or a register's name, means.
 fn named_operand(
     reading: &mut Reading<'_>,
@@ -142,7 +154,7 @@ fn named_operand(
             Ok(Operand::Constant(Value::Number(u64::from(number))))
         }
         _ => {
-            let number = register(reading, at, word)?;
+            let number = register_or_text(reading, at, word)?;
             Ok(if scope.is_before {
                 Operand::Before(number)
             } else {

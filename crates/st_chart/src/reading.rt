@@ -2,6 +2,7 @@
 
 use crate::faults::Faults;
 use crate::places::Places;
+use crate::tree::{Node, Shape};
 use crate::wording::quoted;
 use crate::{Fault, PlainList, Vocabulary};
 use std::alloc::{AllocError, Global};
@@ -24,6 +25,19 @@ fn standing(alloc: Global, text: &str, word: &str) -> Result<String, AllocError>
     }
     let word = quoted(alloc, word)?;
     format!(in alloc; "{text}; there stands {word}")
+}
+
+/// How a value is shown.
+fn shown<'n>(node: &'n Node<'_>) -> &'n str {
+    match node.shape {
+        Shape::Null => "null",
+        Shape::False => "false",
+        Shape::True => "true",
+        Shape::List => "[",
+        Shape::Object => "{",
+        _ if node.text.is_empty() => "''",
+        _ => node.text,
+    }
 }
 
 impl<'a> Reading<'a> {
@@ -80,6 +94,11 @@ impl<'a> Reading<'a> {
         }
         let text = standing(self.alloc, text, word)?;
         self.faults.note(at, text)
+    }
+
+    /// Notes what is wanted in the place of a value.
+    pub(crate) fn wanted(&mut self, node: &Node<'_>, text: &str) -> Result<(), AllocError> {
+        self.stands(node.at, text, shown(node))
     }
 
     /// Notes that a name is not there, with those that are.

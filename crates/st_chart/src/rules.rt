@@ -9,7 +9,7 @@ use crate::naming::{register, state_in, symbol};
 use crate::reading::Reading;
 use crate::scope::{Part, Scope};
 use crate::tree::{Node, Shape};
-use crate::{Ask, Mark, On, PlainList, Rule, Say, Target, Timer, Update};
+use crate::{Ask, Expression, Mark, On, PlainList, Rule, Say, Target, Timer, Update};
 use std::alloc::{AllocError, Global};
 
 /// How many rules a key has at most.
@@ -69,10 +69,7 @@ fn assignments(
     updates: &mut PlainList<Update>,
 ) -> Result<(), AllocError> {
     let (Shape::Object) = node.shape else {
-        return reading.wrong(
-            node.at,
-            "an object is wanted here: registers and their values",
-        );
+        return reading.wanted(node, "an object is wanted here: registers and their values");
     };
     for member in &node.parts {
         if reading.faults.is_full() {
@@ -127,12 +124,27 @@ fn check_target(
     Ok(())
 }
 
+/// The reason of an end. A number that is none is a fault.
+fn reason(
+    reading: &mut Reading<'_>,
+    part: Part,
+    node: &Node<'_>,
+) -> Result<Expression, AllocError> {
+    if let Ok(number) = node.text.parse::<u64>() {
+        if number > u64::from(u32::MAX) {
+            let after = " is no reason, which is a number below 4294967296";
+            reading.wrong_name(node.at, "", node.text, after)?;
+        }
+    }
+    expression_in(reading, Scope::now(part), node)
+}
+
 /// Where a rule leads.
 fn target(reading: &mut Reading<'_>, part: Part, node: &Node<'_>) -> Result<Target, AllocError> {
     let repeats = is_set(reading, node, "reenter")?;
     check_target(reading, part, node, repeats)?;
-    if let Some(reason) = node.member("stop") {
-        return Ok(Target::Stop(expression_in(reading, Scope::now(part), reason)?));
+    if let Some(member) = node.member("stop") {
+        return Ok(Target::Stop(reason(reading, part, member)?));
     }
     if let Some(place) = node.member("target") {
         return Ok(Target::Next(state_in(reading, place)?));
@@ -202,6 +214,8 @@ pub(crate) fn add_after(
     add_to(asks, Ask::Set(Timer::State, time, say))
 }
 
+const RULES: &str = "an object, for events also a state's name, or a list of these is wanted here";
+
 /// Reads a rule: an object, or for events a state's name. An entry sets the state's time-out, if there is one.
 fn fill_rule(
     reading: &mut Reading<'_>,
@@ -215,7 +229,8 @@ fn fill_rule(
             let place = state_in(reading, node)?;
             set_target(rule, Target::Next(place));
         }
-        _ => fill(reading, part, node, rule)?,
+        (Shape::Object, _) => fill(reading, part, node, rule)?,
+        _ => reading.wanted(node, RULES)?,
     }
     match after {
         Some(member) => add_after(reading, member, &mut rule.asks),

@@ -41,7 +41,7 @@ fn after_in<'n, 'a>(
         (Shape::Object, [member]) => Ok(Some(member)),
         _ => {
             let text = "an object with one member is wanted here: milliseconds, and a rule";
-            reading.wrong(after.at, text)?;
+            reading.wanted(after, text)?;
             Ok(None)
         }
     }
@@ -159,10 +159,10 @@ fn add_state(
 /// Numbers the states.
 pub(crate) fn name_states(reading: &mut Reading<'_>, states: &Node<'_>) -> Result<(), AllocError> {
     let (Shape::Object) = states.shape else {
-        return reading.wrong(states.at, "an object is wanted here: states");
+        return reading.wanted(states, "an object is wanted here: states and what they do");
     };
     if states.parts.is_empty() {
-        return reading.wrong(states.at, "a state is wanted here");
+        return reading.wanted(states, "a state is wanted here");
     }
     for (place, part) in states.parts.iter().enumerate() {
         if place == MOST_NAMES {

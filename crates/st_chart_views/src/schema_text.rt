@@ -6,6 +6,7 @@ const SCHEMA: &str = r##"{
   "description": "A machine: its states, and the rules by which events lead from one to another.",
   "type": "object",
   "properties": {
+    "$schema": { "description": "Where this schema is, for an editor.", "type": "string" },
     "id": { "$ref": "#/$defs/name", "description": "The machine's name." },
     "description": { "$ref": "#/$defs/description" },
     "context": {
@@ -89,7 +90,10 @@ const SCHEMA: &str = r##"{
     },
     "stop": {
       "description": "The machine ends for this reason, a number of 32 bits.",
-      "$ref": "#/$defs/expression"
+      "anyOf": [
+        { "type": "integer", "minimum": 0, "maximum": 4294967295 },
+        { "type": "string", "minLength": 1 }
+      ]
     },
     "noReenter": { "const": false },
     "state": {
