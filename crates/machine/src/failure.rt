@@ -11,8 +11,8 @@ pub(crate) enum Failure {
     Unread(String),
     /// A file, or standard output, cannot be written: its name.
     Unwritten(String),
-    /// Standard input has more than may be read.
-    TooLong,
+    /// A file, or standard input, has more than may be read: its name.
+    TooLong(String),
     /// The clock, or a thread, cannot be had.
     System,
 }

@@ -40,11 +40,26 @@ pub(crate) fn wanted_bytes(rt: &HostRuntime, name: &str) -> Result<Vec<u8>, Fail
     }
 }
 
+/// What was read of something of a name, unless there is more.
+fn whole(alloc: Global, name: &str, bytes: Vec<u8>) -> Result<Vec<u8>, Failure> {
+    if bytes.len() as u64 <= FILE_LIMIT {
+        return Ok(bytes);
+    }
+    match String::from_str(alloc, name) {
+        Ok(name) => Err(Failure::TooLong(name)),
+        Err(AllocError) => Err(Failure::Memory),
+    }
+}
+
+/// The bytes of a file that is to be there and to have no more than may be read.
+pub(crate) fn whole_bytes(rt: &HostRuntime, name: &str) -> Result<Vec<u8>, Failure> {
+    whole(rt.alloc(), name, wanted_bytes(rt, name)?)
+}
+
 /// The bytes of standard input.
 pub(crate) fn input_bytes(rt: &HostRuntime) -> Result<Vec<u8>, Failure> {
     match bytes_of(rt.alloc(), rt.stdin()) {
-        Ok(bytes) if bytes.len() as u64 > FILE_LIMIT => Err(Failure::TooLong),
-        Ok(bytes) => Ok(bytes),
+        Ok(bytes) => whole(rt.alloc(), "standard input", bytes),
         Err(error) => Err(unread(rt.alloc(), "standard input", error.kind())),
     }
 }

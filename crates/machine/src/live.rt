@@ -155,6 +155,7 @@ pub(crate) fn run_live<R: Live + 'static>(
         Opened::Session(session) => session,
         Opened::Faults(output) => return put(rt, &output),
     };
+    session.has_clock = true;
     let (to, from) = bounded(rt.alloc(), 16)?;
     let Ok(_reader) = thread::spawn(&threads, move || pump(&threads, &to)) else {
         return Err(Failure::System);

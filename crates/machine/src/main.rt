@@ -10,7 +10,7 @@ mod shelf;
 mod words;
 
 use crate::failure::Failure;
-use crate::files::{input_bytes, wanted_bytes};
+use crate::files::{input_bytes, wanted_bytes, whole_bytes};
 use crate::live::{Live, run_live};
 use crate::order::Order;
 use crate::shelf::Files;
@@ -87,7 +87,7 @@ fn run(rt: &HostRuntime, file: &str, format: Format) -> Result<u8, Failure> {
 /// Runs cases, and compares what they print; or writes it, unless the description has faults.
 fn test(rt: &HostRuntime, file: &str, cases: &str, writes: bool) -> Result<u8, Failure> {
     let text = wanted_bytes(rt, file)?;
-    let given = wanted_bytes(rt, cases)?;
+    let given = whole_bytes(rt, cases)?;
     let tested = test_text(
         rt.alloc(),
         file,
@@ -178,8 +178,8 @@ fn ended(rt: &HostRuntime, failure: Failure) -> u8 {
             let _ = eprintln!(rt; "machine: {name} cannot be written");
             3
         }
-        Failure::TooLong => {
-            let _ = eprintln!(rt; "machine: standard input has more than 1,048,576 bytes");
+        Failure::TooLong(name) => {
+            let _ = eprintln!(rt; "machine: {name} has more than 1,048,576 bytes");
             3
         }
         Failure::System => {

@@ -24,6 +24,8 @@ pub const TURN_LIMIT: u64 = 1_000_000;
 pub struct Session {
     /// How many turns the machines make for one line of events, at most.
     pub turns: u64,
+    /// Whether moments are a clock's, by `pass` alone. Then a line `at` is at fault.
+    pub has_clock: bool,
     pub(crate) format: Format,
     pub(crate) world: World,
     /// The places of the machines that have something to do.
@@ -63,6 +65,7 @@ impl Session {
         world.add(file, text, chart)?;
         Ok(Session {
             turns: TURN_LIMIT,
+            has_clock: false,
             format,
             world,
             busy: BTreeSet::new(alloc),

@@ -7,7 +7,8 @@ pub struct Tested {
     pub text: Vec<u8>,
     /// The cases as they came: what is expected gives way to what came.
     pub written: Vec<u8>,
-    /// The description's faults, one a line; then no case was tried.
+    /// The description's faults, one a line; then no case was tried. Else that of the cases, if a line is expected before
+    /// any line of events.
     pub faults: Vec<u8>,
     /// 1 where the description has faults or a case differs, else 0.
     pub status: u8,

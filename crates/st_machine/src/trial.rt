@@ -23,6 +23,9 @@ pub(crate) struct Trial<'a> {
     // The number of the present line, and of the last one that says or expects something.
     line: u64,
     last: u64,
+    // Whether a line of events came in the present case, and the number of the first line that is expected before one.
+    is_told: bool,
+    stray: Option<u64>,
     // What came of the last line of events, and what is expected of it.
     came: Vec<u8>,
     expected: Vec<Expected<'a>>,
@@ -59,6 +62,15 @@ fn put_whole_line(line: &[u8], page: &mut Page) {
     page.put("\n");
 }
 
+/// Tells that a line is expected where no line of events came before it.
+fn tell_stray(alloc: Global, line: u64, out: &mut Vec<u8>) -> Result<(), AllocError> {
+    let mut page = Page::new(alloc, 0, false);
+    page.put("line ");
+    page.put_number(line);
+    page.put(" of the cases stands before the first line of events, which begins with \">\"\n");
+    page.hand_out(out)
+}
+
 impl<'a> Trial<'a> {
     /// A trial without a case.
     pub(crate) fn new(alloc: Global, session: Session) -> Trial<'a> {
@@ -73,6 +85,8 @@ impl<'a> Trial<'a> {
             failed: 0,
             line: 0,
             last: 0,
+            is_told: false,
+            stray: None,
             came: Vec::new(alloc),
             expected: Vec::new(alloc),
         }
@@ -125,6 +139,7 @@ impl<'a> Trial<'a> {
         }
         self.session.restart();
         self.differs = false;
+        self.is_told = false;
         Ok(())
     }
 
@@ -159,12 +174,16 @@ impl<'a> Trial<'a> {
         }
         self.name = Some(self.name.unwrap_or(b"unnamed".as_slice()));
         if let Some(event) = line.strip_prefix(b">".as_slice()) {
+            self.is_told = true;
             put_whole_line(line, &mut self.written);
             self.take_event(shelf, event.trim_ascii_start())?;
             self.last = self.line;
             return Ok(());
         }
         self.last = self.line;
+        if !self.is_told {
+            self.stray = Some(self.stray.unwrap_or(self.line));
+        }
         let line = Expected {
             line: self.line,
             text: line,
@@ -177,10 +196,12 @@ impl<'a> Trial<'a> {
     pub(crate) fn end(mut self, out: &mut Tested) -> Result<(), AllocError> {
         self.end_case()?;
         let Trial {
+            alloc,
             mut results,
             written,
             passed,
             failed,
+            stray,
             ..
         } = self;
         results.put_number(passed);
@@ -190,6 +211,9 @@ impl<'a> Trial<'a> {
         results.hand_out(&mut out.text)?;
         written.hand_out(&mut out.written)?;
         out.status = u8::from(failed > 0);
-        Ok(())
+        match stray {
+            Some(line) => tell_stray(alloc, line, &mut out.faults),
+            None => Ok(()),
+        }
     }
 }
