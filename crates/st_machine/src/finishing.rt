@@ -2,7 +2,7 @@
 
 use crate::contents::Contents;
 use crate::texts::Texts;
-use crate::world::World;
+use crate::world::{World, machine_in};
 use crate::{Format, Session};
 use serde_json::json;
 use st_cell::Journal;
@@ -28,7 +28,7 @@ impl World {
             return Ok(());
         };
         let label = String::from_str(self.alloc, by.name)?;
-        let Some(machine) = self.machines.get_mut(&place) else {
+        let Some(machine) = machine_in(&mut self.machines, place) else {
             return Ok(());
         };
         let entries = mem::replace(&mut machine.entries, Vec::new(self.alloc));

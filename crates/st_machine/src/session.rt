@@ -1,6 +1,6 @@
 //! A session: machines, and the lines of events that they are told.
 
-use crate::book::Book;
+use crate::machine::Machine;
 use crate::page::Page;
 use crate::word::words_of;
 use crate::world::World;
@@ -9,7 +9,7 @@ use st_chart::Names;
 use st_due::DueQueue;
 use st_events::MOMENT_LIMIT;
 use std::alloc::{AllocError, Global};
-use std::collections::{BTreeMap, BTreeSet};
+use std::collections::BTreeSet;
 
 /// How many bytes a line of events may have.
 pub const LINE_LIMIT: usize = 4096;
@@ -58,7 +58,7 @@ impl Session {
             keeps: !matches!(format, Format::Plain),
             books: Vec::new(alloc),
             files: Names::new(alloc),
-            machines: BTreeMap::new(alloc),
+            machines: Vec::new(alloc),
             last: None,
             names: Names::new(alloc),
         };
@@ -81,7 +81,7 @@ impl Session {
     /// Lets go of all machines, and begins anew at moment 0 with no line. The descriptions stay.
     pub fn restart(&mut self) {
         let alloc = self.world.alloc;
-        self.world.machines = BTreeMap::new(alloc);
+        self.world.machines = Vec::new(alloc);
         self.world.last = None;
         self.world.names = Names::new(alloc);
         self.busy = BTreeSet::new(alloc);
@@ -104,11 +104,7 @@ impl Session {
 
     /// Says whether a machine was started, and all have ended.
     pub fn is_over(&self) -> bool {
-        let machines = &self.world.machines;
-        !machines.is_empty()
-            && machines
-                .values()
-                .all(|machine| machine.core.ended().is_some())
+        self.world.last.is_some() && self.world.machines.iter().all(has_ended)
     }
 
     /// 1 where a line was at fault, else 0.
@@ -185,6 +181,14 @@ impl Session {
         let mut page = self.begin();
         self.pass_to(moment.min(MOMENT_LIMIT - 1), &mut page)?;
         self.end(page, out)
+    }
+}
+
+/// Says whether there is no machine that runs.
+fn has_ended(machine: &Option<Machine>) -> bool {
+    match machine {
+        Some(machine) => machine.core.ended().is_some(),
+        None => true,
     }
 }
 

@@ -2,6 +2,7 @@
 
 use crate::Session;
 use crate::page::Page;
+use crate::world::machine_in;
 use st_answers::{Command, Entry};
 use st_journal::Source;
 use std::alloc::AllocError;
@@ -25,7 +26,7 @@ impl Session {
 
     /// The machine at a place does one thing: a message goes out, or else it makes a turn.
     fn serve(&mut self, place: usize, page: &mut Page) -> Result<(), AllocError> {
-        match self.world.machines.get(&place) {
+        match self.world.machine(place) {
             Some(machine) if machine.core.has_message() => self.deliver(place, page),
             Some(_) => self.turn(place, page),
             None => Ok(()),
@@ -34,7 +35,7 @@ impl Session {
 
     /// Notes whether the machine at a place has something to do, and when its next time-out is due.
     pub(crate) fn note(&mut self, place: usize) -> Result<(), AllocError> {
-        let Some(machine) = self.world.machines.get(&place) else {
+        let Some(machine) = self.world.machine(place) else {
             return Ok(());
         };
         if machine.core.is_ready() {
@@ -59,7 +60,7 @@ impl Session {
         };
         let source = Source::Message(letter.sender, letter.number);
         let receiver = letter.receiver;
-        let to = match self.world.machines.get(&receiver) {
+        let to = match self.world.machine(receiver) {
             Some(machine) => machine.book,
             None => return Ok(()),
         };
@@ -83,7 +84,7 @@ impl Session {
 
     /// What was answered to calls of the machine at a place is collected, and told.
     pub(crate) fn collect(&mut self, place: usize, page: &mut Page) -> Result<(), AllocError> {
-        let Some(machine) = self.world.machines.get_mut(&place) else {
+        let Some(machine) = machine_in(&mut self.world.machines, place) else {
             return Ok(());
         };
         let tags = machine.closed_calls(self.world.alloc)?;

@@ -91,20 +91,15 @@ impl World {
         is_free
     }
 
-    /// A machine comes to the others, at a place. What its start did is told.
-    fn enrol(
-        &mut self,
-        place: usize,
-        machine: Machine,
-        report: &Report<Place>,
-        page: &mut Page,
-    ) -> Result<(), AllocError> {
-        self.machines.insert(place, machine)?;
+    /// A machine comes to the others, at a place for which there is room. What its start did is told.
+    fn enrol(&mut self, place: usize, machine: Machine, report: &Report<Place>, page: &mut Page) {
+        if let Some(free) = self.machines.get_mut(place) {
+            *free = Some(machine);
+        }
         self.last = Some(place);
         if let Some(by) = self.speaker(place) {
             by.tell_start(report, page);
         }
-        Ok(())
     }
 
     /// A machine of a name starts at a place and a moment, of the description at another. It answers whether there is one then.
@@ -124,6 +119,7 @@ impl World {
             },
             None => return Ok(false),
         };
+        self.make_room(place)?;
         let Ok(start) = Core::start(self.alloc, module, id_at(place), &given.values, moment) else {
             return Err(AllocError);
         };
@@ -137,7 +133,7 @@ impl World {
                     open: BTreeSet::new(self.alloc),
                     entries: Vec::new(self.alloc),
                 };
-                self.enrol(place, machine, &report, page)?;
+                self.enrol(place, machine, &report, page);
                 Ok(true)
             }
             Start::Ignored => {

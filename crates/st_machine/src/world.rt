@@ -10,7 +10,6 @@ use st_events::MachineId;
 use st_journal::Source;
 use st_table::Signal;
 use std::alloc::{AllocError, Global};
-use std::collections::BTreeMap;
 
 /// The machines of a session, and the descriptions that they run. A machine's place is that of its name among those that lines
 /// have named so far; one that was named and not started has a place, and is not there.
@@ -23,17 +22,26 @@ pub(crate) struct World {
     pub(crate) books: Vec<Book>,
     /// The descriptions' names, by their places.
     pub(crate) files: Names,
-    pub(crate) machines: BTreeMap<usize, Machine>,
+    /// The machines by their places.
+    pub(crate) machines: Vec<Option<Machine>>,
     /// The place of the machine that was started last.
     pub(crate) last: Option<usize>,
     /// The machines' names, by their places.
     pub(crate) names: Names,
 }
 
+/// The machine at a place of these, to be told something.
+pub(crate) fn machine_in(machines: &mut [Option<Machine>], place: usize) -> Option<&mut Machine> {
+    match machines.get_mut(place) {
+        Some(machine) => machine.as_mut(),
+        None => None,
+    }
+}
+
 impl World {
     /// The machine at a place, with the names for telling of it.
     pub(crate) fn speaker(&self, place: usize) -> Option<Speaker<'_>> {
-        let machine = self.machines.get(&place)?;
+        let machine = self.machine(place)?;
         let book = self.books.get(machine.book)?;
         let number = u32::try_from(place).ok()?;
         Some(Speaker {
@@ -44,9 +52,25 @@ impl World {
         })
     }
 
+    /// The machine at a place.
+    pub(crate) fn machine(&self, place: usize) -> Option<&Machine> {
+        match self.machines.get(place) {
+            Some(machine) => machine.as_ref(),
+            None => None,
+        }
+    }
+
+    /// Makes room for machines up to a place.
+    pub(crate) fn make_room(&mut self, place: usize) -> Result<(), AllocError> {
+        for _ in self.machines.len()..=place {
+            self.machines.push(None)?;
+        }
+        Ok(())
+    }
+
     /// The place of the machine of an id, where there is one that has not ended.
     pub(crate) fn receiver(&self, id: MachineId) -> Option<usize> {
-        let machine = self.machines.get(&id.slot)?;
+        let machine = self.machine(id.slot)?;
         if machine.core.id() != id || machine.core.ended().is_some() {
             return None;
         }
@@ -56,7 +80,7 @@ impl World {
     /// The place of the machine of a name, where it was started.
     pub(crate) fn started(&self, name: &str) -> Option<usize> {
         let place = self.names.find(name)? as usize;
-        self.machines.get(&place)?;
+        self.machine(place)?;
         Some(place)
     }
 
@@ -83,7 +107,7 @@ impl World {
         entry: Entry,
         signal: Signal,
     ) -> Result<(), AllocError> {
-        match self.machines.get_mut(&place) {
+        match machine_in(&mut self.machines, place) {
             Some(machine) => machine.post(self.alloc, self.keeps, source, entry, signal),
             None => Ok(()),
         }
@@ -96,7 +120,7 @@ impl World {
         command: Command<Signal>,
         copy: Command<Signal>,
     ) -> Result<(), AllocError> {
-        match self.machines.get_mut(&place) {
+        match machine_in(&mut self.machines, place) {
             Some(machine) => machine.tell(self.keeps, Source::Caller, command, copy),
             None => Ok(()),
         }
