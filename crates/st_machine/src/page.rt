@@ -89,7 +89,7 @@ impl Page {
     }
 
     /// Adds what was written to a text. Where memory was wanted and there was none, it says so.
-    pub(crate) fn hand_out(self, out: &mut Vec<u8>) -> Result<(), AllocError> {
+    pub(crate) fn hand_out(&self, out: &mut Vec<u8>) -> Result<(), AllocError> {
         if self.failed {
             return Err(AllocError);
         }

@@ -57,6 +57,26 @@ fn run(
     Ok(session.status())
 }
 
+/// Runs machines of the description in a text over lines of events, and adds what comes of it, or else the description's faults.
+fn fill(
+    alloc: Global,
+    file: &str,
+    text: &[u8],
+    events: &[u8],
+    format: Format,
+    shelf: &mut impl Shelf,
+    out: &mut Output,
+) -> Result<(), AllocError> {
+    let Some(chart) = read(alloc, file, text, &mut out.faults)? else {
+        return Ok(());
+    };
+    let mut session = Session::new(alloc, file, text, chart, format)?;
+    let ran = run(&mut session, events, shelf, &mut out.text);
+    drop(session);
+    out.status = ran?;
+    Ok(())
+}
+
 /// Runs machines of the description in a text over lines of events.
 ///
 /// Of a description with faults nothing is done but that they are told.
@@ -69,11 +89,10 @@ pub fn run_text(
     shelf: &mut impl Shelf,
 ) -> Result<Output, AllocError> {
     let mut out = Output::new(alloc);
-    if let Some(chart) = read(alloc, file, text, &mut out.faults)? {
-        let mut session = Session::new(alloc, file, text, chart, format)?;
-        out.status = run(&mut session, events, shelf, &mut out.text)?;
+    match fill(alloc, file, text, events, format, shelf, &mut out) {
+        Ok(()) => Ok(out),
+        Err(error) => Err(error),
     }
-    Ok(out)
 }
 
 /// A session that was opened, or the faults of its description.
@@ -85,6 +104,14 @@ pub enum Opened {
     Faults(Output),
 }
 
+/// A session that was opened.
+fn boxed(alloc: Global, session: Session) -> Result<Opened, AllocError> {
+    match Box::new(alloc, session) {
+        Ok(session) => Ok(Opened::Session(session)),
+        Err(_) => Err(AllocError),
+    }
+}
+
 /// Opens a session of the description in a text, for lines of events that come one by one.
 pub fn open_text(
     alloc: Global,
@@ -93,11 +120,9 @@ pub fn open_text(
     format: Format,
 ) -> Result<Opened, AllocError> {
     let mut out = Output::new(alloc);
-    match read(alloc, file, text, &mut out.faults)? {
-        Some(chart) => {
-            let session = Session::new(alloc, file, text, chart, format)?;
-            Ok(Opened::Session(Box::new(alloc, session).or(Err(AllocError))?))
-        }
-        None => Ok(Opened::Faults(out)),
+    match read(alloc, file, text, &mut out.faults) {
+        Ok(Some(chart)) => boxed(alloc, Session::new(alloc, file, text, chart, format)?),
+        Ok(None) => Ok(Opened::Faults(out)),
+        Err(error) => Err(error),
     }
 }
