@@ -1,11 +1,9 @@
 //! Events while the clock goes on.
 
 use crate::failure::Failure;
-use crate::files::wanted_bytes;
-use crate::put;
 use crate::shelf::Files;
-use crossbeam_channel::{Receiver, RecvTimeoutError, Sender, bounded};
-use st_machine::{Format, Opened, Session, open_text};
+use crossbeam_channel::{Receiver, RecvTimeoutError, Sender};
+use st_machine::Session;
 use std::alloc::Global;
 use std::io::Write;
 use std::rt::Clock;
@@ -16,13 +14,13 @@ use std::time::{Duration, Instant};
 /// How long is waited for a line where no time-out runs, in milliseconds.
 const LONGEST_WAIT: u64 = 3_600_000;
 
-/// What a thread that reads carries, and what waits for lines and moments.
-pub(crate) trait Live: Input + AllocGlobal + Clock + Wait + Threads + Copy + Send {}
+/// What reads lines, and waits for lines and moments.
+pub(crate) trait Live: Input + AllocGlobal + Clock + Wait + Threads + Copy {}
 
-impl<R: Input + AllocGlobal + Clock + Wait + Threads + Copy + Send> Live for R {}
+impl<R: Input + AllocGlobal + Clock + Wait + Threads + Copy> Live for R {}
 
 /// Sends each line of the input, until it ends or nobody takes them any more.
-fn pump<R: Live>(rt: &R, lines: &Sender<String, Global>) {
+pub(crate) fn pump<R: Live>(rt: &R, lines: &Sender<String, Global>) {
     for line in rt.lines(rt.alloc()) {
         let Ok(line) = line else {
             return;
@@ -112,8 +110,8 @@ fn is_over(session: &Session, has_lines: bool) -> bool {
     session.is_over() || !has_lines && session.next_due().is_none()
 }
 
-/// Takes lines and lets time pass, until nothing can happen any more.
-fn serve<R: Live>(
+/// Takes lines and lets time pass, until each machine has ended, or no line comes any more and no time-out runs.
+pub(crate) fn serve<R: Live>(
     rt: &HostRuntime,
     threads: R,
     session: &mut Session,
@@ -140,25 +138,4 @@ fn serve<R: Live>(
     session.finish(&mut out)?;
     written(rt, &mut out)?;
     Ok(session.status())
-}
-
-/// Runs events that come while the clock goes on. It ends when each machine has ended, or when no line comes any more and
-/// no time-out runs.
-pub(crate) fn run_live<R: Live + 'static>(
-    rt: &HostRuntime,
-    threads: R,
-    file: &str,
-    format: Format,
-) -> Result<u8, Failure> {
-    let text = wanted_bytes(rt, file)?;
-    let mut session = match open_text(rt.alloc(), file, text.as_slice(), format)? {
-        Opened::Session(session) => session,
-        Opened::Faults(output) => return put(rt, &output),
-    };
-    session.has_clock = true;
-    let (to, from) = bounded(rt.alloc(), 16)?;
-    let Ok(_reader) = thread::spawn(&threads, move || pump(&threads, &to)) else {
-        return Err(Failure::System);
-    };
-    serve(rt, threads, &mut session, &from)
 }

@@ -2,6 +2,7 @@
 //! streams, and knows nothing of any rule.
 #![tactic(auto)]
 
+mod asked;
 mod failure;
 mod files;
 mod live;
@@ -9,19 +10,22 @@ mod order;
 mod shelf;
 mod words;
 
+use crate::asked::Asked;
 use crate::failure::Failure;
 use crate::files::{input_bytes, wanted_bytes, whole_bytes};
-use crate::live::{Live, run_live};
+use crate::live::{pump, serve};
 use crate::order::Order;
 use crate::shelf::Files;
 use crate::words::read_words;
 use clap::Error;
 use clap::error::ErrorKind;
+use crossbeam_channel::bounded;
 use st_machine::{
-    Drawing, Format, Output, check_text, draw_text, format_text, run_text, schema, test_text,
+    Drawing, Format, Opened, Output, check_text, draw_text, format_text, open_text, run_text,
+    schema, test_text,
 };
 use std::process::ExitCode;
-use std::{env, fs, io};
+use std::{env, fs, io, thread};
 
 /// The status of words that are at fault.
 const WORDS_AT_FAULT: u8 = 2;
@@ -49,12 +53,10 @@ fn put(rt: &HostRuntime, output: &Output) -> Result<u8, Failure> {
 fn check(rt: &HostRuntime, file: &str) -> Result<u8, Failure> {
     let text = wanted_bytes(rt, file)?;
     let output = check_text(rt.alloc(), file, text.as_slice())?;
-    let told = if output.status == 0 {
-        &output.text
-    } else {
-        &output.faults
-    };
-    written(rt, told.as_slice(), &[], output.status)
+    if output.status == 0 {
+        return written(rt, output.text.as_slice(), &[], 0);
+    }
+    written(rt, output.faults.as_slice(), &[], output.status)
 }
 
 /// Draws a description.
@@ -117,17 +119,30 @@ fn print_schema(rt: &HostRuntime) -> Result<u8, Failure> {
     }
 }
 
-/// Does what is asked for, and returns the status.
-fn done<R: Live + 'static>(rt: &HostRuntime, threads: R, order: Order) -> Result<u8, Failure> {
-    match order {
+/// Opens a session for events that come while the clock goes on. Of a description with faults these are written.
+fn open(rt: &HostRuntime, file: &str, format: Format) -> Result<Asked, Failure> {
+    let text = wanted_bytes(rt, file)?;
+    match open_text(rt.alloc(), file, text.as_slice(), format)? {
+        Opened::Session(session) => Ok(Asked::Live(session)),
+        Opened::Faults(output) => Ok(Asked::Done(put(rt, &output)?)),
+    }
+}
+
+/// Does what is asked for, or opens a session for live events.
+fn done(rt: &HostRuntime, order: Order) -> Result<Asked, Failure> {
+    let status = match order {
         Order::Check(file) => check(rt, file.as_str()),
         Order::Draw(file, drawing) => draw(rt, file.as_str(), drawing),
         Order::Write(file) => format(rt, file.as_str()),
         Order::Run(file, format) => run(rt, file.as_str(), format),
-        Order::Live(file, format) => run_live(rt, threads, file.as_str(), format),
+        Order::Live(file, format) => return open(rt, file.as_str(), format),
         Order::Test(file, cases) => test(rt, file.as_str(), cases.as_str(), false),
         Order::Rewrite(file, cases) => test(rt, file.as_str(), cases.as_str(), true),
         Order::Schema => print_schema(rt),
+    };
+    match status {
+        Ok(status) => Ok(Asked::Done(status)),
+        Err(failure) => Err(failure),
     }
 }
 
@@ -151,15 +166,15 @@ fn told(rt: &HostRuntime, error: &Error) -> Result<u8, Failure> {
     Ok(WORDS_AT_FAULT)
 }
 
-/// Reads the words, and does what they ask for.
-fn asked<R: Live + 'static>(rt: &HostRuntime, threads: R) -> Result<u8, Failure> {
+/// Reads the words, and does what they ask for, or opens a session for live events.
+fn asked(rt: &HostRuntime) -> Result<Asked, Failure> {
     let words: Vec<String> = match env::args(rt) {
         Ok(words) => words.collect(rt.alloc())?,
         Err(_error) => return Err(Failure::Memory),
     };
     match read_words(rt.alloc(), words.as_slice()) {
-        Ok(order) => done(rt, threads, order),
-        Err(error) => told(rt, &error),
+        Ok(order) => done(rt, order),
+        Err(error) => Ok(Asked::Done(told(rt, &error)?)),
     }
 }
 
@@ -189,8 +204,21 @@ fn ended(rt: &HostRuntime, failure: Failure) -> u8 {
     }
 }
 
+// What a thread is to carry is known here alone, so it is here that the thread starts which reads lines.
 fn main(rt: HostRuntime) -> ExitCode {
-    match asked(&rt, rt) {
+    let mut session = match asked(&rt) {
+        Ok(Asked::Live(session)) => session,
+        Ok(Asked::Done(status)) => return ExitCode::from(status),
+        Err(failure) => return ExitCode::from(ended(&rt, failure)),
+    };
+    session.has_clock = true;
+    let Ok((to, from)) = bounded(rt.alloc(), 16) else {
+        return ExitCode::from(ended(&rt, Failure::Memory));
+    };
+    let Ok(_reader) = thread::spawn(&rt, move || pump(&rt, &to)) else {
+        return ExitCode::from(ended(&rt, Failure::System));
+    };
+    match serve(&rt, rt, &mut session, &from) {
         Ok(status) => ExitCode::from(status),
         Err(failure) => ExitCode::from(ended(&rt, failure)),
     }
