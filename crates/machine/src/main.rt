@@ -167,7 +167,7 @@ fn told(rt: &HostRuntime, error: &Error) -> Result<u8, Failure> {
 }
 
 /// Reads the words, and does what they ask for, or opens a session for live events.
-fn asked(rt: &HostRuntime) -> Result<Asked, Failure> {
+fn started(rt: &HostRuntime) -> Result<Asked, Failure> {
     let words: Vec<String> = match env::args(rt) {
         Ok(words) => words.collect(rt.alloc())?,
         Err(_error) => return Err(Failure::Memory),
@@ -206,7 +206,7 @@ fn ended(rt: &HostRuntime, failure: Failure) -> u8 {
 
 // What a thread is to carry is known here alone, so it is here that the thread starts which reads lines.
 fn main(rt: HostRuntime) -> ExitCode {
-    let mut session = match asked(&rt) {
+    let mut session = match started(&rt) {
         Ok(Asked::Live(session)) => session,
         Ok(Asked::Done(status)) => return ExitCode::from(status),
         Err(failure) => return ExitCode::from(ended(&rt, failure)),
