@@ -1,0 +1,4 @@
+pub mod HostAnswer
+pub mod HostedRuns
+pub mod Shown
+pub mod Turning
