@@ -51,7 +51,7 @@ marked_by count = grind arith
 marked : (n : ℕ) (numbers : List ℕ) → (if has numbers n then 1 else 0) ≡ min 1 (times n numbers)
 marked n numbers = ap (λ (among : Bool). if among then 1 else 0) (has_times numbers n) ∙ marked_by (times n numbers)
 
-marked_behind : (n : ℕ) (numbers more : List ℕ) → (if has (numbers ++ more) n then 1 else 0) ≡ min 1 (times n numbers + times n more)
+pub marked_behind : (n : ℕ) (numbers more : List ℕ) → (if has (numbers ++ more) n then 1 else 0) ≡ min 1 (times n numbers + times n more)
 marked_behind n numbers more = marked n (numbers ++ more) ∙ ap (min 1) (times-append n numbers more)
 
 none_by : (same : Bool) → same ≡ false → (if same then 1 else 0) + 0 ≡ 0
@@ -68,7 +68,7 @@ alone_is : (n number : ℕ) → times n (number ∷ []) ≡ 1 → number ≡ n
 alone_is n number h = let same : (number == n) ≡ true = alone_by (number == n) h in grind (arith, same)
 
 -- what is finished does not come again, so that it is counted once
-counted_on : (waits_after waits_next waits accepted accepted_later finished finished_later : ℕ) → waits_next + finished ≡ min 1 (waits + accepted)
+pub counted_on : (waits_after waits_next waits accepted accepted_later finished finished_later : ℕ) → waits_next + finished ≡ min 1 (waits + accepted)
     → waits_after + finished_later ≡ min 1 (waits_next + accepted_later) → (finished ≡ 1 → accepted_later ≡ 0)
     → waits_after + (finished + finished_later) ≡ min 1 (waits + (accepted + accepted_later))
 counted_on waits_after waits_next waits accepted accepted_later zero finished_later first others none = omega (arith, first, others)
@@ -79,12 +79,12 @@ counted_on waits_after waits_next waits accepted accepted_later (suc finished) f
 -- ---- what is accepted and what is finished between two schedules
 module _ {C : Type 0} where
   -- a number that was given out, and may not be handled any more
-  abbrev IsGone : ℕ → Schedule C → Type 0
+  abbrev pub IsGone : ℕ → Schedule C → Type 0
   IsGone n s = (n < s.next_number) × (times n (live_numbers s) ≡ 0)
 
   -- each number that waited, or is accepted, waits on or is finished, and once; none that was gone is
   -- accepted or comes again, and what is finished is gone
-  record Accounts (old new : Schedule C) (accepted finished : List ℕ) : Type 0 where
+  pub record Accounts (old new : Schedule C) (accepted finished : List ℕ) : Type 0 where
     pub moved : (n : ℕ) → times n (waiting_numbers new.pending) + times n finished ≡ min 1 (times n (waiting_numbers old.pending) + times n accepted)
     pub stays_gone : (n : ℕ) → IsGone n old → IsGone n new
     pub not_again : (n : ℕ) → IsGone n old → times n accepted ≡ 0
@@ -94,7 +94,7 @@ module _ {C : Type 0} where
       → Accounts old new accepted others
   finished_same same accounts = rw same accounts
 
-  waiting_once : (latest : ℕ) (s : Schedule C) (n : ℕ) → IsLawfulSchedule latest s → times n (waiting_numbers s.pending) ≤ 1
+  pub waiting_once : (latest : ℕ) (s : Schedule C) (n : ℕ) → IsLawfulSchedule latest s → times n (waiting_numbers s.pending) ≤ 1
   waiting_once latest s n law = omega (arith, law.distinct n, times-append n (waiting_numbers s.pending) (running_numbers s.running))
 
   -- neither is there where the same events wait and the same time-outs run
@@ -296,7 +296,7 @@ module _ {S D C : Type 0} where
 
 module _ {M S D C : Type 0} (callbacks : M → Callbacks S D C) where
   -- a command leaves a machine running that ran
-  does_runs : (old new : Machine M S D C) (command : Command C) (answer : Answer S C) → Does callbacks old command answer new
+  pub does_runs : (old new : Machine M S D C) (command : Command C) (answer : Answer S C) → Does callbacks old command answer new
       → new.machine.ended ≡ None → old.machine.ended ≡ None
   does_runs old new command answer does still =
       met_runs (callbacks old.module_) (without_memory command) answer old.machine new.machine (step_of (callbacks old.module_) old.machine command)
@@ -312,7 +312,7 @@ module _ {M S D C : Type 0} (callbacks : M → Callbacks S D C) where
       does_runs old ran.0 c a ran.1 (ran_before ran.0 commands answers new ran.2 still)
 
   -- ---- what a run accepts and finishes
-  does_accounts : (old new : Machine M S D C) (command : Command C) (answer : Answer S C) → IsLawful old.machine
+  pub does_accounts : (old new : Machine M S D C) (command : Command C) (answer : Answer S C) → IsLawful old.machine
       → Does callbacks old command answer new → new.machine.ended ≡ None
       → Accounts old.machine.schedule new.machine.schedule (accepted_by answer) (finished_by answer)
   does_accounts old new command answer law does still =

@@ -1,5 +1,5 @@
 //! Laws of hosted machines, for every callback module: each is shown once, and calling it does nothing.
-ghost use Rattle.std.specs.Prelude.{◌≡◌, ◌<◌, ◌^◌, ℕ, false, Some, Ok, List};
+ghost use Rattle.std.specs.Prelude.{◌≡◌, ◌<◌, ◌^◌, ℕ, false, Some, None, Ok, List};
 ghost use Rattle.st_events.specs.declared.event.Event.{Event};
 ghost use Rattle.st_events.specs.declared.init.Init.{Init};
 ghost use Rattle.st_events.specs.declared.machine_id.MachineId.{MachineId};
@@ -8,6 +8,7 @@ ghost use Rattle.st_answers.specs.declared.command.Command.{Command};
 ghost use Rattle.st_answers.specs.declared.report.Report.{Report};
 ghost use Rattle.st_core.specs.declared.machine_state.MachineState.{MachineState};
 ghost use Rattle.st_core.specs.declared.start.Start.TheVariants.{Running};
+ghost use Rattle.st_core.specs.Accounting.{IsAccounted};
 ghost use Rattle.st_core.specs.Callbacks.{Callbacks};
 ghost use Rattle.st_core.specs.Choice.{next_event_of};
 ghost use Rattle.st_core.specs.Lawful.{IsLawful};
@@ -42,4 +43,17 @@ pub fn a_hosted_run_is_lawful<M: Module>(_module: &M)
         (core : Machine M M.State M.Data M.Content) (report : Report M.State) (steps : List (M × Command M.Content)) (answers : List (Answer M.State M.Content)) (after : MachineState M.State M.Data M.Content)
         → first < 2 ^ 63 → start_of {A = M.Arg} (callbacks module_) module_ id init now first ≡ Ok (Running core report)
         → HostedRuns callbacks core.machine steps answers after → IsLawful after }
+{}
+
+/// No event of a host's machine is lost and none is finished twice, whatever the host answers: after any list of
+/// commands behind a start, each done with the answers that were handed in for it, that leaves the machine running,
+/// each number that waited at the start or was accepted since stands once among those that wait, or once among those
+/// that were finished, and not in both, and no other number stands there.
+///
+/// Ours: docs/TRANSITIONS.md, Accounting.
+pub fn a_hosted_run_is_accounted<M: Module>(_module: &M)
+    ensures { (callbacks : M → Callbacks M.State M.Data M.Content) (module_ : M) (id : MachineId) (init : Init M.State M.Data M.Content) (now first : ℕ)
+        (core : Machine M M.State M.Data M.Content) (report : Report M.State) (steps : List (M × Command M.Content)) (answers : List (Answer M.State M.Content)) (after : MachineState M.State M.Data M.Content)
+        → first < 2 ^ 63 → start_of {A = M.Arg} (callbacks module_) module_ id init now first ≡ Ok (Running core report)
+        → HostedRuns callbacks core.machine steps answers after → after.ended ≡ None → IsAccounted core.machine answers after }
 {}

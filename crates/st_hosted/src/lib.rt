@@ -19,7 +19,9 @@ pub use begin::Begin;
 pub use host_answer::HostAnswer;
 pub use host_entered::HostEntered;
 pub use host_outcome::HostOutcome;
-pub use laws::{a_hosted_run_is_lawful, an_event_that_was_shown_stays_next};
+pub use laws::{
+    a_hosted_run_is_accounted, a_hosted_run_is_lawful, an_event_that_was_shown_stays_next,
+};
 pub use not_turned::NotTurned;
 pub use payload::Payload;
 pub use stopping::stop_by;
