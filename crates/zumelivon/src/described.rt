@@ -1,0 +1,181 @@
+//! Calls of described machines.
+use crate::codes::{DONE, GONE, IGNORED, INVALID, NOTHING, NO_MEMORY, NO_SUCH_DESCRIPTION, NO_SUCH_MACHINE, STOPPED, TOO_SMALL};
+use crate::flat_report::FlatReport;
+use crate::flat_signal::FlatSignal;
+use crate::posting::number_of;
+use crate::reading::entry_of;
+use crate::showing::report_as;
+use crate::signals::{are_signals, bytes_of, flat_signal, is_signal, signal_of, values_of, write_signal};
+use st_core::TurnsEnd;
+use st_embedded::{Begun, Lists, Machines, collect_at, post_at, run_at, start_described, take_out_at};
+use st_requests::Collected;
+use st_table::Interpreter;
+use std::alloc::{AllocError, Global};
+
+/// The callback module of a description.
+fn interpreter(all: &Machines, description: u64) -> Result<Option<Interpreter>, AllocError> {
+    match all.charts.get(description as usize) {
+        Some(chart) => {
+            let table = chart.table.clone()?;
+            Ok(Some(Interpreter { table }))
+        }
+        None => Ok(None),
+    }
+}
+
+pub(crate) fn start(
+    alloc: Global,
+    all: &mut Machines,
+    description: u64,
+    now: u64,
+    values: &[FlatSignal],
+    bytes: &[u8],
+    id: &mut u64,
+    report: &mut FlatReport,
+) -> u32 {
+    let interpreter = match interpreter(all, description) {
+        Ok(Some(interpreter)) => interpreter,
+        Ok(None) => return NO_SUCH_DESCRIPTION,
+        Err(_) => return NO_MEMORY,
+    };
+    if !are_signals(values, bytes) {
+        return INVALID;
+    }
+    let Ok(values) = values_of(alloc, values, bytes) else {
+        return NO_MEMORY;
+    };
+    match start_described(all, interpreter, &values, now) {
+        Ok(Begun::Running(number, reported)) => {
+            *id = number;
+            let before = u64::from(reported.before.number);
+            let after = u64::from(reported.after.number);
+            *report = report_as(&reported, before, after);
+            all.lists = Lists::of(reported);
+            DONE
+        }
+        Ok(Begun::Ignored) => IGNORED,
+        Ok(Begun::Stopped(reason)) => {
+            report.reason = reason;
+            STOPPED
+        }
+        Err(refusal) => number_of(refusal),
+    }
+}
+
+pub(crate) fn post(
+    alloc: Global,
+    all: &mut Machines,
+    id: u64,
+    entry: u32,
+    signal: &FlatSignal,
+    bytes: &[u8],
+    number: &mut u64,
+) -> u32 {
+    let Some(entry) = entry_of(entry) else {
+        return INVALID;
+    };
+    if !is_signal(signal, bytes) {
+        return INVALID;
+    }
+    let Ok(content) = signal_of(alloc, signal, bytes) else {
+        return NO_MEMORY;
+    };
+    match post_at(&mut all.described, id, entry, content) {
+        Ok(posted) => {
+            *number = posted;
+            DONE
+        }
+        Err(refused) => number_of(refused.refusal),
+    }
+}
+
+pub(crate) fn run(
+    all: &mut Machines,
+    id: u64,
+    now: u64,
+    at_most: u64,
+    turns: &mut u64,
+    more: &mut u32,
+) -> u32 {
+    let Some(core) = all.described.get(&id) else {
+        return NO_SUCH_MACHINE;
+    };
+    if let Some(_) = core.ended() {
+        return 2;
+    }
+    let Some(made) = run_at(&mut all.described, id, now, at_most) else {
+        return NO_SUCH_MACHINE;
+    };
+    *turns = made.reported;
+    *more = u32::from(made.end == TurnsEnd::AtMost);
+    match made.end {
+        TurnsEnd::Refused(refusal) => number_of(refusal),
+        _ => DONE,
+    }
+}
+
+pub(crate) fn collect(
+    all: &mut Machines,
+    id: u64,
+    number: u64,
+    signal: &mut FlatSignal,
+    reason: &mut u32,
+    room: &mut [u8],
+) -> u32 {
+    let Some(core) = all.described.get(&id) else {
+        return NO_SUCH_MACHINE;
+    };
+    if let Some(reply) = core.peek(core.tag(number)) {
+        if bytes_of(reply).len() > room.len() {
+            *signal = flat_signal(reply);
+            return TOO_SMALL;
+        }
+    }
+    match collect_at(&mut all.described, id, number) {
+        None => NO_SUCH_MACHINE,
+        Some(Collected::Waiting) => NOTHING,
+        Some(Collected::Gone) => GONE,
+        Some(Collected::Stopped(why)) => {
+            *reason = why;
+            STOPPED
+        }
+        Some(Collected::Reply(reply)) => {
+            *signal = flat_signal(&reply);
+            write_signal(&reply, room);
+            DONE
+        }
+    }
+}
+
+pub(crate) fn take_out(
+    all: &mut Machines,
+    id: u64,
+    signal: &mut FlatSignal,
+    target: &mut u64,
+    number: &mut u64,
+    room: &mut [u8],
+) -> u32 {
+    let Some(core) = all.described.get(&id) else {
+        return NO_SUCH_MACHINE;
+    };
+    match core.first_message() {
+        None => return NOTHING,
+        Some(message) => {
+            if bytes_of(&message.content).len() > room.len() {
+                *signal = flat_signal(&message.content);
+                return TOO_SMALL;
+            }
+        }
+    }
+    match take_out_at(&mut all.described, id) {
+        Some(Some(message)) => {
+            *signal = flat_signal(&message.content);
+            *target = message.target.serial;
+            *number = message.number;
+            write_signal(&message.content, room);
+            DONE
+        }
+        Some(None) => NOTHING,
+        None => NO_SUCH_MACHINE,
+    }
+}

@@ -1,0 +1,81 @@
+//! What comes to a hosted machine from outside.
+ghost use Rattle.std.specs.Prelude.{◌≡◌, ◌≢◌, ◌⊎◌, true, false, Ok, Err, Some};
+ghost use Rattle.st_answers.specs.declared.answer.Answer.TheVariants as answer;
+ghost use Rattle.st_answers.specs.declared.command.Command.TheVariants as command;
+ghost use Rattle.st_core.specs.Run.{Does};
+ghost use Rattle.st_embedded.specs.Hosted.{Hosted, hosted_callbacks};
+ghost use Rattle.st_embedded.specs.Table.{machine_at, Changes, Same};
+ghost use Rattle.st_events.specs.Refusal.{number_of};
+ghost use Rattle.st_events.specs.declared.refused.Refused.{Refused};
+ghost use Rattle.st_hosted.specs.declared.payload.Payload.{Payload};
+ghost use Rattle.zumelivon.specs.Exports.{OnlyHosted, content_in};
+ghost use Rattle.zumelivon.specs.Reading.{is_entry, entry_in};
+
+use crate::codes::{DONE, INVALID, NOTHING, NO_MEMORY, NO_SUCH_MACHINE};
+use crate::reading::entry_of;
+use st_embedded::{Machines, post_at, reply_at};
+use st_events::Refusal;
+use st_hosted::Payload;
+use std::alloc::Global;
+
+/// The number of a refusal.
+pub(crate) fn number_of(refusal: Refusal) -> u32
+    ensures { result ≡ number_of refusal }
+{
+    u32::from(refusal.number())
+}
+
+pub(crate) fn post(
+    alloc: Global,
+    all: &mut Machines,
+    id: u64,
+    entry: u32,
+    code: u64,
+    bytes: &[u8],
+    number: &mut u64,
+) -> u32
+    ensures posted { result ≡ 0 → (is_entry entry ≡ true) × Changes (λ before after. Does hosted_callbacks before (command.Post (entry_in entry) (content_in code bytes.now)) (answer.Post (Ok number.new)) after) all.old.hosted all.new.hosted id }
+    ensures why { result ≢ 0 → result ≢ 101 → result ≢ 1 → (before : Hosted) → machine_at all.old.hosted id ≡ Some before → (refused : Refused Payload) × (result ≡ number_of refused.refusal) × Does hosted_callbacks before (command.Post (entry_in entry) (content_in code bytes.now)) (answer.Post (Err refused)) before }
+    ensures refused { result ≢ 0 → Same all.old.hosted all.new.hosted × (number.new ≡ number.old) }
+    ensures rest { OnlyHosted all.old all.new }
+    ensures open { result ≢ 105 }
+{
+    let Some(entry) = entry_of(entry) else {
+        return INVALID;
+    };
+    let Ok(content) = Payload::of(alloc, code, bytes) else {
+        return NO_MEMORY;
+    };
+    match post_at(&mut all.hosted, id, entry, content) {
+        Ok(posted) => {
+            *number = posted;
+            DONE
+        }
+        Err(refused) => number_of(refused.refusal),
+    }
+}
+
+pub(crate) fn reply(
+    alloc: Global,
+    all: &mut Machines,
+    id: u64,
+    number: u64,
+    code: u64,
+    bytes: &[u8],
+) -> u32
+    ensures taken { result ≡ 0 → Changes (λ before after. Does hosted_callbacks before (command.Reply (record { machine = before.machine.id; request = number }) (content_in code bytes.now)) (answer.Reply true) after) all.old.hosted all.new.hosted id }
+    ensures nothing { result ≡ 100 → Changes (λ before after. Does hosted_callbacks before (command.Reply (record { machine = before.machine.id; request = number }) (content_in code bytes.now)) (answer.Reply false) after) all.old.hosted all.new.hosted id }
+    ensures absent { result ≡ 9 → (machine_at all.old.hosted id ≡ None) × Same all.old.hosted all.new.hosted }
+    ensures no_memory { result ≡ 1 → Same all.old.hosted all.new.hosted }
+    ensures rest { OnlyHosted all.old all.new }
+    ensures answers { (result ≡ 0) ⊎ (result ≡ 100) ⊎ (result ≡ 9) ⊎ (result ≡ 1) }
+{
+    let Ok(content) = Payload::of(alloc, code, bytes) else {
+        return NO_MEMORY;
+    };
+    match reply_at(&mut all.hosted, id, number, content) {
+        Some(true) => DONE,
+        Some(false) => NOTHING,
+        None => NO_SUCH_MACHINE,
+    }
+}

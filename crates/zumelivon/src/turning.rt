@@ -1,0 +1,126 @@
+//! Starts, next events and turns of hosted machines.
+ghost use Rattle.std.specs.Prelude.{◌≡◌, ◌≢◌, ◌⊎◌, ◌+◌, true, None, Some, Ok, Err, length};
+ghost use Rattle.std.specs.List.{list_all};
+ghost use Rattle.st_answers.specs.declared.answer.Answer.TheVariants as answer;
+ghost use Rattle.st_answers.specs.declared.command.Command.TheVariants as command;
+ghost use Rattle.st_answers.specs.declared.report.Report.{Report};
+ghost use Rattle.st_answers.specs.declared.turned.Turned.TheVariants.{Reported};
+ghost use Rattle.st_core.specs.Choice.{next_event_of};
+ghost use Rattle.st_core.specs.Run.{Does};
+ghost use Rattle.st_embedded.specs.Hosted.{Hosted, IsStarted, hosted_callbacks, answered_by, last_word};
+ghost use Rattle.st_embedded.specs.Table.{machine_at, lists_of, Changes, Same, Puts};
+ghost use Rattle.st_events.specs.declared.event.Event.{Event};
+ghost use Rattle.st_hosted.specs.Turning.{IsNext, IsWhyNot};
+ghost use Rattle.st_hosted.specs.declared.payload.Payload.{Payload};
+ghost use Rattle.st_hosted.specs.declared.why_not.WhyNot.{WhyNot};
+
+ghost use Rattle.zumelivon.specs.Exports.{OnlyHosted};
+ghost use Rattle.zumelivon.specs.Reading.{is_action, is_answer, is_entered, answer_in, begin_in, first_answer_in};
+ghost use Rattle.zumelivon.specs.Showing.{flat_event, flat_report, written};
+
+use crate::answers::Answers;
+use crate::codes::{DONE, INVALID, NOT_NEXT, NOTHING, NO_MEMORY, NO_SUCH_MACHINE, TOO_SMALL};
+use crate::flat_action::FlatAction;
+use crate::flat_begin::FlatBegin;
+use crate::flat_event::FlatEvent;
+use crate::flat_report::FlatReport;
+use crate::posting::number_of;
+use crate::read_actions::{actions_of, are_actions};
+use crate::showing::{event_of, report_of, write};
+use st_core::Turned;
+use st_embedded::{Lists, Machines, start_hosted, turn_hosted};
+use st_hosted::{Begin, HostAnswer, HostOutcome, WhyNot};
+use st_events::PlainList;
+use std::alloc::Global;
+
+/// The number of a turn that was not made.
+fn why_number(why: WhyNot) -> u32
+{
+    match why {
+        WhyNot::NotNext => NOT_NEXT,
+        WhyNot::Refused(refusal) => number_of(refusal),
+    }
+}
+
+pub(crate) fn start(
+    alloc: Global,
+    all: &mut Machines,
+    now: u64,
+    begin: &FlatBegin,
+    answers: &Answers<'_>,
+    id: &mut u64,
+    report: &mut FlatReport,
+) -> u32 {
+    if !are_actions(answers.actions, answers.bytes) || !answers.is_entered() {
+        return INVALID;
+    }
+    let Ok(actions) = actions_of(alloc, answers.actions, answers.bytes) else {
+        return NO_MEMORY;
+    };
+    let Ok(entered) = answers.entered(alloc) else {
+        return NO_MEMORY;
+    };
+    let host = HostAnswer {
+        enters: begin.enters != 0,
+        outcome: HostOutcome::KeepStateAndData(PlainList::new(alloc)),
+        entered,
+        word: begin.word,
+    };
+    let begin = Begin {
+        state: begin.state,
+        data: begin.data,
+        actions,
+    };
+    match start_hosted(all, &begin, host, now) {
+        Ok((number, reported)) => {
+            *id = number;
+            *report = report_of(&reported);
+            all.lists = Lists::of(reported);
+            DONE
+        }
+        Err(refusal) => number_of(refusal),
+    }
+}
+
+pub(crate) fn next(all: &Machines, id: u64, event: &mut FlatEvent, room: &mut [u8]) -> u32 {
+    let Some(core) = all.hosted.get(&id) else {
+        return NO_SUCH_MACHINE;
+    };
+    match core.next() {
+        None => NOTHING,
+        Some((number, kind, content)) => {
+            *event = event_of(core, number, kind, content);
+            if content.bytes.len() > room.len() {
+                return TOO_SMALL;
+            }
+            write(content.bytes.as_slice(), room);
+            DONE
+        }
+    }
+}
+
+pub(crate) fn turn(
+    alloc: Global,
+    all: &mut Machines,
+    id: u64,
+    number: u64,
+    now: u64,
+    answers: &Answers<'_>,
+    report: &mut FlatReport,
+) -> u32 {
+    if !answers.is_answer() {
+        return INVALID;
+    }
+    let Ok(host) = answers.host_answer(alloc) else {
+        return NO_MEMORY;
+    };
+    match turn_hosted(&mut all.hosted, id, number, host, now) {
+        Ok(Turned::Reported(reported)) => {
+            *report = report_of(&reported);
+            all.lists = Lists::of(reported);
+            DONE
+        }
+        Ok(Turned::Idle) => NOTHING,
+        Err(why) => why_number(why),
+    }
+}
