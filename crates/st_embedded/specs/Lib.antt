@@ -1,2 +1,3 @@
+pub mod Described
 pub mod Hosted
 pub mod Table

@@ -1,10 +1,12 @@
 //! What described machines are told, by number.
+ghost use Rattle.std.specs.Prelude.{◌≡◌, IfOk, OnErr};
+ghost use Rattle.st_embedded.specs.Described.{Begins};
+ghost use Rattle.st_embedded.specs.Table.{Same};
 
 use crate::{Machines, id_of};
-use indexmap::IndexMap;
 use st_answers::Report;
-use st_core::{Core, Start, Turns};
-use st_events::{Module, PlainList, Reason, Refusal};
+use st_core::{Core, Start};
+use st_events::{PlainList, Reason, Refusal};
 use st_table::{Interpreter, Place, Value};
 
 /// What comes of the start of a described machine.
@@ -30,7 +32,12 @@ pub fn start_described(
     interpreter: Interpreter,
     values: &PlainList<Value>,
     now: u64,
-) -> Result<Begun, Refusal> {
+) -> Result<Begun, Refusal>
+    ensures begins { IfOk result (λ begun. Begins interpreter values.now now all.old begun all.new) }
+
+    ensures unchanged { OnErr result (Same all.old.described all.new.described) }
+    ensures rest { OnErr result (all.new ≡ record all.old { described = all.new.described }) }
+{
     let number = all.next_id;
     if number == u64::MAX {
         return Err(Refusal::Full);
@@ -46,34 +53,5 @@ pub fn start_described(
         Ok(Start::Ignored) => Ok(Begun::Ignored),
         Ok(Start::Stopped(reason)) => Ok(Begun::Stopped(reason)),
         Err(refused) => Err(refused.refusal),
-    }
-}
-
-/// Makes turns of the machine of a number until it is idle, but at most so many, as `Core::turn_until_idle` does, or
-/// answers `None` where there is no such machine.
-///
-/// Ours: docs/DECISIONS.md, Runs.
-pub fn run_at<M: Module>(
-    machines: &mut IndexMap<u64, Core<M>>,
-    number: u64,
-    now: u64,
-    at_most: u64,
-) -> Option<Turns> {
-    let core = machines.get_mut(&number)?;
-    Some(core.turn_until_idle(now, at_most))
-}
-
-/// Ends the machine of a number for a reason, as `Core::stop` does. Where there is none, it is refused with
-/// `NoSuchMachine`. A refusal changes nothing.
-///
-/// Manual: `stop/3`.
-pub fn stop_at<M: Module>(
-    machines: &mut IndexMap<u64, Core<M>>,
-    number: u64,
-    reason: Reason,
-) -> Result<u32, Refusal> {
-    match machines.get_mut(&number) {
-        Some(core) => core.stop(reason),
-        None => Err(Refusal::NoSuchMachine),
     }
 }

@@ -2,6 +2,7 @@
 ghost use Rattle.std.specs.Prelude.{◌≡◌, ◌+◌, ◌<◌, ◌^◌, None, Some, Ok, Err, IsSome, OnOk, OnErr, IfOk, IfErr, IfSome, IfNone, []};
 ghost use Rattle.st_answers.specs.declared.answer.Answer.TheVariants as answer;
 ghost use Rattle.st_answers.specs.declared.command.Command.TheVariants as command;
+ghost use Rattle.st_answers.specs.declared.turned.Turned.TheVariants.{Reported};
 ghost use Rattle.st_core.specs.Callbacks.{callbacks_of};
 ghost use Rattle.st_core.specs.Run.{Does};
 ghost use Rattle.st_embedded.specs.Hosted.{Hosted, IsStarted, hosted_callbacks, answered_by, last_word};
@@ -72,8 +73,8 @@ pub fn turn_hosted(
     event: u64,
     answers: HostAnswer,
     now: u64,
-) -> Result<Turned<u64>, WhyNot>
-    ensures does { IfOk result (λ turned. Changes (λ before after. (IsNext before.machine event) × Does hosted_callbacks (answered_by answers before) (command.Turn now) (answer.Turn (Ok turned)) after) machines.old machines.new number) }
+) -> Result<Report<u64>, WhyNot>
+    ensures does { IfOk result (λ report. Changes (λ before after. (IsNext before.machine event) × Does hosted_callbacks (answered_by answers before) (command.Turn now) (answer.Turn (Ok (Reported report))) after) machines.old machines.new number) }
     ensures refusals { IfErr result (λ why. (before : Hosted) → machine_at machines.old number ≡ Some before → IsWhyNot hosted_callbacks (answered_by answers before) event now why) }
     ensures absent { machine_at machines.old number ≡ None → result ≡ Err (Refused NoSuchMachine) }
 
@@ -83,7 +84,8 @@ pub fn turn_hosted(
         Some(core) => {
             let answers = as_before(core, answers);
             match turn_by(core, event, answers, now) {
-                Ok(turned) => Ok(turned),
+                Ok(Turned::Reported(report)) => Ok(report),
+                Ok(Turned::Idle) => unreachable!(),
                 Err(not_turned) => Err(not_turned.why),
             }
         }

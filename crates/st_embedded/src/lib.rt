@@ -10,8 +10,8 @@ mod lists;
 mod machines;
 mod moves;
 
-pub use calls::{collect_at, post_at, remove_at, take_out_at, tick_at};
-pub use described_calls::{Begun, run_at, start_described, stop_at};
+pub use calls::{collect_at, post_at, remove_at, run_at, stop_at, take_out_at, tick_at};
+pub use described_calls::{Begun, start_described};
 pub use handle::Handle;
 pub use hosted_calls::{reply_at, start_hosted, stop_hosted, turn_hosted};
 pub use lists::Lists;

@@ -25,3 +25,12 @@ OnlyHosted old new = new ≡ record old { hosted = new.hosted }
 -- a content of this code and these bytes
 abbrev pub content_in : ℕ → List ℕ → Payload
 content_in code bytes = record { code = code; bytes = bytes }
+
+-- nothing changed but described machines
+abbrev pub OnlyDescribed : Machines → Machines → Type 0
+OnlyDescribed old new = new ≡ record old { described = new.described }
+
+-- what is behind an open handle is so; a closed one has nothing
+abbrev pub Seen : Option Machines → (Machines → Type 0) → Type 0
+Seen None So = Unit
+Seen (Some all) So = So all

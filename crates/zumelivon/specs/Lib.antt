@@ -1,3 +1,5 @@
+pub mod Calls
 pub mod Exports
+pub mod Handed
 pub mod Reading
 pub mod Showing

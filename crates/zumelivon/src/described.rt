@@ -4,8 +4,8 @@ use crate::flat_report::FlatReport;
 use crate::flat_signal::FlatSignal;
 use crate::posting::number_of;
 use crate::reading::entry_of;
-use crate::showing::report_as;
-use crate::signals::{are_signals, bytes_of, flat_signal, is_signal, signal_of, values_of, write_signal};
+use crate::showing::{report_as, write};
+use crate::signals::{are_signals, bytes_of, flat_signal, is_signal, signal_of, values_of};
 use st_core::TurnsEnd;
 use st_embedded::{Begun, Lists, Machines, collect_at, post_at, run_at, start_described, take_out_at};
 use st_requests::Collected;
@@ -141,7 +141,7 @@ pub(crate) fn collect(
         }
         Some(Collected::Reply(reply)) => {
             *signal = flat_signal(&reply);
-            write_signal(&reply, room);
+            write(bytes_of(&reply), room);
             DONE
         }
     }
@@ -172,7 +172,7 @@ pub(crate) fn take_out(
             *signal = flat_signal(&message.content);
             *target = message.target.serial;
             *number = message.number;
-            write_signal(&message.content, room);
+            write(bytes_of(&message.content), room);
             DONE
         }
         Some(None) => NOTHING,

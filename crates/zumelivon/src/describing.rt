@@ -113,10 +113,13 @@ pub(crate) fn name_of_number(
     let Some(names) = names_of(chart, kind) else {
         return INVALID;
     };
-    if number >= names.len() as u64 {
+    let Ok(short) = u32::try_from(number) else {
+        return NO_SUCH_NAME;
+    };
+    if short as usize >= names.len() {
         return NO_SUCH_NAME;
     }
-    let name = names.name(number as u32).as_bytes();
+    let name = names.name(short).as_bytes();
     *length = name.len() as u64;
     if name.len() > room.len() {
         return TOO_SMALL;

@@ -1,4 +1,6 @@
 //! Calls of machines of either family.
+ghost use Rattle.zumelivon.specs.Calls.{ReadsList};
+
 use crate::codes::{DONE, INVALID, NOTHING, NO_SUCH_MACHINE};
 use crate::flat_listed::FlatListed;
 use crate::flat_machine::FlatMachine;
@@ -63,7 +65,9 @@ pub(crate) fn look(all: &Machines, id: u64, machine: &mut FlatMachine) -> u32 {
     }
 }
 
-pub(crate) fn list(all: &Machines, list: u32, index: u64, listed: &mut FlatListed) -> u32 {
+pub(crate) fn list(all: &Machines, list: u32, index: u64, listed: &mut FlatListed) -> u32
+    ensures reads { ReadsList list index result listed.old listed.new all.now }
+{
     if list > 3 {
         return INVALID;
     }

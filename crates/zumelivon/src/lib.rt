@@ -2,7 +2,9 @@
 //! Each takes the table out of its handle, calls the function of the same name in a module here, and puts it back.
 #![tactic(auto)]
 
-ghost use Rattle.std.specs.Prelude.{◌≡◌};
+ghost use Rattle.std.specs.Prelude.{◌≡◌, ◌↔◌, None};
+ghost use Rattle.zumelivon.specs.Calls.{Posts};
+ghost use Rattle.zumelivon.specs.Exports.{Told, content_in};
 
 mod answers;
 mod codes;
@@ -199,6 +201,8 @@ pub extern "C" fn zumelivon_post(
     bytes: &[u8],
     number: &mut u64,
 ) -> u32
+    ensures does { Told table.old.value table.new.value (λ old new. Posts id entry (content_in code bytes.now) result number.old number.new old new) }
+    ensures closed { result ≡ 105 ↔ (table.old.value ≡ None) }
 {
     let Some(mut all) = table.take(alloc) else {
         return CLOSED;

@@ -8,6 +8,7 @@ ghost use Rattle.st_embedded.specs.Table.{machine_at, Changes, Same};
 ghost use Rattle.st_events.specs.Refusal.{number_of};
 ghost use Rattle.st_events.specs.declared.refused.Refused.{Refused};
 ghost use Rattle.st_hosted.specs.declared.payload.Payload.{Payload};
+ghost use Rattle.zumelivon.specs.Calls.{Posts, Replies};
 ghost use Rattle.zumelivon.specs.Exports.{OnlyHosted, content_in};
 ghost use Rattle.zumelivon.specs.Reading.{is_entry, entry_in};
 
@@ -34,9 +35,7 @@ pub(crate) fn post(
     bytes: &[u8],
     number: &mut u64,
 ) -> u32
-    ensures posted { result ≡ 0 → (is_entry entry ≡ true) × Changes (λ before after. Does hosted_callbacks before (command.Post (entry_in entry) (content_in code bytes.now)) (answer.Post (Ok number.new)) after) all.old.hosted all.new.hosted id }
-    ensures why { result ≢ 0 → result ≢ 101 → result ≢ 1 → (before : Hosted) → machine_at all.old.hosted id ≡ Some before → (refused : Refused Payload) × (result ≡ number_of refused.refusal) × Does hosted_callbacks before (command.Post (entry_in entry) (content_in code bytes.now)) (answer.Post (Err refused)) before }
-    ensures refused { result ≢ 0 → Same all.old.hosted all.new.hosted × (number.new ≡ number.old) }
+    ensures does { Posts hosted_callbacks id entry (content_in code bytes.now) result number.old number.new all.old.hosted all.new.hosted }
     ensures rest { OnlyHosted all.old all.new }
     ensures open { result ≢ 105 }
 {
@@ -63,12 +62,7 @@ pub(crate) fn reply(
     code: u64,
     bytes: &[u8],
 ) -> u32
-    ensures taken { result ≡ 0 → Changes (λ before after. Does hosted_callbacks before (command.Reply (record { machine = before.machine.id; request = number }) (content_in code bytes.now)) (answer.Reply true) after) all.old.hosted all.new.hosted id }
-    ensures nothing { result ≡ 100 → Changes (λ before after. Does hosted_callbacks before (command.Reply (record { machine = before.machine.id; request = number }) (content_in code bytes.now)) (answer.Reply false) after) all.old.hosted all.new.hosted id }
-    ensures absent { result ≡ 9 → (machine_at all.old.hosted id ≡ None) × Same all.old.hosted all.new.hosted }
-    ensures no_memory { result ≡ 1 → Same all.old.hosted all.new.hosted }
-    ensures rest { OnlyHosted all.old all.new }
-    ensures answers { (result ≡ 0) ⊎ (result ≡ 100) ⊎ (result ≡ 9) ⊎ (result ≡ 1) }
+    ensures does { Replies id number (content_in code bytes.now) result all.old all.new }
 {
     let Ok(content) = Payload::of(alloc, code, bytes) else {
         return NO_MEMORY;

@@ -1,7 +1,6 @@
 //! Signals, read and shown as numbers and bytes.
 use crate::flat_signal::FlatSignal;
 use crate::reading::is_within;
-use crate::showing::write;
 use st_embedded::id_of;
 use st_events::{PlainList, PlainText, Tag};
 use st_table::{Signal, Value};
@@ -96,9 +95,4 @@ pub(crate) fn flat_signal(signal: &Signal) -> FlatSignal {
         from: 0,
         length: bytes_of(signal).len() as u64,
     }
-}
-
-/// Writes a signal's bytes to a room that is long enough.
-pub(crate) fn write_signal(signal: &Signal, room: &mut [u8]) {
-    write(bytes_of(signal), room);
 }

@@ -1,4 +1,6 @@
 //! What is taken out of a hosted machine: replies and messages.
+ghost use Rattle.zumelivon.specs.Calls.{CollectsContent, TakesMessage};
+
 use crate::codes::{DONE, GONE, NOTHING, NO_SUCH_MACHINE, STOPPED, TOO_SMALL};
 use crate::flat_content::FlatContent;
 use crate::flat_message::FlatMessage;
@@ -12,7 +14,9 @@ pub(crate) fn collect(
     number: u64,
     content: &mut FlatContent,
     room: &mut [u8],
-) -> u32 {
+) -> u32
+    ensures does { CollectsContent id number result content.old content.new room.old room.new all.old all.new }
+{
     let Some(core) = all.hosted.get(&id) else {
         return NO_SUCH_MACHINE;
     };
@@ -48,7 +52,9 @@ pub(crate) fn take_out(
     id: u64,
     shown: &mut FlatMessage,
     room: &mut [u8],
-) -> u32 {
+) -> u32
+    ensures does { TakesMessage id result shown.old shown.new room.old room.new all.old all.new }
+{
     let Some(core) = all.hosted.get(&id) else {
         return NO_SUCH_MACHINE;
     };

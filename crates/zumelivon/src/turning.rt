@@ -1,22 +1,7 @@
 //! Starts, next events and turns of hosted machines.
-ghost use Rattle.std.specs.Prelude.{◌≡◌, ◌≢◌, ◌⊎◌, ◌+◌, true, None, Some, Ok, Err, length};
-ghost use Rattle.std.specs.List.{list_all};
-ghost use Rattle.st_answers.specs.declared.answer.Answer.TheVariants as answer;
-ghost use Rattle.st_answers.specs.declared.command.Command.TheVariants as command;
-ghost use Rattle.st_answers.specs.declared.report.Report.{Report};
-ghost use Rattle.st_answers.specs.declared.turned.Turned.TheVariants.{Reported};
-ghost use Rattle.st_core.specs.Choice.{next_event_of};
-ghost use Rattle.st_core.specs.Run.{Does};
-ghost use Rattle.st_embedded.specs.Hosted.{Hosted, IsStarted, hosted_callbacks, answered_by, last_word};
-ghost use Rattle.st_embedded.specs.Table.{machine_at, lists_of, Changes, Same, Puts};
-ghost use Rattle.st_events.specs.declared.event.Event.{Event};
-ghost use Rattle.st_hosted.specs.Turning.{IsNext, IsWhyNot};
-ghost use Rattle.st_hosted.specs.declared.payload.Payload.{Payload};
-ghost use Rattle.st_hosted.specs.declared.why_not.WhyNot.{WhyNot};
-
-ghost use Rattle.zumelivon.specs.Exports.{OnlyHosted};
-ghost use Rattle.zumelivon.specs.Reading.{is_action, is_answer, is_entered, answer_in, begin_in, first_answer_in};
-ghost use Rattle.zumelivon.specs.Showing.{flat_event, flat_report, written};
+ghost use Rattle.std.specs.Prelude.{◌≡◌};
+ghost use Rattle.zumelivon.specs.Calls.{ShowsNext, StartsHosted, Turns, why_number};
+ghost use Rattle.zumelivon.specs.Handed.{handed_in};
 
 use crate::answers::Answers;
 use crate::codes::{DONE, INVALID, NOT_NEXT, NOTHING, NO_MEMORY, NO_SUCH_MACHINE, TOO_SMALL};
@@ -35,6 +20,7 @@ use std::alloc::Global;
 
 /// The number of a turn that was not made.
 fn why_number(why: WhyNot) -> u32
+    ensures { result ≡ why_number why }
 {
     match why {
         WhyNot::NotNext => NOT_NEXT,
@@ -50,7 +36,9 @@ pub(crate) fn start(
     answers: &Answers<'_>,
     id: &mut u64,
     report: &mut FlatReport,
-) -> u32 {
+) -> u32
+    ensures does { StartsHosted now begin.now answers.now.actions.now answers.now.entered.now answers.now.enter_actions.now answers.now.bytes.now result id.old id.new report.old report.new all.old all.new }
+{
     if !are_actions(answers.actions, answers.bytes) || !answers.is_entered() {
         return INVALID;
     }
@@ -82,7 +70,9 @@ pub(crate) fn start(
     }
 }
 
-pub(crate) fn next(all: &Machines, id: u64, event: &mut FlatEvent, room: &mut [u8]) -> u32 {
+pub(crate) fn next(all: &Machines, id: u64, event: &mut FlatEvent, room: &mut [u8]) -> u32
+    ensures shows { ShowsNext id result event.old event.new room.old room.new all.now }
+{
     let Some(core) = all.hosted.get(&id) else {
         return NO_SUCH_MACHINE;
     };
@@ -107,7 +97,9 @@ pub(crate) fn turn(
     now: u64,
     answers: &Answers<'_>,
     report: &mut FlatReport,
-) -> u32 {
+) -> u32
+    ensures does { Turns id number now (handed_in answers.now) result report.old report.new all.old all.new }
+{
     if !answers.is_answer() {
         return INVALID;
     }
