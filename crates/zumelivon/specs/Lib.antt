@@ -3,3 +3,4 @@ pub mod Exports
 pub mod Handed
 pub mod Reading
 pub mod Showing
+pub mod Signals

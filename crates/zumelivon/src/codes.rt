@@ -7,6 +7,9 @@ pub const DONE: u32 = 0;
 /// There is no memory.
 pub const NO_MEMORY: u32 = 1;
 
+/// The machine has ended.
+pub const ENDED: u32 = 2;
+
 /// The description has no such name, or no such number.
 pub const NO_SUCH_NAME: u32 = 8;
 

@@ -1,11 +1,15 @@
 //! Calls of described machines.
-use crate::codes::{DONE, GONE, IGNORED, INVALID, NOTHING, NO_MEMORY, NO_SUCH_DESCRIPTION, NO_SUCH_MACHINE, STOPPED, TOO_SMALL};
+ghost use Rattle.std.specs.Prelude.{◌≡◌, None, slice_get, IfOk, IfSome, IfNone};
+ghost use Rattle.zumelivon.specs.Calls.{CollectsSignal, PostsSignal, RunsDescribed, StartsDescribed, TakesSignal, end_number, is_at_most};
+ghost use Rattle.zumelivon.specs.Signals.{IsOf};
+
+use crate::codes::{DONE, ENDED, GONE, IGNORED, INVALID, NOTHING, NO_MEMORY, NO_SUCH_DESCRIPTION, NO_SUCH_MACHINE, STOPPED, TOO_SMALL};
 use crate::flat_report::FlatReport;
 use crate::flat_signal::FlatSignal;
 use crate::posting::number_of;
 use crate::reading::entry_of;
 use crate::showing::{report_as, write};
-use crate::signals::{are_signals, bytes_of, flat_signal, is_signal, signal_of, values_of};
+use crate::signals::{bytes_of, flat_signal, has_value, signal_of, values_of};
 use st_core::TurnsEnd;
 use st_embedded::{Begun, Lists, Machines, collect_at, post_at, run_at, start_described, take_out_at};
 use st_requests::Collected;
@@ -13,7 +17,10 @@ use st_table::Interpreter;
 use std::alloc::{AllocError, Global};
 
 /// The callback module of a description.
-fn interpreter(all: &Machines, description: u64) -> Result<Option<Interpreter>, AllocError> {
+fn interpreter(all: &Machines, description: u64) -> Result<Option<Interpreter>, AllocError>
+    ensures some { IfOk result (λ found. IfSome found (IsOf all.now description)) }
+    ensures none { IfOk result (λ found. IfNone found (slice_get all.now.charts.items description ≡ None)) }
+{
     match all.charts.get(description as usize) {
         Some(chart) => {
             let table = chart.table.clone()?;
@@ -32,17 +39,18 @@ pub(crate) fn start(
     bytes: &[u8],
     id: &mut u64,
     report: &mut FlatReport,
-) -> u32 {
+) -> u32
+    ensures does { StartsDescribed description now values.now bytes.now result id.old id.new report.old report.new all.old all.new }
+{
     let interpreter = match interpreter(all, description) {
         Ok(Some(interpreter)) => interpreter,
         Ok(None) => return NO_SUCH_DESCRIPTION,
         Err(_) => return NO_MEMORY,
     };
-    if !are_signals(values, bytes) {
-        return INVALID;
-    }
-    let Ok(values) = values_of(alloc, values, bytes) else {
-        return NO_MEMORY;
+    let values = match values_of(alloc, values, bytes) {
+        Ok(Some(values)) => values,
+        Ok(None) => return INVALID,
+        Err(_) => return NO_MEMORY,
     };
     match start_described(all, interpreter, &values, now) {
         Ok(Begun::Running(number, reported)) => {
@@ -70,11 +78,13 @@ pub(crate) fn post(
     signal: &FlatSignal,
     bytes: &[u8],
     number: &mut u64,
-) -> u32 {
+) -> u32
+    ensures does { PostsSignal id entry signal.now bytes.now result number.old number.new all.old all.new }
+{
     let Some(entry) = entry_of(entry) else {
         return INVALID;
     };
-    if !is_signal(signal, bytes) {
+    if !has_value(signal, bytes) {
         return INVALID;
     }
     let Ok(content) = signal_of(alloc, signal, bytes) else {
@@ -89,6 +99,25 @@ pub(crate) fn post(
     }
 }
 
+/// What a run answers where its machine had not ended.
+fn end_number(end: TurnsEnd) -> u32
+    ensures { result ≡ end_number end }
+{
+    match end {
+        TurnsEnd::Refused(refusal) => number_of(refusal),
+        _ => DONE,
+    }
+}
+
+fn is_at_most(end: TurnsEnd) -> bool
+    ensures { result ≡ is_at_most end }
+{
+    match end {
+        TurnsEnd::AtMost => true,
+        _ => false,
+    }
+}
+
 pub(crate) fn run(
     all: &mut Machines,
     id: u64,
@@ -96,22 +125,21 @@ pub(crate) fn run(
     at_most: u64,
     turns: &mut u64,
     more: &mut u32,
-) -> u32 {
+) -> u32
+    ensures does { RunsDescribed id now at_most result turns.old turns.new more.old more.new all.old all.new }
+{
     let Some(core) = all.described.get(&id) else {
         return NO_SUCH_MACHINE;
     };
-    if let Some(_) = core.ended() {
-        return 2;
+    if core.ended().is_some() {
+        return ENDED;
     }
     let Some(made) = run_at(&mut all.described, id, now, at_most) else {
         return NO_SUCH_MACHINE;
     };
     *turns = made.reported;
-    *more = u32::from(made.end == TurnsEnd::AtMost);
-    match made.end {
-        TurnsEnd::Refused(refusal) => number_of(refusal),
-        _ => DONE,
-    }
+    *more = u32::from(is_at_most(made.end));
+    end_number(made.end)
 }
 
 pub(crate) fn collect(
@@ -121,7 +149,9 @@ pub(crate) fn collect(
     signal: &mut FlatSignal,
     reason: &mut u32,
     room: &mut [u8],
-) -> u32 {
+) -> u32
+    ensures does { CollectsSignal id number result signal.old signal.new reason.old reason.new room.old room.new all.old all.new }
+{
     let Some(core) = all.described.get(&id) else {
         return NO_SUCH_MACHINE;
     };
@@ -154,7 +184,9 @@ pub(crate) fn take_out(
     target: &mut u64,
     number: &mut u64,
     room: &mut [u8],
-) -> u32 {
+) -> u32
+    ensures does { TakesSignal id result signal.old signal.new target.old target.new number.old number.new room.old room.new all.old all.new }
+{
     let Some(core) = all.described.get(&id) else {
         return NO_SUCH_MACHINE;
     };

@@ -1,4 +1,7 @@
 //! Descriptions, and their names.
+ghost use Rattle.std.specs.Prelude.{◌≡◌, ◌≢◌};
+ghost use Rattle.zumelivon.specs.Calls.{Describes};
+
 use crate::codes::{DONE, FAULTY, INVALID, NO_MEMORY, NO_SUCH_DESCRIPTION, NO_SUCH_NAME, TOO_SMALL};
 use crate::showing::write;
 use st_chart::{Chart, Names, Unread, read_chart};
@@ -27,7 +30,9 @@ fn write_some(bytes: &[u8], room: &mut [u8], length: &mut u64) {
     write(&bytes[..count], room);
 }
 
-fn keep(all: &mut Machines, chart: Chart, description: &mut u64) -> u32 {
+fn keep(all: &mut Machines, chart: Chart, description: &mut u64) -> u32
+    ensures does { Describes result description.old description.new all.old all.new }
+{
     let number = all.charts.len() as u64;
     match all.charts.push(chart) {
         Ok(()) => {
@@ -45,7 +50,10 @@ pub(crate) fn describe(
     description: &mut u64,
     room: &mut [u8],
     length: &mut u64,
-) -> u32 {
+) -> u32
+    ensures does { Describes result description.old description.new all.old all.new }
+    ensures told { result ≢ 111 → (room.new ≡ room.old) × (length.new ≡ length.old) }
+{
     match read_chart(alloc, text) {
         Ok(chart) => keep(all, chart, description),
         Err(Unread::Memory) => NO_MEMORY,
@@ -83,7 +91,9 @@ pub(crate) fn number_of_name(
     kind: u32,
     name: &[u8],
     number: &mut u64,
-) -> u32 {
+) -> u32
+    ensures refused { result ≢ 0 → number.new ≡ number.old }
+{
     let Some(chart) = chart_at(all, description) else {
         return NO_SUCH_DESCRIPTION;
     };
@@ -106,7 +116,10 @@ pub(crate) fn name_of_number(
     number: u64,
     room: &mut [u8],
     length: &mut u64,
-) -> u32 {
+) -> u32
+    ensures refused { result ≢ 0 → room.new ≡ room.old }
+    ensures length { result ≢ 0 → result ≢ 102 → length.new ≡ length.old }
+{
     let Some(chart) = chart_at(all, description) else {
         return NO_SUCH_DESCRIPTION;
     };

@@ -2,9 +2,10 @@
 //! Each takes the table out of its handle, calls the function of the same name in a module here, and puts it back.
 #![tactic(auto)]
 
-ghost use Rattle.std.specs.Prelude.{◌≡◌, ◌↔◌, None};
-ghost use Rattle.zumelivon.specs.Calls.{Posts};
-ghost use Rattle.zumelivon.specs.Exports.{Told, content_in};
+ghost use Rattle.std.specs.Prelude.{◌≡◌, ◌≢◌, ◌↔◌, None, IsSome};
+ghost use Rattle.st_embedded.specs.Table.{IfOpen, IsEmptyTable};
+ghost use Rattle.zumelivon.specs.Calls.{CollectsContent, CollectsSignal, Describes, Looks, MakesTurn, PostsHosted, PostsSignal, ReadsList, Removes, Replies, RunsDescribed, ShowsNext, StartsDescribed, StartsHosted, StopsEither, TakesMessage, TakesSignal, TicksEither};
+ghost use Rattle.zumelivon.specs.Exports.{Seen, Told, content_in};
 
 mod answers;
 mod codes;
@@ -55,7 +56,12 @@ pub extern "C" fn zumelivon_version() -> u32
 
 /// Opens a closed table.
 #[unsafe(no_mangle)]
-pub extern "C" fn zumelivon_open(alloc: Global, table: &mut Handle, version: u32) -> u32 {
+pub extern "C" fn zumelivon_open(alloc: Global, table: &mut Handle, version: u32) -> u32
+    ensures opened { result ≡ 0 → (version ≡ 1) × (table.old.value ≡ None) × IfOpen table.new.value IsEmptyTable }
+    ensures refused { result ≢ 0 → table.new.value ≡ table.old.value }
+    ensures open { result ≡ 106 → IsSome table.old.value }
+    ensures wrong { version ≢ 1 → result ≡ 108 }
+{
     if version != VERSION {
         return WRONG_VERSION;
     }
@@ -68,7 +74,11 @@ pub extern "C" fn zumelivon_open(alloc: Global, table: &mut Handle, version: u32
 
 /// Closes a table, and drops its machines.
 #[unsafe(no_mangle)]
-pub extern "C" fn zumelivon_close(alloc: Global, table: &mut Handle) -> u32 {
+pub extern "C" fn zumelivon_close(alloc: Global, table: &mut Handle) -> u32
+    ensures empty { table.new.value ≡ None }
+    ensures closed { result ≡ 105 ↔ (table.old.value ≡ None) }
+    ensures done { result ≡ 0 ↔ IsSome table.old.value }
+{
     if table.close(alloc) { DONE } else { CLOSED }
 }
 
@@ -81,6 +91,9 @@ pub extern "C" fn zumelivon_tick(
     now: u64,
     expired: &mut u64,
 ) -> u32
+    ensures does { Told table.old.value table.new.value (λ old new. TicksEither id now result expired.old expired.new old new) }
+    ensures closed { result ≡ 105 ↔ (table.old.value ≡ None) }
+    ensures kept { result ≡ 105 → (expired.new ≡ expired.old) }
 {
     let Some(mut all) = table.take(alloc) else {
         return CLOSED;
@@ -98,6 +111,10 @@ pub extern "C" fn zumelivon_look(
     id: u64,
     machine: &mut FlatMachine,
 ) -> u32
+    ensures looks { Seen table.old.value (λ all. Looks id result machine.old machine.new all) }
+    ensures unchanged { table.new.value ≡ table.old.value }
+    ensures closed { result ≡ 105 ↔ (table.old.value ≡ None) }
+    ensures kept { result ≡ 105 → (machine.new ≡ machine.old) }
 {
     let Some(all) = table.take(alloc) else {
         return CLOSED;
@@ -116,6 +133,8 @@ pub extern "C" fn zumelivon_stop(
     reason: u32,
     word: u32,
 ) -> u32
+    ensures does { Told table.old.value table.new.value (λ old new. StopsEither id reason word result old new) }
+    ensures closed { result ≡ 105 ↔ (table.old.value ≡ None) }
 {
     let Some(mut all) = table.take(alloc) else {
         return CLOSED;
@@ -132,6 +151,8 @@ pub extern "C" fn zumelivon_remove(
     table: &mut Handle,
     id: u64,
 ) -> u32
+    ensures does { Told table.old.value table.new.value (λ old new. Removes id result old new) }
+    ensures closed { result ≡ 105 ↔ (table.old.value ≡ None) }
 {
     let Some(mut all) = table.take(alloc) else {
         return CLOSED;
@@ -150,6 +171,10 @@ pub extern "C" fn zumelivon_list(
     index: u64,
     listed: &mut FlatListed,
 ) -> u32
+    ensures reads { Seen table.old.value (λ all. ReadsList list index result listed.old listed.new all) }
+    ensures unchanged { table.new.value ≡ table.old.value }
+    ensures closed { result ≡ 105 ↔ (table.old.value ≡ None) }
+    ensures kept { result ≡ 105 → (listed.new ≡ listed.old) }
 {
     let Some(all) = table.take(alloc) else {
         return CLOSED;
@@ -173,6 +198,9 @@ pub extern "C" fn zumelivon_start(
     id: &mut u64,
     report: &mut FlatReport,
 ) -> u32
+    ensures does { Told table.old.value table.new.value (λ old new. StartsHosted now begin.now actions.now entered.now enter_actions.now bytes.now result id.old id.new report.old report.new old new) }
+    ensures closed { result ≡ 105 ↔ (table.old.value ≡ None) }
+    ensures kept { result ≡ 105 → (id.new ≡ id.old) × (report.new ≡ report.old) }
 {
     let answers = Answers {
         handled: entered,
@@ -201,8 +229,9 @@ pub extern "C" fn zumelivon_post(
     bytes: &[u8],
     number: &mut u64,
 ) -> u32
-    ensures does { Told table.old.value table.new.value (λ old new. Posts id entry (content_in code bytes.now) result number.old number.new old new) }
+    ensures does { Told table.old.value table.new.value (λ old new. PostsHosted id entry (content_in code bytes.now) result number.old number.new old new) }
     ensures closed { result ≡ 105 ↔ (table.old.value ≡ None) }
+    ensures kept { result ≡ 105 → (number.new ≡ number.old) }
 {
     let Some(mut all) = table.take(alloc) else {
         return CLOSED;
@@ -221,6 +250,10 @@ pub extern "C" fn zumelivon_next(
     event: &mut FlatEvent,
     room: &mut [u8],
 ) -> u32
+    ensures shows { Seen table.old.value (λ all. ShowsNext id result event.old event.new room.old room.new all) }
+    ensures unchanged { table.new.value ≡ table.old.value }
+    ensures closed { result ≡ 105 ↔ (table.old.value ≡ None) }
+    ensures kept { result ≡ 105 → (event.new ≡ event.old) × (room.new ≡ room.old) }
 {
     let Some(all) = table.take(alloc) else {
         return CLOSED;
@@ -246,6 +279,9 @@ pub extern "C" fn zumelivon_turn(
     word: u32,
     report: &mut FlatReport,
 ) -> u32
+    ensures does { Told table.old.value table.new.value (λ old new. MakesTurn id number now (record { handled = handled.now; actions = actions.now; entered = entered.now; enter_actions = enter_actions.now; bytes = bytes.now; word = word }) result report.old report.new old new) }
+    ensures closed { result ≡ 105 ↔ (table.old.value ≡ None) }
+    ensures kept { result ≡ 105 → (report.new ≡ report.old) }
 {
     let answers = Answers {
         handled,
@@ -273,6 +309,9 @@ pub extern "C" fn zumelivon_collect(
     content: &mut FlatContent,
     room: &mut [u8],
 ) -> u32
+    ensures does { Told table.old.value table.new.value (λ old new. CollectsContent id number result content.old content.new room.old room.new old new) }
+    ensures closed { result ≡ 105 ↔ (table.old.value ≡ None) }
+    ensures kept { result ≡ 105 → (content.new ≡ content.old) × (room.new ≡ room.old) }
 {
     let Some(mut all) = table.take(alloc) else {
         return CLOSED;
@@ -292,6 +331,8 @@ pub extern "C" fn zumelivon_reply(
     code: u64,
     bytes: &[u8],
 ) -> u32
+    ensures does { Told table.old.value table.new.value (λ old new. Replies id number (content_in code bytes.now) result old new) }
+    ensures closed { result ≡ 105 ↔ (table.old.value ≡ None) }
 {
     let Some(mut all) = table.take(alloc) else {
         return CLOSED;
@@ -310,6 +351,9 @@ pub extern "C" fn zumelivon_take_out(
     message: &mut FlatMessage,
     room: &mut [u8],
 ) -> u32
+    ensures does { Told table.old.value table.new.value (λ old new. TakesMessage id result message.old message.new room.old room.new old new) }
+    ensures closed { result ≡ 105 ↔ (table.old.value ≡ None) }
+    ensures kept { result ≡ 105 → (message.new ≡ message.old) × (room.new ≡ room.old) }
 {
     let Some(mut all) = table.take(alloc) else {
         return CLOSED;
@@ -329,6 +373,9 @@ pub extern "C" fn zumelivon_describe(
     room: &mut [u8],
     length: &mut u64,
 ) -> u32
+    ensures does { Told table.old.value table.new.value (λ old new. Describes result description.old description.new old new) }
+    ensures closed { result ≡ 105 ↔ (table.old.value ≡ None) }
+    ensures kept { result ≡ 105 → (description.new ≡ description.old) × (room.new ≡ room.old) × (length.new ≡ length.old) }
 {
     let Some(mut all) = table.take(alloc) else {
         return CLOSED;
@@ -348,6 +395,9 @@ pub extern "C" fn zumelivon_number_of(
     name: &[u8],
     number: &mut u64,
 ) -> u32
+    ensures unchanged { table.new.value ≡ table.old.value }
+    ensures closed { result ≡ 105 ↔ (table.old.value ≡ None) }
+    ensures refused { result ≢ 0 → number.new ≡ number.old }
 {
     let Some(all) = table.take(alloc) else {
         return CLOSED;
@@ -368,6 +418,9 @@ pub extern "C" fn zumelivon_name_of(
     room: &mut [u8],
     length: &mut u64,
 ) -> u32
+    ensures unchanged { table.new.value ≡ table.old.value }
+    ensures closed { result ≡ 105 ↔ (table.old.value ≡ None) }
+    ensures refused { result ≢ 0 → room.new ≡ room.old }
 {
     let Some(all) = table.take(alloc) else {
         return CLOSED;
@@ -389,6 +442,9 @@ pub extern "C" fn zumelivon_start_described(
     id: &mut u64,
     report: &mut FlatReport,
 ) -> u32
+    ensures does { Told table.old.value table.new.value (λ old new. StartsDescribed description now values.now bytes.now result id.old id.new report.old report.new old new) }
+    ensures closed { result ≡ 105 ↔ (table.old.value ≡ None) }
+    ensures kept { result ≡ 105 → (id.new ≡ id.old) × (report.new ≡ report.old) }
 {
     let Some(mut all) = table.take(alloc) else {
         return CLOSED;
@@ -409,6 +465,9 @@ pub extern "C" fn zumelivon_post_signal(
     bytes: &[u8],
     number: &mut u64,
 ) -> u32
+    ensures does { Told table.old.value table.new.value (λ old new. PostsSignal id entry signal.now bytes.now result number.old number.new old new) }
+    ensures closed { result ≡ 105 ↔ (table.old.value ≡ None) }
+    ensures kept { result ≡ 105 → (number.new ≡ number.old) }
 {
     let Some(mut all) = table.take(alloc) else {
         return CLOSED;
@@ -429,6 +488,9 @@ pub extern "C" fn zumelivon_run(
     turns: &mut u64,
     more: &mut u32,
 ) -> u32
+    ensures does { Told table.old.value table.new.value (λ old new. RunsDescribed id now at_most result turns.old turns.new more.old more.new old new) }
+    ensures closed { result ≡ 105 ↔ (table.old.value ≡ None) }
+    ensures kept { result ≡ 105 → (turns.new ≡ turns.old) × (more.new ≡ more.old) }
 {
     let Some(mut all) = table.take(alloc) else {
         return CLOSED;
@@ -449,6 +511,9 @@ pub extern "C" fn zumelivon_collect_signal(
     reason: &mut u32,
     room: &mut [u8],
 ) -> u32
+    ensures does { Told table.old.value table.new.value (λ old new. CollectsSignal id number result signal.old signal.new reason.old reason.new room.old room.new old new) }
+    ensures closed { result ≡ 105 ↔ (table.old.value ≡ None) }
+    ensures kept { result ≡ 105 → (signal.new ≡ signal.old) × (reason.new ≡ reason.old) × (room.new ≡ room.old) }
 {
     let Some(mut all) = table.take(alloc) else {
         return CLOSED;
@@ -469,6 +534,9 @@ pub extern "C" fn zumelivon_take_out_signal(
     number: &mut u64,
     room: &mut [u8],
 ) -> u32
+    ensures does { Told table.old.value table.new.value (λ old new. TakesSignal id result signal.old signal.new target.old target.new number.old number.new room.old room.new old new) }
+    ensures closed { result ≡ 105 ↔ (table.old.value ≡ None) }
+    ensures kept { result ≡ 105 → (signal.new ≡ signal.old) × (target.new ≡ target.old) × (number.new ≡ number.old) × (room.new ≡ room.old) }
 {
     let Some(mut all) = table.take(alloc) else {
         return CLOSED;

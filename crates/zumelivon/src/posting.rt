@@ -8,7 +8,7 @@ ghost use Rattle.st_embedded.specs.Table.{machine_at, Changes, Same};
 ghost use Rattle.st_events.specs.Refusal.{number_of};
 ghost use Rattle.st_events.specs.declared.refused.Refused.{Refused};
 ghost use Rattle.st_hosted.specs.declared.payload.Payload.{Payload};
-ghost use Rattle.zumelivon.specs.Calls.{Posts, Replies};
+ghost use Rattle.zumelivon.specs.Calls.{PostsHosted, Replies};
 ghost use Rattle.zumelivon.specs.Exports.{OnlyHosted, content_in};
 ghost use Rattle.zumelivon.specs.Reading.{is_entry, entry_in};
 
@@ -35,8 +35,7 @@ pub(crate) fn post(
     bytes: &[u8],
     number: &mut u64,
 ) -> u32
-    ensures does { Posts hosted_callbacks id entry (content_in code bytes.now) result number.old number.new all.old.hosted all.new.hosted }
-    ensures rest { OnlyHosted all.old all.new }
+    ensures does { PostsHosted id entry (content_in code bytes.now) result number.old number.new all.old all.new }
     ensures open { result ≢ 105 }
 {
     let Some(entry) = entry_of(entry) else {

@@ -1,6 +1,6 @@
 //! Starts, next events and turns of hosted machines.
 ghost use Rattle.std.specs.Prelude.{◌≡◌};
-ghost use Rattle.zumelivon.specs.Calls.{ShowsNext, StartsHosted, Turns, why_number};
+ghost use Rattle.zumelivon.specs.Calls.{ShowsNext, MakesTurn, ShowsOf, ShowsNext, StartsHosted, why_number};
 ghost use Rattle.zumelivon.specs.Handed.{handed_in};
 
 use crate::answers::Answers;
@@ -12,7 +12,7 @@ use crate::flat_report::FlatReport;
 use crate::posting::number_of;
 use crate::read_actions::{actions_of, are_actions};
 use crate::showing::{event_of, report_of, write};
-use st_core::Turned;
+use st_core::Core;
 use st_embedded::{Lists, Machines, start_hosted, turn_hosted};
 use st_hosted::{Begin, HostAnswer, HostOutcome, WhyNot};
 use st_events::PlainList;
@@ -70,12 +70,10 @@ pub(crate) fn start(
     }
 }
 
-pub(crate) fn next(all: &Machines, id: u64, event: &mut FlatEvent, room: &mut [u8]) -> u32
-    ensures shows { ShowsNext id result event.old event.new room.old room.new all.now }
+/// The next event of a machine.
+fn show(core: &Core<HostAnswer>, event: &mut FlatEvent, room: &mut [u8]) -> u32
+    ensures shows { ShowsOf result event.old event.new room.old room.new core.now }
 {
-    let Some(core) = all.hosted.get(&id) else {
-        return NO_SUCH_MACHINE;
-    };
     match core.next() {
         None => NOTHING,
         Some((number, kind, content)) => {
@@ -89,6 +87,15 @@ pub(crate) fn next(all: &Machines, id: u64, event: &mut FlatEvent, room: &mut [u
     }
 }
 
+pub(crate) fn next(all: &Machines, id: u64, event: &mut FlatEvent, room: &mut [u8]) -> u32
+    ensures shows { ShowsNext id result event.old event.new room.old room.new all.now }
+{
+    match all.hosted.get(&id) {
+        Some(core) => show(core, event, room),
+        None => NO_SUCH_MACHINE,
+    }
+}
+
 pub(crate) fn turn(
     alloc: Global,
     all: &mut Machines,
@@ -98,7 +105,7 @@ pub(crate) fn turn(
     answers: &Answers<'_>,
     report: &mut FlatReport,
 ) -> u32
-    ensures does { Turns id number now (handed_in answers.now) result report.old report.new all.old all.new }
+    ensures does { MakesTurn id number now (handed_in answers.now) result report.old report.new all.old all.new }
 {
     if !answers.is_answer() {
         return INVALID;
@@ -107,12 +114,11 @@ pub(crate) fn turn(
         return NO_MEMORY;
     };
     match turn_hosted(&mut all.hosted, id, number, host, now) {
-        Ok(Turned::Reported(reported)) => {
+        Ok(reported) => {
             *report = report_of(&reported);
             all.lists = Lists::of(reported);
             DONE
         }
-        Ok(Turned::Idle) => NOTHING,
         Err(why) => why_number(why),
     }
 }
