@@ -1,10 +1,10 @@
 -- Machines in a map, of which one was told something.
 --     wrote       what was written through a loan of the machine of a number is what that number names
 --     same_back   where it is what it was, each number names what it named
-use Rattle.std.proofs.Common.{◌≡◌, ◌==◌, ℕ, Bool, true, false, cond, Option, Some, None, IsSome, nat_eq, refl, sym, ap, ◌∙◌, subst}
+use Rattle.std.proofs.Common.{◌≡◌, ◌==◌, ℕ, Bool, true, false, cond, Some, IsSome, nat_eq, refl, ap, ◌∙◌, subst}
 use Rattle.std.proofs.lemmas.Bool.{eqb-true}
 use Rattle.std.specs.HashMap.{HashMap, WritesThrough}
-use Rattle.st_embedded.specs.Table.{machine_at, Puts, Same, Changes}
+use Rattle.st_embedded.specs.Table.{machine_at, Puts, Same}
 
 at_same : {X : Type 0} → (b : Bool) (x y : X) → (b ≡ true → x ≡ y) → cond b x y ≡ y
 at_same true x y h = h refl

@@ -5,7 +5,7 @@ use Rattle.st_core.specs.MachineState.{Machine}
 use Rattle.st_core.specs.Start.{Starts, start_of}
 use Rattle.st_core.specs.declared.start.Start.{Start}
 use Rattle.st_core.specs.declared.start.Start.TheVariants as start
-use Rattle.st_embedded.specs.Table.{Puts, Same}
+use Rattle.st_embedded.specs.Table.{Puts}
 use Rattle.st_embedded.specs.declared.described_calls.Begun.{Begun}
 use Rattle.st_embedded.specs.declared.described_calls.Begun.TheVariants.{Running, Ignored, Stopped}
 use Rattle.st_embedded.specs.declared.machines.Machines.{Machines}

@@ -1,7 +1,6 @@
 -- Hosted machines, as their callers see them.
 use Rattle.std.specs.Prelude.{ℕ, false, nat_eq, None, [], Ok}
 use Rattle.st_answers.specs.declared.report.Report.{Report}
-
 use Rattle.st_core.specs.Callbacks.{Callbacks, callbacks_of}
 use Rattle.st_core.specs.MachineState.{Machine}
 use Rattle.st_core.specs.Start.{Starts, start_of}

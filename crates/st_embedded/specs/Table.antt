@@ -1,5 +1,5 @@
 -- Machines in a map, by their numbers, as their callers see them.
-use Rattle.std.specs.Prelude.{◌≡◌, ◌==◌, ℕ, cond, List, [], Option, Some, None}
+use Rattle.std.specs.Prelude.{◌≡◌, ◌==◌, ℕ, cond, [], Option, Some, None}
 use Rattle.std.specs.HashMap.{HashMap}
 use Rattle.indexmap.specs.IndexMap.{get_by}
 use Rattle.st_answers.specs.declared.report.Report.{Report}

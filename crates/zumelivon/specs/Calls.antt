@@ -1,6 +1,6 @@
 -- What calls do to a table, and what they write and answer. Of most the answer 0 says that it was done, and at any other
 -- nothing changed and nothing was written. `id` is a machine's number; what a call writes stands behind what was there.
-use Rattle.std.specs.Prelude.{◌≡◌, ◌≢◌, ◌⊎◌, ◌<◌, ℕ, ◌+◌, ◌==◌, ◌&&◌, Bool, true, false, List, [], ◌∷◌, ◌++◌, length, map, Option, Some, None, Result, Ok, Err, IsSome, is_some, nat_lt, not, slice_get}
+use Rattle.std.specs.Prelude.{◌≡◌, ◌≢◌, ◌⊎◌, ◌<◌, ℕ, ◌+◌, ◌&&◌, Bool, true, false, List, [], ◌∷◌, ◌++◌, length, map, Option, Some, None, Ok, Err, IsSome, nat_lt, slice_get}
 use Rattle.std.specs.HashMap.{HashMap}
 use Rattle.std.specs.List.{list_all}
 use Rattle.st_answers.specs.declared.answer.Answer.TheVariants as answer
@@ -22,7 +22,6 @@ use Rattle.st_core.specs.declared.turns_end.TurnsEnd.TheVariants as end
 use Rattle.st_embedded.specs.Described.{Described, ComesTo, described_callbacks}
 use Rattle.st_embedded.specs.Hosted.{Hosted, IsStarted, hosted_callbacks, answered_by, last_word}
 use Rattle.st_embedded.specs.Table.{machine_at, lists_of, Changes, Same, Puts, Loses}
-use Rattle.st_embedded.specs.declared.lists.Lists.{Lists}
 use Rattle.st_embedded.specs.declared.machines.Machines.{Machines}
 use Rattle.st_events.specs.Refusal.{number_of}
 use Rattle.st_events.specs.declared.event.Event.{Event}
@@ -41,7 +40,7 @@ use Rattle.zumelivon.specs.Reading.{Handed, is_entry, entry_in, is_action, is_an
 use Rattle.st_table.specs.declared.interpreter.Interpreter.{Interpreter}
 use Rattle.st_table.specs.declared.place.Place.{Place}
 use Rattle.st_table.specs.declared.signal.Signal.{Signal}
-use Rattle.zumelivon.specs.Signals.{AllHaveValues, HasValue, IsOf, bytes_in, flat_signal, signal_in, value_in}
+use Rattle.zumelivon.specs.Signals.{HasValue, IsOf, bytes_in, flat_signal, signal_in, value_in}
 use Rattle.zumelivon.specs.Showing.{flag, flat_report_as, flat_content, flat_event, flat_machine, flat_message, flat_report, listed_at, written}
 use Rattle.zumelivon.specs.declared.flat_action.FlatAction.{FlatAction}
 use Rattle.zumelivon.specs.declared.flat_answer.FlatAnswer.{FlatAnswer}
@@ -67,7 +66,7 @@ module _ {M S D C K : Type 0} (callbacks : M → Callbacks S D C) where
       × (result ≢ 0 → Same old new × (number ≡ number_old))
       × (machine_at old id ≡ None → (result ≡ 9) ⊎ (result ≡ 101) ⊎ (result ≡ 1))
       × (result ≢ 0 → result ≢ 101 → result ≢ 1 → (before : Machine M S D C) → machine_at old id ≡ Some before
-          → (refused : Refused C) × (result ≡ number_of refused.refusal) × Does callbacks before (command.Post (entry_in entry) content) (answer.Post (Err refused)) before)
+      → (refused : Refused C) × (result ≡ number_of refused.refusal) × Does callbacks before (command.Post (entry_in entry) content) (answer.Post (Err refused)) before)
 
   -- a machine is told the moment, and so many time-outs expired
   abbrev pub Ticks : ℕ → ℕ → ℕ → ℕ → ℕ → HashMap ℕ (Machine M S D C) K → HashMap ℕ (Machine M S D C) K → Type 0
@@ -76,7 +75,7 @@ module _ {M S D C K : Type 0} (callbacks : M → Callbacks S D C) where
       × (result ≢ 0 → Same old new × (expired ≡ expired_old))
       × (machine_at old id ≡ None → result ≡ 9)
       × (result ≢ 0 → (before : Machine M S D C) → machine_at old id ≡ Some before
-          → (refusal : Refusal) × (result ≡ number_of refusal) × Does callbacks before (command.Tick now) (answer.Tick (Err refusal)) before)
+      → (refusal : Refusal) × (result ≡ number_of refusal) × Does callbacks before (command.Tick now) (answer.Tick (Err refusal)) before)
 
   -- what is kept for a call is taken out, and what that is
   abbrev pub Collects : ℕ → ℕ → Collected C → HashMap ℕ (Machine M S D C) K → HashMap ℕ (Machine M S D C) K → Type 0
@@ -104,10 +103,10 @@ why_number (why.Refused refusal) = number_of refusal
 abbrev pub StartsHosted : ℕ → FlatBegin → List FlatAction → FlatAnswer → List FlatAction → List ℕ → ℕ → ℕ → ℕ → FlatReport → FlatReport → Machines → Machines → Type 0
 StartsHosted now begin actions entered enter_actions bytes result id_old id report_old report old new =
     (result ≡ 0 → (list_all (is_action bytes) actions ≡ true) × (is_entered bytes entered enter_actions ≡ true) × (id ≡ old.next_id)
-        × ((reported : Report ℕ) × (after : Hosted)
-            × IsStarted (first_answer_in bytes begin entered enter_actions) (begin_in bytes begin actions) id now reported after
-            × Puts old.hosted new.hosted id after × (report ≡ flat_report reported)
-            × (new ≡ record old { hosted = new.hosted; next_id = old.next_id + 1; lists = lists_of reported })))
+    × ((reported : Report ℕ) × (after : Hosted)
+    × IsStarted (first_answer_in bytes begin entered enter_actions) (begin_in bytes begin actions) id now reported after
+    × Puts old.hosted new.hosted id after × (report ≡ flat_report reported)
+    × (new ≡ record old { hosted = new.hosted; next_id = old.next_id + 1; lists = lists_of reported })))
     × (result ≢ 0 → Same old.hosted new.hosted × OnlyHosted old new × (id ≡ id_old) × (report ≡ report_old))
     × (result ≡ 101 → (list_all (is_action bytes) actions && is_entered bytes entered enter_actions) ≡ false)
 
@@ -131,14 +130,14 @@ ShowsNext id result event_old event room_old room all =
 abbrev pub MakesTurn : ℕ → ℕ → ℕ → Handed → ℕ → FlatReport → FlatReport → Machines → Machines → Type 0
 MakesTurn id number now handed result report_old report old new =
     (result ≡ 0 → (is_answer handed ≡ true)
-        × ((reported : Report ℕ)
-            × Changes (λ before after. IsNext before.machine number × Does hosted_callbacks (answered_by (answer_in handed) before) (command.Turn now) (answer.Turn (Ok (Reported reported))) after) old.hosted new.hosted id
-            × (report ≡ flat_report reported) × (new ≡ record old { hosted = new.hosted; lists = lists_of reported })))
+    × ((reported : Report ℕ)
+    × Changes (λ before after. IsNext before.machine number × Does hosted_callbacks (answered_by (answer_in handed) before) (command.Turn now) (answer.Turn (Ok (Reported reported))) after) old.hosted new.hosted id
+    × (report ≡ flat_report reported) × (new ≡ record old { hosted = new.hosted; lists = lists_of reported })))
     × (result ≢ 0 → Same old.hosted new.hosted × OnlyHosted old new × (report ≡ report_old))
     × (result ≡ 101 → is_answer handed ≡ false)
     × (machine_at old.hosted id ≡ None → (result ≡ 9) ⊎ (result ≡ 101) ⊎ (result ≡ 1))
     × (result ≢ 0 → result ≢ 101 → result ≢ 1 → (before : Hosted) → machine_at old.hosted id ≡ Some before
-        → (why : WhyNot) × (result ≡ why_number why) × IsWhyNot hosted_callbacks (answered_by (answer_in handed) before) number now why)
+    → (why : WhyNot) × (result ≡ why_number why) × IsWhyNot hosted_callbacks (answered_by (answer_in handed) before) number now why)
 
 -- a reply comes from outside; 100 where it was not taken
 abbrev pub Replies : ℕ → ℕ → Payload → ℕ → Machines → Machines → Type 0
@@ -154,13 +153,13 @@ Replies id number content result old new =
 abbrev pub CollectsContent : ℕ → ℕ → ℕ → FlatContent → FlatContent → List ℕ → List ℕ → Machines → Machines → Type 0
 CollectsContent id number result content_old content room_old room old new =
     (result ≡ 0 → (reply : Payload) × Collects hosted_callbacks id number (collected.Reply reply) old.hosted new.hosted
-        × (content ≡ flat_content reply) × (room ≡ written reply.bytes room_old))
+    × (content ≡ flat_content reply) × (room ≡ written reply.bytes room_old))
     × (result ≡ 103 → (reason : ℕ) × Collects hosted_callbacks id number (collected.Stopped reason) old.hosted new.hosted
-        × (content ≡ record { code = 0; length = 0; reason = reason; unused = 0 }))
+    × (content ≡ record { code = 0; length = 0; reason = reason; unused = 0 }))
     × (result ≡ 100 → Collects hosted_callbacks id number collected.Waiting old.hosted new.hosted)
     × (result ≡ 107 → Collects hosted_callbacks id number collected.Gone old.hosted new.hosted)
     × (result ≡ 102 → (before : Hosted) × (reply : Payload) × (machine_at old.hosted id ≡ Some before) × (peek_of before.machine (tag_of before number) ≡ Some reply)
-        × (content ≡ flat_content reply) × (length room_old < length reply.bytes) × Same old.hosted new.hosted)
+    × (content ≡ flat_content reply) × (length room_old < length reply.bytes) × Same old.hosted new.hosted)
     × (result ≡ 9 → (machine_at old.hosted id ≡ None) × Same old.hosted new.hosted)
     × (result ≢ 0 → room ≡ room_old)
     × (result ≢ 0 → result ≢ 103 → result ≢ 102 → content ≡ content_old)
@@ -171,9 +170,9 @@ CollectsContent id number result content_old content room_old room old new =
 abbrev pub TakesMessage : ℕ → ℕ → FlatMessage → FlatMessage → List ℕ → List ℕ → Machines → Machines → Type 0
 TakesMessage id result message_old message room_old room old new =
     (result ≡ 0 → (it : Message Payload) × Takes hosted_callbacks id (Some it) old.hosted new.hosted
-        × (message ≡ flat_message it) × (room ≡ written it.content.bytes room_old))
+    × (message ≡ flat_message it) × (room ≡ written it.content.bytes room_old))
     × (result ≡ 102 → (before : Hosted) × (it : Message Payload) × (machine_at old.hosted id ≡ Some before) × (first_message before.machine.outbox.messages ≡ Some it)
-        × (message ≡ flat_message it) × (length room_old < length it.content.bytes) × Same old.hosted new.hosted)
+    × (message ≡ flat_message it) × (length room_old < length it.content.bytes) × Same old.hosted new.hosted)
     × (result ≡ 100 → (before : Hosted) × (machine_at old.hosted id ≡ Some before) × (first_message before.machine.outbox.messages ≡ None) × Same old.hosted new.hosted)
     × (result ≡ 9 → (machine_at old.hosted id ≡ None) × Same old.hosted new.hosted)
     × (result ≢ 0 → room ≡ room_old)
@@ -196,13 +195,13 @@ Describes result description_old description old new =
 -- description made none
 abbrev pub StartsDescribed : ℕ → ℕ → List FlatSignal → List ℕ → ℕ → ℕ → ℕ → FlatReport → FlatReport → Machines → Machines → Type 0
 StartsDescribed description now values bytes result id_old id report_old report old new =
-    (result ≡ 0 → (it : Interpreter) × IsOf old description it × AllHaveValues bytes values × (id ≡ old.next_id)
-        × ((reported : Report Place) × (after : Described) × ComesTo it (map (value_in bytes) values) id now (start.Running after reported)
-            × Puts old.described new.described id after × (report ≡ flat_report_as reported.before.number reported.after.number reported)
-            × (new ≡ record old { described = new.described; next_id = old.next_id + 1; lists = lists_of reported })))
+    (result ≡ 0 → (it : Interpreter) × IsOf old description it × (id ≡ old.next_id)
+    × ((reported : Report Place) × (after : Described) × ComesTo it (map (value_in bytes) values) id now (start.Running after reported)
+    × Puts old.described new.described id after × (report ≡ flat_report_as reported.before.number reported.after.number reported)
+    × (new ≡ record old { described = new.described; next_id = old.next_id + 1; lists = lists_of reported })))
     × (result ≡ 110 → (it : Interpreter) × IsOf old description it × ComesTo it (map (value_in bytes) values) old.next_id now start.Ignored)
     × (result ≡ 103 → (it : Interpreter) × IsOf old description it
-        × ((reason : ℕ) × ComesTo it (map (value_in bytes) values) old.next_id now (start.Stopped reason) × (report ≡ record report_old { reason = reason })))
+    × ((reason : ℕ) × ComesTo it (map (value_in bytes) values) old.next_id now (start.Stopped reason) × (report ≡ record report_old { reason = reason })))
     × (result ≢ 0 → Same old.described new.described × OnlyDescribed old new × (id ≡ id_old))
     × (result ≢ 0 → result ≢ 103 → report ≡ report_old)
     × (result ≡ 112 → slice_get old.charts.items description ≡ None)
@@ -226,10 +225,10 @@ is_at_most other = false
 abbrev pub RunsDescribed : ℕ → ℕ → ℕ → ℕ → ℕ → ℕ → ℕ → ℕ → Machines → Machines → Type 0
 RunsDescribed id now at_most result turns_old turns more_old more old new =
     ((before : Described) → machine_at old.described id ≡ Some before → before.machine.ended ≡ None
-        → (made : Turns) × Changes (λ before after. HasTurned described_callbacks now before made after × HasStopped at_most made after.machine) old.described new.described id
-        × (turns ≡ made.reported) × (more ≡ flag (is_at_most made.end)) × (result ≡ end_number made.end))
+    → (made : Turns) × Changes (λ before after. HasTurned described_callbacks now before made after × HasStopped at_most made after.machine) old.described new.described id
+    × (turns ≡ made.reported) × (more ≡ flag (is_at_most made.end)) × (result ≡ end_number made.end))
     × ((before : Described) → machine_at old.described id ≡ Some before → IsSome before.machine.ended
-        → (result ≡ 2) × Same old.described new.described × (turns ≡ turns_old) × (more ≡ more_old))
+    → (result ≡ 2) × Same old.described new.described × (turns ≡ turns_old) × (more ≡ more_old))
     × (machine_at old.described id ≡ None → (result ≡ 9) × Same old.described new.described × (turns ≡ turns_old) × (more ≡ more_old))
     × OnlyDescribed old new
 
@@ -237,12 +236,12 @@ RunsDescribed id now at_most result turns_old turns more_old more old new =
 abbrev pub CollectsSignal : ℕ → ℕ → ℕ → FlatSignal → FlatSignal → ℕ → ℕ → List ℕ → List ℕ → Machines → Machines → Type 0
 CollectsSignal id number result signal_old signal reason_old reason room_old room old new =
     (result ≡ 0 → (reply : Signal) × Collects described_callbacks id number (collected.Reply reply) old.described new.described
-        × (signal ≡ flat_signal reply) × (room ≡ written (bytes_in reply) room_old))
+    × (signal ≡ flat_signal reply) × (room ≡ written (bytes_in reply) room_old))
     × (result ≡ 103 → Collects described_callbacks id number (collected.Stopped reason) old.described new.described)
     × (result ≡ 100 → Collects described_callbacks id number collected.Waiting old.described new.described)
     × (result ≡ 107 → Collects described_callbacks id number collected.Gone old.described new.described)
     × (result ≡ 102 → (before : Described) × (reply : Signal) × (machine_at old.described id ≡ Some before) × (peek_of before.machine (tag_of before number) ≡ Some reply)
-        × (signal ≡ flat_signal reply) × (length room_old < length (bytes_in reply)) × Same old.described new.described)
+    × (signal ≡ flat_signal reply) × (length room_old < length (bytes_in reply)) × Same old.described new.described)
     × (result ≡ 9 → (machine_at old.described id ≡ None) × Same old.described new.described)
     × (result ≢ 0 → room ≡ room_old)
     × (result ≢ 103 → reason ≡ reason_old)
@@ -254,9 +253,9 @@ CollectsSignal id number result signal_old signal reason_old reason room_old roo
 abbrev pub TakesSignal : ℕ → ℕ → FlatSignal → FlatSignal → ℕ → ℕ → ℕ → ℕ → List ℕ → List ℕ → Machines → Machines → Type 0
 TakesSignal id result signal_old signal target_old target number_old number room_old room old new =
     (result ≡ 0 → (it : Message Signal) × Takes described_callbacks id (Some it) old.described new.described
-        × (signal ≡ flat_signal it.content) × (target ≡ it.target.serial) × (number ≡ it.number) × (room ≡ written (bytes_in it.content) room_old))
+    × (signal ≡ flat_signal it.content) × (target ≡ it.target.serial) × (number ≡ it.number) × (room ≡ written (bytes_in it.content) room_old))
     × (result ≡ 102 → (before : Described) × (it : Message Signal) × (machine_at old.described id ≡ Some before) × (first_message before.machine.outbox.messages ≡ Some it)
-        × (signal ≡ flat_signal it.content) × (length room_old < length (bytes_in it.content)) × Same old.described new.described)
+    × (signal ≡ flat_signal it.content) × (length room_old < length (bytes_in it.content)) × Same old.described new.described)
     × (result ≡ 100 → (before : Described) × (machine_at old.described id ≡ Some before) × (first_message before.machine.outbox.messages ≡ None) × Same old.described new.described)
     × (result ≡ 9 → (machine_at old.described id ≡ None) × Same old.described new.described)
     × (result ≢ 0 → (room ≡ room_old) × (target ≡ target_old) × (number ≡ number_old))
@@ -278,7 +277,7 @@ StopsHosted id reason word result old new =
     (result ≡ 0 → (said : ℕ) × Changes (λ before after. Does hosted_callbacks (answered_by (last_word word) before) (command.Stop reason) (answer.Stop (Ok said)) after) old.hosted new.hosted id)
     × (result ≢ 0 → Same old.hosted new.hosted)
     × (result ≢ 0 → (before : Hosted) → machine_at old.hosted id ≡ Some before
-        → (refusal : Refusal) × (result ≡ number_of refusal) × Does hosted_callbacks (answered_by (last_word word) before) (command.Stop reason) (answer.Stop (Err refusal)) (answered_by (last_word word) before))
+    → (refusal : Refusal) × (result ≡ number_of refusal) × Does hosted_callbacks (answered_by (last_word word) before) (command.Stop reason) (answer.Stop (Err refusal)) (answered_by (last_word word) before))
     × OnlyHosted old new
 
 -- a described machine ends
@@ -288,7 +287,7 @@ StopsDescribed id reason result old new =
     × (result ≢ 0 → Same old.described new.described)
     × (machine_at old.described id ≡ None → result ≡ 9)
     × (result ≢ 0 → (before : Described) → machine_at old.described id ≡ Some before
-        → (refusal : Refusal) × (result ≡ number_of refusal) × Does described_callbacks before (command.Stop reason) (answer.Stop (Err refusal)) before)
+    → (refusal : Refusal) × (result ≡ number_of refusal) × Does described_callbacks before (command.Stop reason) (answer.Stop (Err refusal)) before)
     × OnlyDescribed old new
 
 -- a machine ends for a reason

@@ -1,8 +1,7 @@
 -- What is behind a handle before and after a call.
 use Rattle.std.specs.Prelude.{◌≡◌, ℕ, List, Option, Some, None}
 use Rattle.st_embedded.specs.declared.machines.Machines.{Machines}
-use Rattle.st_embedded.specs.Hosted.{Hosted}
-use Rattle.st_embedded.specs.Table.{machine_at, Same}
+use Rattle.st_embedded.specs.Table.{Same}
 use Rattle.st_hosted.specs.declared.payload.Payload.{Payload}
 
 -- the handle is open before and after, and this is how its table changed; or it is closed before and after

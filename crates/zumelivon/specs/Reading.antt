@@ -1,6 +1,6 @@
 -- What the numbers and bytes that a host hands in mean. Whether they mean anything is said apart (`is_..`): where they
 -- do not, the meaning is of no account.
-use Rattle.std.specs.Prelude.{ℕ, Bool, false, true, List, [], ◌∷◌, Option, None, Some, ◌+◌, ◌-◌, ◌==◌, ◌&&◌, ◌||◌, not, nat_lt, nat_le, length, map, slice_range, if◌then◌else◌}
+use Rattle.std.specs.Prelude.{ℕ, Bool, false, List, [], Option, None, Some, ◌+◌, ◌-◌, ◌==◌, ◌&&◌, ◌||◌, not, nat_lt, nat_le, length, map, slice_range, if◌then◌else◌}
 use Rattle.std.specs.List.{list_all}
 use Rattle.st_answers.specs.declared.entry.Entry.{Entry}
 use Rattle.st_answers.specs.declared.entry.Entry.TheVariants as entry
@@ -91,7 +91,7 @@ abbrev pub is_action : List ℕ → FlatAction → Bool
 is_action bytes it =
     nat_lt it.what 8 && (has_its_content bytes it && (has_its_timer it && (not (it.what == 2) || is_kind it)))
 
-abbrev pub action_in : List ℕ → FlatAction → Action Payload
+unfoldable pub action_in : List ℕ → FlatAction → Action Payload
 action_in bytes it =
     if it.what == 0 then action.Reply (tag_in it) (payload_in bytes it) else (
     if it.what == 1 then action.Postpone (not (it.postpone == 0)) else (

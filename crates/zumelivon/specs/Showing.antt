@@ -1,5 +1,5 @@
 -- What is handed out, as numbers.
-use Rattle.std.specs.Prelude.{ℕ, Bool, List, [], ◌∷◌, ◌++◌, Option, None, Some, length, drop, is_some, slice_get, ◌==◌, if◌then◌else◌}
+use Rattle.std.specs.Prelude.{ℕ, Bool, List, ◌++◌, Option, None, Some, length, drop, is_some, slice_get, ◌==◌, if◌then◌else◌}
 use Rattle.std.specs.Option.{option_map, option_map_or}
 use Rattle.st_answers.specs.declared.done.Done.{Done}
 use Rattle.st_answers.specs.declared.done.Done.TheVariants as done

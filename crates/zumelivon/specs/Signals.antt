@@ -1,6 +1,5 @@
 -- Signals as numbers and bytes.
-use Rattle.std.specs.Prelude.{◌≡◌, ◌≢◌, ℕ, Bool, true, List, [], ◌∷◌, Some, ◌+◌, ◌==◌, nat_lt, length, slice_get, slice_range, if◌then◌else◌}
-use Rattle.std.specs.List.{All}
+use Rattle.std.specs.Prelude.{◌≡◌, ℕ, true, List, [], Some, ◌+◌, ◌==◌, nat_lt, length, slice_get, slice_range, if◌then◌else◌}
 use Rattle.std.specs.Str.{IsUtf8}
 use Rattle.st_chart.specs.declared.chart.Chart.{Chart}
 use Rattle.st_embedded.specs.declared.machines.Machines.{Machines}
@@ -18,9 +17,6 @@ text_in bytes it = slice_range bytes it.from (it.from + it.length)
 -- what it carries is a value: a text is there, and is UTF-8
 abbrev pub HasValue : List ℕ → FlatSignal → Type 0
 HasValue bytes it = (nat_lt it.what 5 ≡ true) × (it.what ≡ 4 → (is_within bytes it.from it.length ≡ true) × IsUtf8 (text_in bytes it))
-
-abbrev pub AllHaveValues : List ℕ → List FlatSignal → Type 0
-AllHaveValues bytes = All (HasValue bytes)
 
 -- the value
 abbrev pub value_in : List ℕ → FlatSignal → Value

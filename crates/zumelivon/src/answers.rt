@@ -1,7 +1,6 @@
 //! What a turn, or a start, is handed.
 ghost use Rattle.std.specs.Prelude.{◌≡◌, true, IfOk};
 ghost use Rattle.zumelivon.specs.Handed.{handed_in};
-
 ghost use Rattle.zumelivon.specs.Reading.{is_answer, answer_in, is_entered, entered_in};
 
 use crate::flat_action::FlatAction;

@@ -1,17 +1,25 @@
 //! Calls of described machines.
-ghost use Rattle.std.specs.Prelude.{◌≡◌, None, slice_get, IfOk, IfSome, IfNone};
-ghost use Rattle.zumelivon.specs.Calls.{CollectsSignal, PostsSignal, RunsDescribed, StartsDescribed, TakesSignal, end_number, is_at_most};
-ghost use Rattle.zumelivon.specs.Signals.{IsOf};
+ghost use Rattle.std.specs.Prelude.{◌≡◌, ◌≢◌, ◌<◌, ◌≤◌, None, Some, length, slice_get, IfOk, IfSome, IfNone};
+ghost use Rattle.std.specs.Bool.{OnFalse, OnTrue};
+ghost use Rattle.st_core.specs.Replies.{peek_of};
+ghost use Rattle.st_table.specs.declared.signal.Signal.{Signal};
+ghost use Rattle.zumelivon.specs.Calls.{CollectsSignal, PostsSignal, RunsDescribed, StartsDescribed, TakesSignal, end_number, is_at_most, tag_of};
+ghost use Rattle.zumelivon.specs.Signals.{IsOf, bytes_in, flat_signal};
 
-use crate::codes::{DONE, ENDED, GONE, IGNORED, INVALID, NOTHING, NO_MEMORY, NO_SUCH_DESCRIPTION, NO_SUCH_MACHINE, STOPPED, TOO_SMALL};
+use crate::codes::{
+    DONE, ENDED, GONE, IGNORED, INVALID, NO_MEMORY, NO_SUCH_DESCRIPTION, NO_SUCH_MACHINE, NOTHING,
+    STOPPED, TOO_SMALL,
+};
 use crate::flat_report::FlatReport;
 use crate::flat_signal::FlatSignal;
 use crate::posting::number_of;
 use crate::reading::entry_of;
 use crate::showing::{report_as, write};
 use crate::signals::{bytes_of, flat_signal, has_value, signal_of, values_of};
-use st_core::TurnsEnd;
-use st_embedded::{Begun, Lists, Machines, collect_at, post_at, run_at, start_described, take_out_at};
+use st_core::{Core, TurnsEnd};
+use st_embedded::{
+    Begun, Lists, Machines, collect_at, post_at, run_at, start_described, take_out_at,
+};
 use st_requests::Collected;
 use st_table::Interpreter;
 use std::alloc::{AllocError, Global};
@@ -41,6 +49,7 @@ pub(crate) fn start(
     report: &mut FlatReport,
 ) -> u32
     ensures does { StartsDescribed description now values.now bytes.now result id.old id.new report.old report.new all.old all.new }
+    ensures not_closed { result ≢ 105 }
 {
     let interpreter = match interpreter(all, description) {
         Ok(Some(interpreter)) => interpreter,
@@ -80,6 +89,7 @@ pub(crate) fn post(
     number: &mut u64,
 ) -> u32
     ensures does { PostsSignal id entry signal.now bytes.now result number.old number.new all.old all.new }
+    ensures not_closed { result ≢ 105 }
 {
     let Some(entry) = entry_of(entry) else {
         return INVALID;
@@ -101,7 +111,8 @@ pub(crate) fn post(
 
 /// What a run answers where its machine had not ended.
 fn end_number(end: TurnsEnd) -> u32
-    ensures { result ≡ end_number end }
+    ensures number { result ≡ end_number end }
+    ensures not_closed { result ≢ 105 }
 {
     match end {
         TurnsEnd::Refused(refusal) => number_of(refusal),
@@ -127,6 +138,7 @@ pub(crate) fn run(
     more: &mut u32,
 ) -> u32
     ensures does { RunsDescribed id now at_most result turns.old turns.new more.old more.new all.old all.new }
+    ensures not_closed { result ≢ 105 }
 {
     let Some(core) = all.described.get(&id) else {
         return NO_SUCH_MACHINE;
@@ -142,6 +154,24 @@ pub(crate) fn run(
     end_number(made.end)
 }
 
+/// Says whether the reply to a call has more bytes than a room has places; then it is shown without its bytes.
+fn is_too_long(core: &Core<Interpreter>, number: u64, signal: &mut FlatSignal, room: &[u8]) -> bool
+    ensures longer { OnTrue result ((reply : Signal) × (peek_of core.now.machine (tag_of core.now number) ≡ Some reply) × (signal.new ≡ flat_signal reply) × (length room.now < length (bytes_in reply))) }
+    ensures fits { OnFalse result ((reply : Signal) → peek_of core.now.machine (tag_of core.now number) ≡ Some reply → length (bytes_in reply) ≤ length room.now) }
+    ensures kept { OnFalse result (signal.new ≡ signal.old) }
+{
+    match core.peek(core.tag(number)) {
+        Some(reply) => {
+            if bytes_of(reply).len() <= room.len() {
+                return false;
+            }
+            *signal = flat_signal(reply);
+            true
+        }
+        None => false,
+    }
+}
+
 pub(crate) fn collect(
     all: &mut Machines,
     id: u64,
@@ -151,15 +181,13 @@ pub(crate) fn collect(
     room: &mut [u8],
 ) -> u32
     ensures does { CollectsSignal id number result signal.old signal.new reason.old reason.new room.old room.new all.old all.new }
+    ensures not_closed { result ≢ 105 }
 {
     let Some(core) = all.described.get(&id) else {
         return NO_SUCH_MACHINE;
     };
-    if let Some(reply) = core.peek(core.tag(number)) {
-        if bytes_of(reply).len() > room.len() {
-            *signal = flat_signal(reply);
-            return TOO_SMALL;
-        }
+    if is_too_long(core, number, signal, room) {
+        return TOO_SMALL;
     }
     match collect_at(&mut all.described, id, number) {
         None => NO_SUCH_MACHINE,
@@ -186,6 +214,7 @@ pub(crate) fn take_out(
     room: &mut [u8],
 ) -> u32
     ensures does { TakesSignal id result signal.old signal.new target.old target.new number.old number.new room.old room.new all.old all.new }
+    ensures not_closed { result ≢ 105 }
 {
     let Some(core) = all.described.get(&id) else {
         return NO_SUCH_MACHINE;

@@ -2,12 +2,13 @@
 ghost use Rattle.std.specs.Prelude.{◌≡◌, ◌≢◌};
 ghost use Rattle.zumelivon.specs.Calls.{Describes};
 
-use crate::codes::{DONE, FAULTY, INVALID, NO_MEMORY, NO_SUCH_DESCRIPTION, NO_SUCH_NAME, TOO_SMALL};
+use crate::codes::{
+    DONE, FAULTY, INVALID, NO_MEMORY, NO_SUCH_DESCRIPTION, NO_SUCH_NAME, TOO_SMALL,
+};
 use crate::showing::write;
-use st_chart::{Chart, Names, Unread, read_chart};
+use st_chart::{Chart, Fault, Names, Unread, read_chart};
 use st_embedded::Machines;
 use st_events::PlainList;
-use st_chart::Fault;
 use std::alloc::{AllocError, Global};
 use std::fmt::Write;
 use std::str::from_utf8;
@@ -16,7 +17,15 @@ use std::str::from_utf8;
 fn faults_text(alloc: Global, faults: &PlainList<Fault>) -> Result<String, AllocError> {
     let mut text = String::new(alloc);
     for fault in faults.as_slice() {
-        if write!(text, "{}:{}: {}\n", fault.line, fault.column, fault.text.as_str()).is_err() {
+        if write!(
+            text,
+            "{}:{}: {}\n",
+            fault.line,
+            fault.column,
+            fault.text.as_str()
+        )
+        .is_err()
+        {
             return Err(AllocError);
         }
     }
@@ -32,15 +41,14 @@ fn write_some(bytes: &[u8], room: &mut [u8], length: &mut u64) {
 
 fn keep(all: &mut Machines, chart: Chart, description: &mut u64) -> u32
     ensures does { Describes result description.old description.new all.old all.new }
+    ensures not_closed { result ≢ 105 }
 {
     let number = all.charts.len() as u64;
-    match all.charts.push(chart) {
-        Ok(()) => {
-            *description = number;
-            DONE
-        }
-        Err(_) => NO_MEMORY,
-    }
+    let Ok(()) = all.charts.push(chart) else {
+        return NO_MEMORY;
+    };
+    *description = number;
+    DONE
 }
 
 pub(crate) fn describe(
@@ -52,6 +60,7 @@ pub(crate) fn describe(
     length: &mut u64,
 ) -> u32
     ensures does { Describes result description.old description.new all.old all.new }
+    ensures not_closed { result ≢ 105 }
     ensures told { result ≢ 111 → (room.new ≡ room.old) × (length.new ≡ length.old) }
 {
     match read_chart(alloc, text) {
@@ -93,6 +102,7 @@ pub(crate) fn number_of_name(
     number: &mut u64,
 ) -> u32
     ensures refused { result ≢ 0 → number.new ≡ number.old }
+    ensures not_closed { result ≢ 105 }
 {
     let Some(chart) = chart_at(all, description) else {
         return NO_SUCH_DESCRIPTION;
@@ -118,6 +128,7 @@ pub(crate) fn name_of_number(
     length: &mut u64,
 ) -> u32
     ensures refused { result ≢ 0 → room.new ≡ room.old }
+    ensures not_closed { result ≢ 105 }
     ensures length { result ≢ 0 → result ≢ 102 → length.new ≡ length.old }
 {
     let Some(chart) = chart_at(all, description) else {

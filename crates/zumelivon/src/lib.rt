@@ -146,11 +146,7 @@ pub extern "C" fn zumelivon_stop(
 
 /// Drops a machine.
 #[unsafe(no_mangle)]
-pub extern "C" fn zumelivon_remove(
-    alloc: Global,
-    table: &mut Handle,
-    id: u64,
-) -> u32
+pub extern "C" fn zumelivon_remove(alloc: Global, table: &mut Handle, id: u64) -> u32
     ensures does { Told table.old.value table.new.value (λ old new. Removes id result old new) }
     ensures closed { result ≡ 105 ↔ (table.old.value ≡ None) }
 {

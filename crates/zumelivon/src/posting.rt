@@ -12,7 +12,7 @@ ghost use Rattle.zumelivon.specs.Calls.{PostsHosted, Replies};
 ghost use Rattle.zumelivon.specs.Exports.{OnlyHosted, content_in};
 ghost use Rattle.zumelivon.specs.Reading.{is_entry, entry_in};
 
-use crate::codes::{DONE, INVALID, NOTHING, NO_MEMORY, NO_SUCH_MACHINE};
+use crate::codes::{DONE, INVALID, NO_MEMORY, NO_SUCH_MACHINE, NOTHING};
 use crate::reading::entry_of;
 use st_embedded::{Machines, post_at, reply_at};
 use st_events::Refusal;
@@ -21,7 +21,8 @@ use std::alloc::Global;
 
 /// The number of a refusal.
 pub(crate) fn number_of(refusal: Refusal) -> u32
-    ensures { result ≡ number_of refusal }
+    ensures number { result ≡ number_of refusal }
+    ensures not_closed { result ≢ 105 }
 {
     u32::from(refusal.number())
 }
@@ -36,7 +37,7 @@ pub(crate) fn post(
     number: &mut u64,
 ) -> u32
     ensures does { PostsHosted id entry (content_in code bytes.now) result number.old number.new all.old all.new }
-    ensures open { result ≢ 105 }
+    ensures not_closed { result ≢ 105 }
 {
     let Some(entry) = entry_of(entry) else {
         return INVALID;
@@ -62,6 +63,7 @@ pub(crate) fn reply(
     bytes: &[u8],
 ) -> u32
     ensures does { Replies id number (content_in code bytes.now) result all.old all.new }
+    ensures not_closed { result ≢ 105 }
 {
     let Ok(content) = Payload::of(alloc, code, bytes) else {
         return NO_MEMORY;

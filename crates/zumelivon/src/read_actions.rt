@@ -4,12 +4,15 @@ ghost use Rattle.std.specs.List.{list_all};
 ghost use Rattle.zumelivon.specs.Reading.{is_action, action_in, is_enter_action, enter_action_in, is_reply, reply_in};
 
 use crate::flat_action::FlatAction;
-use crate::reading::{is_action, is_enter_action, is_reply, kind_of, payload_of, tag_of, time_of, timer_of};
+use crate::reading::{
+    is_action, is_enter_action, is_reply, kind_of, payload_of, tag_of, time_of, timer_of,
+};
 use st_embedded::id_of;
 use st_events::{Action, EnterAction, PlainList, Tag};
 use st_hosted::Payload;
 use std::alloc::{AllocError, Global};
 
+#[tactic(auto, unfolding(crate::specs::Reading::action_in))]
 fn action_of(alloc: Global, it: &FlatAction, bytes: &[u8]) -> Result<Action<Payload>, AllocError>
     requires { is_action bytes.now it.now ≡ true }
     ensures { IfOk result (λ read. read ≡ action_in bytes.now it.now) }

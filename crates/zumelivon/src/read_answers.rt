@@ -4,14 +4,20 @@ ghost use Rattle.zumelivon.specs.Reading.{data_in, is_outcome, outcome_in, is_en
 
 use crate::flat_action::FlatAction;
 use crate::flat_answer::FlatAnswer;
-use crate::read_actions::{actions_of, are_actions, are_enter_actions, are_replies, enter_actions_of, replies_of};
+use crate::read_actions::{
+    actions_of, are_actions, are_enter_actions, are_replies, enter_actions_of, replies_of,
+};
 use st_hosted::{HostEntered, HostOutcome};
 use std::alloc::{AllocError, Global};
 
 fn data_of(it: &FlatAnswer) -> Option<u64>
     ensures { result ≡ data_in it.now }
 {
-    if it.has_data == 0 { None } else { Some(it.data) }
+    if it.has_data == 0 {
+        None
+    } else {
+        Some(it.data)
+    }
 }
 
 /// Says whether this is an answer to an event.

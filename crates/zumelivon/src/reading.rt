@@ -70,7 +70,11 @@ pub(crate) fn is_within(bytes: &[u8], from: u64, count: u64) -> bool
 }
 
 /// The content of an action.
-pub(crate) fn payload_of(alloc: Global, it: &FlatAction, bytes: &[u8]) -> Result<Payload, AllocError>
+pub(crate) fn payload_of(
+    alloc: Global,
+    it: &FlatAction,
+    bytes: &[u8],
+) -> Result<Payload, AllocError>
     requires { has_content bytes.now it.now ≡ true }
     ensures { IfOk result (λ payload. payload ≡ payload_in bytes.now it.now) }
 {

@@ -1,5 +1,6 @@
 //! What is handed out, as numbers.
-ghost use Rattle.std.specs.Prelude.{◌≡◌, ◌≤◌, length, true, IfSome, IfNone};
+ghost use Rattle.std.specs.Bool.{OnFalse, OnTrue};
+ghost use Rattle.std.specs.Prelude.{◌≡◌, ◌≤◌, ◌<◌, length, true, IfSome, IfNone};
 ghost use Rattle.std.specs.Option.{option_map_or};
 ghost use Rattle.zumelivon.specs.Showing.{written, flag, timer_number, timer_name, kind_number, timer_in, tag_in, machine_of, request_of, flat_event, done_number, done_reason, done_word, flat_report, flat_report_as, replied_entry, number_entry, set_entry, listed_at, flat_machine, flat_content, flat_message};
 ghost use Rattle.std.specs.Prelude.{option_copied};
@@ -23,6 +24,22 @@ pub(crate) fn write(bytes: &[u8], room: &mut [u8])
     ensures { room.new ≡ written bytes.now room.old }
 {
     room[..bytes.len()].copy_from_slice(bytes);
+}
+
+/// Writes the bytes of a content to a room that is long enough.
+pub(crate) fn write_content(content: &Payload, room: &mut [u8])
+    requires { length content.now.bytes ≤ length room.old }
+    ensures { room.new ≡ written content.now.bytes room.old }
+{
+    write(content.bytes.as_slice(), room);
+}
+
+/// Says whether a content has more bytes than a room has places.
+pub(crate) fn is_longer(content: &Payload, room: &[u8]) -> bool
+    ensures longer { OnTrue result (length room.now < length content.now.bytes) }
+    ensures fits { OnFalse result (length content.now.bytes ≤ length room.now) }
+{
+    content.bytes.len() > room.len()
 }
 
 fn timer_number(timer: Timer) -> u32

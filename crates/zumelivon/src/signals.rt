@@ -3,7 +3,7 @@ ghost use Rattle.std.specs.Prelude.{◌≡◌, ◌+◌, true, map, slice_range, 
 ghost use Rattle.std.specs.Bool.{OnTrue};
 ghost use Rattle.std.specs.Str.{IsUtf8};
 ghost use Rattle.zumelivon.specs.Reading.{is_within};
-ghost use Rattle.zumelivon.specs.Signals.{AllHaveValues, HasValue, bytes_in, flat_signal, number_in, request_in, signal_in, text_in, value_in, what_of};
+ghost use Rattle.zumelivon.specs.Signals.{HasValue, bytes_in, flat_signal, number_in, request_in, signal_in, text_in, value_in, what_of};
 
 use crate::flat_signal::FlatSignal;
 use crate::reading::is_within;
@@ -53,11 +53,7 @@ fn value_of(alloc: Global, it: &FlatSignal, bytes: &[u8]) -> Result<Value, Alloc
 }
 
 /// The signal.
-pub(crate) fn signal_of(
-    alloc: Global,
-    it: &FlatSignal,
-    bytes: &[u8],
-) -> Result<Signal, AllocError>
+pub(crate) fn signal_of(alloc: Global, it: &FlatSignal, bytes: &[u8]) -> Result<Signal, AllocError>
     requires { HasValue bytes.now it.now }
     ensures { IfOk result (λ read. read ≡ signal_in bytes.now it.now) }
 {
@@ -73,7 +69,7 @@ pub(crate) fn values_of(
     signals: &[FlatSignal],
     bytes: &[u8],
 ) -> Result<Option<PlainList<Value>>, AllocError>
-    ensures { IfOk result (λ read. IfSome read (λ values. AllHaveValues bytes.now signals.now × (values ≡ map (value_in bytes.now) signals.now))) }
+    ensures { IfOk result (λ read. IfSome read (λ values. values ≡ map (value_in bytes.now) signals.now)) }
 {
     let mut values = PlainList::new(alloc);
     for it in signals {

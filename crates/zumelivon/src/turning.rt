@@ -1,26 +1,27 @@
 //! Starts, next events and turns of hosted machines.
-ghost use Rattle.std.specs.Prelude.{◌≡◌};
+ghost use Rattle.std.specs.Prelude.{◌≡◌, ◌≢◌};
 ghost use Rattle.zumelivon.specs.Calls.{ShowsNext, MakesTurn, ShowsOf, ShowsNext, StartsHosted, why_number};
 ghost use Rattle.zumelivon.specs.Handed.{handed_in};
 
 use crate::answers::Answers;
-use crate::codes::{DONE, INVALID, NOT_NEXT, NOTHING, NO_MEMORY, NO_SUCH_MACHINE, TOO_SMALL};
+use crate::codes::{DONE, INVALID, NO_MEMORY, NO_SUCH_MACHINE, NOT_NEXT, NOTHING, TOO_SMALL};
 use crate::flat_action::FlatAction;
 use crate::flat_begin::FlatBegin;
 use crate::flat_event::FlatEvent;
 use crate::flat_report::FlatReport;
 use crate::posting::number_of;
 use crate::read_actions::{actions_of, are_actions};
-use crate::showing::{event_of, report_of, write};
+use crate::showing::{event_of, is_longer, report_of, write_content};
 use st_core::Core;
 use st_embedded::{Lists, Machines, start_hosted, turn_hosted};
-use st_hosted::{Begin, HostAnswer, HostOutcome, WhyNot};
 use st_events::PlainList;
+use st_hosted::{Begin, HostAnswer, HostOutcome, WhyNot};
 use std::alloc::Global;
 
 /// The number of a turn that was not made.
 fn why_number(why: WhyNot) -> u32
-    ensures { result ≡ why_number why }
+    ensures number { result ≡ why_number why }
+    ensures not_closed { result ≢ 105 }
 {
     match why {
         WhyNot::NotNext => NOT_NEXT,
@@ -38,6 +39,7 @@ pub(crate) fn start(
     report: &mut FlatReport,
 ) -> u32
     ensures does { StartsHosted now begin.now answers.now.actions.now answers.now.entered.now answers.now.enter_actions.now answers.now.bytes.now result id.old id.new report.old report.new all.old all.new }
+    ensures not_closed { result ≢ 105 }
 {
     if !are_actions(answers.actions, answers.bytes) || !answers.is_entered() {
         return INVALID;
@@ -78,10 +80,10 @@ fn show(core: &Core<HostAnswer>, event: &mut FlatEvent, room: &mut [u8]) -> u32
         None => NOTHING,
         Some((number, kind, content)) => {
             *event = event_of(core, number, kind, content);
-            if content.bytes.len() > room.len() {
+            if is_longer(content, room) {
                 return TOO_SMALL;
             }
-            write(content.bytes.as_slice(), room);
+            write_content(content, room);
             DONE
         }
     }
@@ -89,6 +91,7 @@ fn show(core: &Core<HostAnswer>, event: &mut FlatEvent, room: &mut [u8]) -> u32
 
 pub(crate) fn next(all: &Machines, id: u64, event: &mut FlatEvent, room: &mut [u8]) -> u32
     ensures shows { ShowsNext id result event.old event.new room.old room.new all.now }
+    ensures not_closed { result ≢ 105 }
 {
     match all.hosted.get(&id) {
         Some(core) => show(core, event, room),
@@ -106,6 +109,7 @@ pub(crate) fn turn(
     report: &mut FlatReport,
 ) -> u32
     ensures does { MakesTurn id number now (handed_in answers.now) result report.old report.new all.old all.new }
+    ensures not_closed { result ≢ 105 }
 {
     if !answers.is_answer() {
         return INVALID;

@@ -9,12 +9,11 @@ use Rattle.st_embedded.proofs.TableLemmas.{wrote}
 use Rattle.st_embedded.proofs.calls.collect_at.Goals as goal
 
 pub returns-clause-does : goal.returns-clause-does
-returns-clause-does g c =
-    (
-      c.in_ok-core.core.now,
-      c.collect.new.self,
-      sym c.in_ok-core.ensures.value,
-      subst (λ (t : Tag). Does (callbacks_of g.M.Module g.M.State.PartialEq.eq) c.in_ok-core.core.now (command.Collect t) (answer.Collect c.collect.result) c.collect.new.self) c.tag-tag.ensures c.collect.ensures.does,
-      wrote c.args.machines.now (c.get_mut.follows.lender c.collect.new.self) c.args.number c.in_ok-core.core.now c.collect.new.self c.in_ok-core.ensures.value
+returns-clause-does g c = (
+  c.in_ok-core.core.now,
+  c.collect.new.self,
+  sym c.in_ok-core.ensures.value,
+  subst (λ (t : Tag). Does (callbacks_of g.M.Module g.M.State.PartialEq.eq) c.in_ok-core.core.now (command.Collect t) (answer.Collect c.collect.result) c.collect.new.self) c.tag-tag.ensures c.collect.ensures.does,
+  wrote c.args.machines.now (c.get_mut.follows.lender c.collect.new.self) c.args.number c.in_ok-core.core.now c.collect.new.self c.in_ok-core.ensures.value
       (c.get_mut.follows.holds c.collect.new.self),
-    )
+)

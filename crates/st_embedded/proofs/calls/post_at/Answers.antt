@@ -12,7 +12,7 @@ returns-in-Some-clause-does g c =
       sym c.in-Some.ensures.value,
       c.post.ensures.does,
       wrote c.args.machines.now (c.get_mut.follows.lender c.post.new.self) c.args.number c.in-Some.core.now c.post.new.self c.in-Some.ensures.value
-      (c.get_mut.follows.holds c.post.new.self),
+          (c.get_mut.follows.holds c.post.new.self),
     )
 
 pub returns-in-Some-clause-unchanged : goal.returns-in-Some-clause-unchanged

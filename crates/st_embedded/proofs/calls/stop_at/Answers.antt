@@ -12,7 +12,7 @@ returns-in-Some-clause-does g c =
       sym c.in-Some.ensures.value,
       c.stop.ensures.does,
       wrote c.args.machines.now (c.get_mut.follows.lender c.stop.new.self) c.args.number c.in-Some.core.now c.stop.new.self c.in-Some.ensures.value
-      (c.get_mut.follows.holds c.stop.new.self),
+          (c.get_mut.follows.holds c.stop.new.self),
     )
 
 pub returns-in-Some-clause-unchanged : goal.returns-in-Some-clause-unchanged

@@ -12,7 +12,7 @@ returns-in-Some-clause-does g c =
       sym c.in-Some.ensures.value,
       c.tick_to.ensures.does,
       wrote c.args.machines.now (c.get_mut.follows.lender c.tick_to.new.self) c.args.number c.in-Some.core.now c.tick_to.new.self c.in-Some.ensures.value
-      (c.get_mut.follows.holds c.tick_to.new.self),
+          (c.get_mut.follows.holds c.tick_to.new.self),
     )
 
 pub returns-in-Some-clause-unchanged : goal.returns-in-Some-clause-unchanged

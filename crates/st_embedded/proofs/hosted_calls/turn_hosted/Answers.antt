@@ -12,21 +12,20 @@ use Rattle.st_embedded.proofs.TurnLemmas.{never_idle}
 use Rattle.st_embedded.proofs.hosted_calls.turn_hosted.Goals as goal
 
 pub returns-in-Ok-Reported-clause-does : goal.returns-in-Ok-Reported-clause-does
-returns-in-Ok-Reported-clause-does c =
-    (
-      c.in-Some.core.now,
-      c.turn_by.new.core,
-      sym c.in-Some.ensures.value,
-      (
-        c.in-Ok-Reported.ensures.next,
-        subst (λ (a : HostAnswer). Does hosted_callbacks (record c.in-Some.core.now { module_ = a }) (command.Turn c.args.now) (answer.Turn (Ok (Reported c.in-Ok-Reported.report))) c.turn_by.new.core)
+returns-in-Ok-Reported-clause-does c = (
+  c.in-Some.core.now,
+  c.turn_by.new.core,
+  sym c.in-Some.ensures.value,
+  (
+    c.in-Ok-Reported.ensures.next,
+    subst (λ (a : HostAnswer). Does hosted_callbacks (record c.in-Some.core.now { module_ = a }) (command.Turn c.args.now) (answer.Turn (Ok (Reported c.in-Ok-Reported.report))) c.turn_by.new.core)
         c.as_before-answers.ensures
         (subst (λ (t : Turned ℕ). Does hosted_callbacks (record c.in-Some.core.now { module_ = c.as_before-answers.result }) (command.Turn c.args.now) (answer.Turn (Ok t)) c.turn_by.new.core)
         c.in-Ok-Reported.field-0-is c.in-Ok-Reported.ensures.does),
-      ),
-      wrote c.args.machines.now (c.get_mut.follows.lender c.turn_by.new.core) c.args.number c.in-Some.core.now c.turn_by.new.core c.in-Some.ensures.value
+  ),
+  wrote c.args.machines.now (c.get_mut.follows.lender c.turn_by.new.core) c.args.number c.in-Some.core.now c.turn_by.new.core c.in-Some.ensures.value
       (c.get_mut.follows.holds c.turn_by.new.core),
-    )
+)
 
 pub returns-in-Err-clause-unchanged : goal.returns-in-Err-clause-unchanged
 returns-in-Err-clause-unchanged c =

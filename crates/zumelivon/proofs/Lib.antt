@@ -1,0 +1,2 @@
+-- Lemmas on what calls do.
+pub mod CallLemmas
