@@ -1,5 +1,5 @@
 -- Described machines, as their callers see them.
-use Rattle.std.specs.Prelude.{◌≡◌, ℕ, ◌+◌, List, Ok}
+use Rattle.std.specs.Prelude.{◌≡◌, ◌⊎◌, ◌-◌, ◌^◌, ℕ, ◌+◌, List, Ok, Err}
 use Rattle.st_core.specs.Callbacks.{Callbacks, callbacks_of}
 use Rattle.st_core.specs.MachineState.{Machine}
 use Rattle.st_core.specs.Start.{Starts, start_of}
@@ -9,6 +9,8 @@ use Rattle.st_embedded.specs.Table.{Puts}
 use Rattle.st_embedded.specs.declared.described_calls.Begun.{Begun}
 use Rattle.st_embedded.specs.declared.described_calls.Begun.TheVariants.{Running, Ignored, Stopped}
 use Rattle.st_embedded.specs.declared.machines.Machines.{Machines}
+use Rattle.st_events.specs.declared.refusal.Refusal.{Refusal}
+use Rattle.st_events.specs.declared.refusal.Refusal.TheVariants.{Full, NoMemory}
 use Rattle.st_table.specs.declared.interpreter.Interpreter.{Interpreter}
 use Rattle.st_table.specs.declared.place.Place.{Place}
 use Rattle.st_table.specs.declared.signal.Signal.{Signal}
@@ -38,3 +40,11 @@ Begins interpreter values now old (Running number report) new =
     × (new ≡ record old { described = new.described; next_id = old.next_id + 1 })
 Begins interpreter values now old Ignored new = ComesTo interpreter values old.next_id now start.Ignored × (new ≡ old)
 Begins interpreter values now old (Stopped reason) new = ComesTo interpreter values old.next_id now (start.Stopped reason) × (new ≡ old)
+
+-- why there is no such start: no number is left, there is no memory, or the start itself is refused
+abbrev pub WhyNotBegun : Interpreter → List Value → ℕ → ℕ → Refusal → Type 0
+WhyNotBegun interpreter values number now refusal =
+    ((refusal ≡ Full) × (number ≡ 2 ^ 64 - 1)) ⊎ (refusal ≡ NoMemory)
+    ⊎ ((given_back : Interpreter)
+    × Starts {A = List Value} interpreter (Err (record { refusal = refusal; value = given_back }))
+    (start_of (described_callbacks interpreter) interpreter (record { slot = 0; serial = number }) (ghosts.init_is interpreter values) now 1))

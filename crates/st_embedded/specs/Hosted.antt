@@ -1,10 +1,12 @@
 -- Hosted machines, as their callers see them.
-use Rattle.std.specs.Prelude.{ℕ, false, nat_eq, None, [], Ok}
+use Rattle.std.specs.Prelude.{◌≡◌, ◌⊎◌, ◌-◌, ◌^◌, ℕ, false, nat_eq, None, [], Ok, Err}
 use Rattle.st_answers.specs.declared.report.Report.{Report}
 use Rattle.st_core.specs.Callbacks.{Callbacks, callbacks_of}
 use Rattle.st_core.specs.MachineState.{Machine}
 use Rattle.st_core.specs.Start.{Starts, start_of}
 use Rattle.st_core.specs.declared.start.Start.TheVariants.{Running}
+use Rattle.st_events.specs.declared.refusal.Refusal.{Refusal}
+use Rattle.st_events.specs.declared.refusal.Refusal.TheVariants.{Full, NoMemory}
 use Rattle.st_hosted.specs.declared.begin.Begin.{Begin}
 use Rattle.st_hosted.specs.declared.host_answer.HostAnswer.{HostAnswer}
 use Rattle.st_hosted.specs.declared.host_outcome.HostOutcome.TheVariants.{KeepStateAndData}
@@ -32,3 +34,11 @@ abbrev pub IsStarted : HostAnswer → Begin → ℕ → ℕ → Report ℕ → H
 IsStarted answers begin number now report after =
     Starts {A = Begin} answers (Ok (Running after report))
     (start_of (hosted_callbacks answers) answers (record { slot = 0; serial = number }) (ghosts.init_is answers begin) now 1)
+
+-- why there is no such start: no number is left, there is no memory, or the start itself is refused
+abbrev pub WhyNotStarted : HostAnswer → Begin → ℕ → ℕ → Refusal → Type 0
+WhyNotStarted answers begin number now refusal =
+    ((refusal ≡ Full) × (number ≡ 2 ^ 64 - 1)) ⊎ (refusal ≡ NoMemory)
+    ⊎ ((given_back : HostAnswer)
+    × Starts {A = Begin} answers (Err (record { refusal = refusal; value = given_back }))
+    (start_of (hosted_callbacks answers) answers (record { slot = 0; serial = number }) (ghosts.init_is answers begin) now 1))

@@ -1,6 +1,6 @@
 //! What described machines are told, by number.
-ghost use Rattle.std.specs.Prelude.{◌≡◌, IfOk, OnErr};
-ghost use Rattle.st_embedded.specs.Described.{Begins};
+ghost use Rattle.std.specs.Prelude.{◌≡◌, IfErr, IfOk, OnErr};
+ghost use Rattle.st_embedded.specs.Described.{Begins, WhyNotBegun};
 ghost use Rattle.st_embedded.specs.Table.{Same};
 
 use crate::{Machines, id_of};
@@ -34,7 +34,7 @@ pub fn start_described(
     now: u64,
 ) -> Result<Begun, Refusal>
     ensures begins { IfOk result (λ begun. Begins interpreter values.now now all.old begun all.new) }
-
+    ensures refusals { IfErr result (λ refusal. WhyNotBegun interpreter values.now all.old.next_id now refusal) }
     ensures unchanged { OnErr result (Same all.old.described all.new.described) }
     ensures rest { OnErr result (all.new ≡ record all.old { described = all.new.described }) }
 {

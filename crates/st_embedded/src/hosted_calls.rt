@@ -5,7 +5,7 @@ ghost use Rattle.st_answers.specs.declared.command.Command.TheVariants as comman
 ghost use Rattle.st_answers.specs.declared.turned.Turned.TheVariants.{Reported};
 ghost use Rattle.st_core.specs.Callbacks.{callbacks_of};
 ghost use Rattle.st_core.specs.Run.{Does};
-ghost use Rattle.st_embedded.specs.Hosted.{Hosted, IsStarted, hosted_callbacks, answered_by, last_word};
+ghost use Rattle.st_embedded.specs.Hosted.{Hosted, IsStarted, WhyNotStarted, hosted_callbacks, answered_by, last_word};
 ghost use Rattle.st_embedded.specs.Table.{machine_at, Changes, Same, Puts};
 ghost use Rattle.st_events.specs.declared.refusal.Refusal.TheVariants.{NoSuchMachine};
 ghost use Rattle.st_hosted.specs.Turning.{IsNext, IsWhyNot};
@@ -34,6 +34,7 @@ pub fn start_hosted(
     ensures started { IfOk result (λ started. (started.0 ≡ all.old.next_id) × ((after : Hosted) × IsStarted answers begin.now started.0 now started.1 after × Puts all.old.hosted all.new.hosted started.0 after)) }
     ensures rest { IfOk result (λ started. all.new ≡ record all.old { hosted = all.new.hosted; next_id = all.old.next_id + 1 }) }
 
+    ensures refusals { IfErr result (λ refusal. WhyNotStarted answers begin.now all.old.next_id now refusal) }
     ensures unchanged { OnErr result (Same all.old.hosted all.new.hosted) }
     ensures unchanged_rest { OnErr result (all.new ≡ record all.old { hosted = all.new.hosted }) }
 {
@@ -49,7 +50,8 @@ pub fn start_hosted(
             }
             Err(_) => Err(Refusal::NoMemory),
         },
-        Ok(_) => Err(Refusal::NotPossible),
+        Ok(Start::Ignored) => unreachable!(),
+        Ok(Start::Stopped(_)) => unreachable!(),
         Err(refused) => Err(refused.refusal),
     }
 }

@@ -19,8 +19,8 @@ use Rattle.st_core.specs.declared.start.Start.TheVariants as start
 use Rattle.st_core.specs.declared.turns.Turns.{Turns}
 use Rattle.st_core.specs.declared.turns_end.TurnsEnd.{TurnsEnd}
 use Rattle.st_core.specs.declared.turns_end.TurnsEnd.TheVariants as end
-use Rattle.st_embedded.specs.Described.{Described, ComesTo, described_callbacks}
-use Rattle.st_embedded.specs.Hosted.{Hosted, IsStarted, hosted_callbacks, answered_by, last_word}
+use Rattle.st_embedded.specs.Described.{Described, ComesTo, WhyNotBegun, described_callbacks}
+use Rattle.st_embedded.specs.Hosted.{Hosted, IsStarted, WhyNotStarted, hosted_callbacks, answered_by, last_word}
 use Rattle.st_embedded.specs.Table.{machine_at, lists_of, Changes, Same, Puts, Loses}
 use Rattle.st_embedded.specs.declared.machines.Machines.{Machines}
 use Rattle.st_events.specs.Refusal.{number_of}
@@ -109,6 +109,12 @@ StartsHosted now begin actions entered enter_actions bytes result id_old id repo
     × (new ≡ record old { hosted = new.hosted; next_id = old.next_id + 1; lists = lists_of reported })))
     × (result ≢ 0 → Same old.hosted new.hosted × OnlyHosted old new × (id ≡ id_old) × (report ≡ report_old))
     × (result ≡ 101 → (list_all (is_action bytes) actions && is_entered bytes entered enter_actions) ≡ false)
+
+-- why a start is refused that means something, where it is not for want of memory
+abbrev pub WhyNoStart : ℕ → FlatBegin → List FlatAction → FlatAnswer → List FlatAction → List ℕ → ℕ → Machines → Type 0
+WhyNoStart now begin actions entered enter_actions bytes result old =
+    result ≢ 0 → result ≢ 101 → result ≢ 1
+    → (refusal : Refusal) × (result ≡ number_of refusal) × WhyNotStarted (first_answer_in bytes begin entered enter_actions) (begin_in bytes begin actions) old.next_id now refusal
 
 -- the next event of a machine is shown
 abbrev pub ShowsOf : ℕ → FlatEvent → FlatEvent → List ℕ → List ℕ → Hosted → Type 0
@@ -205,6 +211,12 @@ StartsDescribed description now values bytes result id_old id report_old report 
     × (result ≢ 0 → Same old.described new.described × OnlyDescribed old new × (id ≡ id_old))
     × (result ≢ 0 → result ≢ 103 → report ≡ report_old)
     × (result ≡ 112 → slice_get old.charts.items description ≡ None)
+
+-- why a start is refused that means something, where it is not for want of memory
+abbrev pub WhyNoBegin : ℕ → ℕ → List FlatSignal → List ℕ → ℕ → Machines → Type 0
+WhyNoBegin description now values bytes result old =
+    result ≢ 0 → result ≢ 110 → result ≢ 103 → result ≢ 112 → result ≢ 101 → result ≢ 1
+    → (it : Interpreter) × IsOf old description it × ((refusal : Refusal) × (result ≡ number_of refusal) × WhyNotBegun it (map (value_in bytes) values) old.next_id now refusal)
 
 -- an event with a signal is posted, or 101 where there is no such way, or the signal has no value
 abbrev pub PostsSignal : ℕ → ℕ → FlatSignal → List ℕ → ℕ → ℕ → ℕ → Machines → Machines → Type 0

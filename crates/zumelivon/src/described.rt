@@ -3,7 +3,7 @@ ghost use Rattle.std.specs.Prelude.{◌≡◌, ◌≢◌, ◌<◌, ◌≤◌, No
 ghost use Rattle.std.specs.Bool.{OnFalse, OnTrue};
 ghost use Rattle.st_core.specs.Replies.{peek_of};
 ghost use Rattle.st_table.specs.declared.signal.Signal.{Signal};
-ghost use Rattle.zumelivon.specs.Calls.{CollectsSignal, PostsSignal, RunsDescribed, StartsDescribed, TakesSignal, end_number, is_at_most, tag_of};
+ghost use Rattle.zumelivon.specs.Calls.{CollectsSignal, PostsSignal, RunsDescribed, StartsDescribed, TakesSignal, WhyNoBegin, end_number, is_at_most, tag_of};
 ghost use Rattle.zumelivon.specs.Signals.{IsOf, bytes_in, flat_signal};
 
 use crate::codes::{
@@ -49,6 +49,7 @@ pub(crate) fn start(
     report: &mut FlatReport,
 ) -> u32
     ensures does { StartsDescribed description now values.now bytes.now result id.old id.new report.old report.new all.old all.new }
+    ensures why { WhyNoBegin description now values.now bytes.now result all.old }
     ensures not_closed { result ≢ 105 }
 {
     let interpreter = match interpreter(all, description) {

@@ -4,7 +4,7 @@
 
 ghost use Rattle.std.specs.Prelude.{◌≡◌, ◌≢◌, ◌↔◌, None, IsSome};
 ghost use Rattle.st_embedded.specs.Table.{IfOpen, IsEmptyTable};
-ghost use Rattle.zumelivon.specs.Calls.{CollectsContent, CollectsSignal, Describes, Looks, MakesTurn, PostsHosted, PostsSignal, ReadsList, Removes, Replies, RunsDescribed, ShowsNext, StartsDescribed, StartsHosted, StopsEither, TakesMessage, TakesSignal, TicksEither};
+ghost use Rattle.zumelivon.specs.Calls.{CollectsContent, CollectsSignal, Describes, Looks, MakesTurn, PostsHosted, PostsSignal, ReadsList, Removes, Replies, RunsDescribed, ShowsNext, StartsDescribed, StartsHosted, StopsEither, TakesMessage, TakesSignal, TicksEither, WhyNoBegin, WhyNoStart};
 ghost use Rattle.zumelivon.specs.Exports.{Seen, Told, content_in};
 
 mod answers;
@@ -195,6 +195,7 @@ pub extern "C" fn zumelivon_start(
     report: &mut FlatReport,
 ) -> u32
     ensures does { Told table.old.value table.new.value (λ old new. StartsHosted now begin.now actions.now entered.now enter_actions.now bytes.now result id.old id.new report.old report.new old new) }
+    ensures why { Seen table.old.value (λ old. WhyNoStart now begin.now actions.now entered.now enter_actions.now bytes.now result old) }
     ensures closed { result ≡ 105 ↔ (table.old.value ≡ None) }
     ensures kept { result ≡ 105 → (id.new ≡ id.old) × (report.new ≡ report.old) }
 {
@@ -439,6 +440,7 @@ pub extern "C" fn zumelivon_start_described(
     report: &mut FlatReport,
 ) -> u32
     ensures does { Told table.old.value table.new.value (λ old new. StartsDescribed description now values.now bytes.now result id.old id.new report.old report.new old new) }
+    ensures why { Seen table.old.value (λ old. WhyNoBegin description now values.now bytes.now result old) }
     ensures closed { result ≡ 105 ↔ (table.old.value ≡ None) }
     ensures kept { result ≡ 105 → (id.new ≡ id.old) × (report.new ≡ report.old) }
 {

@@ -1,6 +1,6 @@
 //! Starts, next events and turns of hosted machines.
 ghost use Rattle.std.specs.Prelude.{◌≡◌, ◌≢◌};
-ghost use Rattle.zumelivon.specs.Calls.{ShowsNext, MakesTurn, ShowsOf, ShowsNext, StartsHosted, why_number};
+ghost use Rattle.zumelivon.specs.Calls.{ShowsNext, MakesTurn, ShowsOf, ShowsNext, StartsHosted, WhyNoStart, why_number};
 ghost use Rattle.zumelivon.specs.Handed.{handed_in};
 
 use crate::answers::Answers;
@@ -39,6 +39,7 @@ pub(crate) fn start(
     report: &mut FlatReport,
 ) -> u32
     ensures does { StartsHosted now begin.now answers.now.actions.now answers.now.entered.now answers.now.enter_actions.now answers.now.bytes.now result id.old id.new report.old report.new all.old all.new }
+    ensures why { WhyNoStart now begin.now answers.now.actions.now answers.now.entered.now answers.now.enter_actions.now answers.now.bytes.now result all.old }
     ensures not_closed { result ≢ 105 }
 {
     if !are_actions(answers.actions, answers.bytes) || !answers.is_entered() {
