@@ -1,7 +1,6 @@
 -- What is behind a handle before and after a call.
 use Rattle.std.specs.Prelude.{◌≡◌, ℕ, List, Option, Some, None}
 use Rattle.st_embedded.specs.declared.machines.Machines.{Machines}
-use Rattle.st_embedded.specs.Table.{Same}
 use Rattle.st_hosted.specs.declared.payload.Payload.{Payload}
 
 -- the handle is open before and after, and this is how its table changed; or it is closed before and after
@@ -10,12 +9,6 @@ Told (Some old) (Some new) How = How old new
 Told None None How = Unit
 Told (Some old) None How = ⊥
 Told None (Some new) How = ⊥
-
--- each machine is as it was, and all else too
-abbrev pub IsUnchanged : Machines → Machines → Type 0
-IsUnchanged old new =
-    Same old.hosted new.hosted × Same old.described new.described
-    × (new ≡ record old { hosted = new.hosted; described = new.described })
 
 -- nothing changed but hosted machines
 abbrev pub OnlyHosted : Machines → Machines → Type 0
