@@ -69,8 +69,8 @@ enum { ZUMELIVON_CALL = 0, ZUMELIVON_CAST = 1, ZUMELIVON_INFO = 2, ZUMELIVON_TIM
 /* Timers: that of the event, that of the state, and those with a name, which is a number. */
 enum { ZUMELIVON_EVENT_TIMER = 0, ZUMELIVON_STATE_TIMER = 1, ZUMELIVON_NAMED_TIMER = 2 };
 
-/* zumelivon_answer.what. NONE is no answer of an event's; of an enter call's, it keeps state and data. An enter call is
- * answered by NONE, KEEP_STATE, KEEP_STATE_AND_DATA, STOP or STOP_AND_REPLY. */
+/* zumelivon_answer.what. NONE is no answer of an event's; of an enter call's, it keeps state and data, without actions. An
+ * enter call is answered by NONE, KEEP_STATE, KEEP_STATE_AND_DATA, STOP or STOP_AND_REPLY. */
 enum {
     ZUMELIVON_NONE = 0,
     ZUMELIVON_NEXT_STATE = 1,            /* to `state`, with `data` */
@@ -82,17 +82,17 @@ enum {
     ZUMELIVON_STOP_AND_REPLY = 7         /* the same, behind its actions, which are replies alone */
 };
 
-/* zumelivon_action.what. An enter call has no POSTPONE, NEXT_EVENT and SEND. */
+/* zumelivon_action.what; 0 is none, and INVALID. An enter call has no POSTPONE, NEXT_EVENT and SEND. */
 enum {
-    ZUMELIVON_REPLY = 0,      /* to the request `request` of `machine`, with the content */
-    ZUMELIVON_POSTPONE = 1,   /* the event, where `postpone` is not 0 */
-    ZUMELIVON_NEXT_EVENT = 2, /* an event of `kind`, with the content, before all that were not handled; of a call
+    ZUMELIVON_REPLY = 1,      /* to the request `request` of `machine`, with the content */
+    ZUMELIVON_POSTPONE = 2,   /* the event, where `postpone` is not 0 */
+    ZUMELIVON_NEXT_EVENT = 3, /* an event of `kind`, with the content, before all that were not handled; of a call
                                  `machine` and `request` are its tag, of a time-out `timer` and `name` its timer */
-    ZUMELIVON_SET = 3,        /* `timer` (and `name`) to `time`, or to none where `infinite` is not 0, with the content */
-    ZUMELIVON_CANCEL = 4,     /* `timer` (and `name`) */
-    ZUMELIVON_UPDATE = 5,     /* `timer` (and `name`) gets the content */
-    ZUMELIVON_SEND = 6,       /* to `machine`, the content */
-    ZUMELIVON_HIBERNATE = 7   /* has no effect */
+    ZUMELIVON_SET = 4,        /* `timer` (and `name`) to `time`, or to none where `infinite` is not 0, with the content */
+    ZUMELIVON_CANCEL = 5,     /* `timer` (and `name`) */
+    ZUMELIVON_UPDATE = 6,     /* `timer` (and `name`) gets the content */
+    ZUMELIVON_SEND = 7,       /* to `machine`, the content */
+    ZUMELIVON_HIBERNATE = 8   /* has no effect */
 };
 
 /* zumelivon_report.done: what became of the event, or the start. */
@@ -170,7 +170,7 @@ typedef struct zumelivon_listed {
     uint32_t timer, name, decision, time, infinite, unused;
 } zumelivon_listed;
 
-/* A machine as it is. */
+/* A machine as it is. `latest` is the latest moment that it was told, `waiting` how many events wait. */
 typedef struct zumelivon_machine {
     uint64_t state, data, latest, waiting, due; /* data: of a hosted one; due: where has_due is not 0 */
     uint32_t has_due, has_event, has_message, ended, reason, word; /* reason, word: where it has ended */
@@ -209,7 +209,8 @@ uint32_t zumelivon_stop(zumelivon *table, uint64_t id, uint32_t reason, uint32_t
 /* Drops a machine, ended or not: its requests, replies and messages go with it. NO_SUCH_MACHINE. */
 uint32_t zumelivon_remove(zumelivon *table, uint64_t id);
 
-/* Reads a list of what the latest start or turn of this table reported. NOTHING where the list is no longer, INVALID. */
+/* Reads an element of a list that the latest start or zumelivon_turn of this table reported; zumelivon_run reports none.
+ * NOTHING where the list has none of this index, INVALID. */
 uint32_t zumelivon_list(zumelivon *table, uint32_t list, uint64_t index, zumelivon_listed *listed);
 
 /* ---- hosted machines ---- */
@@ -273,9 +274,9 @@ uint32_t zumelivon_start_described(zumelivon *table, uint64_t description, uint6
 uint32_t zumelivon_post_signal(zumelivon *table, uint64_t id, uint32_t entry, const zumelivon_signal *signal,
                                const uint8_t *bytes, size_t size, uint64_t *number);
 
-/* Makes turns until there is no event, but at most so many: writes how many were made, and whether there are more events.
+/* Makes turns until there is no event, but at most so many: writes how many were made, and whether an event is left.
  * A turn that is refused ends them: `turns` is then how many were made before, and these stay made. ENDED where it has
- * ended before. NO_SUCH_MACHINE, BAD_MOMENT, EXHAUSTED. */
+ * ended before. NO_SUCH_MACHINE; BAD_MOMENT where there is an event; EXHAUSTED. */
 uint32_t zumelivon_run(zumelivon *table, uint64_t id, uint64_t now, uint64_t at_most, uint64_t *turns, uint32_t *more);
 
 /* Takes the reply to a call out, as zumelivon_collect does. */

@@ -229,16 +229,18 @@ abbrev pub end_number : TurnsEnd → ℕ
 end_number (end.Refused refusal) = number_of refusal
 end_number other = 0
 
-abbrev pub is_at_most : TurnsEnd → Bool
-is_at_most end.AtMost = true
-is_at_most other = false
+-- whether an event is left where its turns have come to this
+abbrev pub is_left : TurnsEnd → Bool
+is_left end.AtMost = true
+is_left (end.Refused refusal) = true
+is_left other = false
 
 -- turns are made; of a machine that has ended none are
 abbrev pub RunsDescribed : ℕ → ℕ → ℕ → ℕ → ℕ → ℕ → ℕ → ℕ → Machines → Machines → Type 0
 RunsDescribed id now at_most result turns_old turns more_old more old new =
     ((before : Described) → machine_at old.described id ≡ Some before → before.machine.ended ≡ None
     → (made : Turns) × Changes (λ before after. HasTurned described_callbacks now before made after × HasStopped at_most made after.machine) old.described new.described id
-    × (turns ≡ made.reported) × (more ≡ flag (is_at_most made.end)) × (result ≡ end_number made.end))
+    × (turns ≡ made.reported) × (more ≡ flag (is_left made.end)) × (result ≡ end_number made.end))
     × ((before : Described) → machine_at old.described id ≡ Some before → IsSome before.machine.ended
     → (result ≡ 2) × Same old.described new.described × (turns ≡ turns_old) × (more ≡ more_old))
     × (machine_at old.described id ≡ None → (result ≡ 9) × Same old.described new.described × (turns ≡ turns_old) × (more ≡ more_old))

@@ -81,40 +81,40 @@ kind_in it =
 
 -- the content of an action is there, where it has one
 abbrev pub has_its_content : List ℕ → FlatAction → Bool
-has_its_content bytes it = (it.what == 1) || (it.what == 4) || (it.what == 7) || has_content bytes it
+has_its_content bytes it = (it.what == 2) || (it.what == 5) || (it.what == 8) || has_content bytes it
 
 -- the timer of an action is one, where it has one
 abbrev pub has_its_timer : FlatAction → Bool
-has_its_timer it = not (nat_le 3 it.what && nat_le it.what 5) || is_timer it.timer
+has_its_timer it = not (nat_le 4 it.what && nat_le it.what 6) || is_timer it.timer
 
 abbrev pub is_action : List ℕ → FlatAction → Bool
 is_action bytes it =
-    nat_lt it.what 8 && (has_its_content bytes it && (has_its_timer it && (not (it.what == 2) || is_kind it)))
+    nat_le 1 it.what && (nat_lt it.what 9 && (has_its_content bytes it && (has_its_timer it && (not (it.what == 3) || is_kind it))))
 
 unfoldable pub action_in : List ℕ → FlatAction → Action Payload
 action_in bytes it =
-    if it.what == 0 then action.Reply (tag_in it) (payload_in bytes it) else (
-    if it.what == 1 then action.Postpone (not (it.postpone == 0)) else (
-    if it.what == 2 then action.NextEvent (kind_in it) (payload_in bytes it) else (
-    if it.what == 3 then action.Set (timer_of it) (time_in it) (payload_in bytes it) else (
-    if it.what == 4 then action.Cancel (timer_of it) else (
-    if it.what == 5 then action.Update (timer_of it) (payload_in bytes it) else (
-    if it.what == 6 then action.Send (id_in it.machine) (payload_in bytes it) else action.Hibernate))))))
+    if it.what == 1 then action.Reply (tag_in it) (payload_in bytes it) else (
+    if it.what == 2 then action.Postpone (not (it.postpone == 0)) else (
+    if it.what == 3 then action.NextEvent (kind_in it) (payload_in bytes it) else (
+    if it.what == 4 then action.Set (timer_of it) (time_in it) (payload_in bytes it) else (
+    if it.what == 5 then action.Cancel (timer_of it) else (
+    if it.what == 6 then action.Update (timer_of it) (payload_in bytes it) else (
+    if it.what == 7 then action.Send (id_in it.machine) (payload_in bytes it) else action.Hibernate))))))
 
 -- an enter call has no postponing, no inserted event and no message
 abbrev pub is_enter_action : List ℕ → FlatAction → Bool
-is_enter_action bytes it = is_action bytes it && (not (it.what == 1) && (not (it.what == 2) && not (it.what == 6)))
+is_enter_action bytes it = is_action bytes it && (not (it.what == 2) && (not (it.what == 3) && not (it.what == 7)))
 
 abbrev pub enter_action_in : List ℕ → FlatAction → EnterAction Payload
 enter_action_in bytes it =
-    if it.what == 0 then enter.Reply (tag_in it) (payload_in bytes it) else (
-    if it.what == 3 then enter.Set (timer_of it) (time_in it) (payload_in bytes it) else (
-    if it.what == 4 then enter.Cancel (timer_of it) else (
-    if it.what == 5 then enter.Update (timer_of it) (payload_in bytes it) else enter.Hibernate)))
+    if it.what == 1 then enter.Reply (tag_in it) (payload_in bytes it) else (
+    if it.what == 4 then enter.Set (timer_of it) (time_in it) (payload_in bytes it) else (
+    if it.what == 5 then enter.Cancel (timer_of it) else (
+    if it.what == 6 then enter.Update (timer_of it) (payload_in bytes it) else enter.Hibernate)))
 
 -- behind a stop only replies are asked for
 abbrev pub is_reply : List ℕ → FlatAction → Bool
-is_reply bytes it = (it.what == 0) && has_content bytes it
+is_reply bytes it = (it.what == 1) && has_content bytes it
 
 abbrev pub reply_in : List ℕ → FlatAction → Tag × Payload
 reply_in bytes it = (tag_in it, payload_in bytes it)

@@ -3,7 +3,7 @@ ghost use Rattle.std.specs.Prelude.{◌≡◌, ◌≢◌, ◌<◌, ◌≤◌, No
 ghost use Rattle.std.specs.Bool.{OnFalse, OnTrue};
 ghost use Rattle.st_core.specs.Replies.{peek_of};
 ghost use Rattle.st_table.specs.declared.signal.Signal.{Signal};
-ghost use Rattle.zumelivon.specs.Calls.{CollectsSignal, PostsSignal, RunsDescribed, StartsDescribed, TakesSignal, WhyNoBegin, end_number, is_at_most, tag_of};
+ghost use Rattle.zumelivon.specs.Calls.{CollectsSignal, PostsSignal, RunsDescribed, StartsDescribed, TakesSignal, WhyNoBegin, end_number, is_left, tag_of};
 ghost use Rattle.zumelivon.specs.Signals.{IsOf, bytes_in, flat_signal};
 
 use crate::codes::{
@@ -121,11 +121,12 @@ fn end_number(end: TurnsEnd) -> u32
     }
 }
 
-fn is_at_most(end: TurnsEnd) -> bool
-    ensures { result ≡ is_at_most end }
+/// Says whether an event is left where turns have come to this.
+fn is_left(end: TurnsEnd) -> bool
+    ensures { result ≡ is_left end }
 {
     match end {
-        TurnsEnd::AtMost => true,
+        TurnsEnd::AtMost | TurnsEnd::Refused(_) => true,
         _ => false,
     }
 }
@@ -151,7 +152,7 @@ pub(crate) fn run(
         return NO_SUCH_MACHINE;
     };
     *turns = made.reported;
-    *more = u32::from(is_at_most(made.end));
+    *more = u32::from(is_left(made.end));
     end_number(made.end)
 }
 

@@ -18,16 +18,16 @@ fn action_of(alloc: Global, it: &FlatAction, bytes: &[u8]) -> Result<Action<Payl
     ensures { IfOk result (λ read. read ≡ action_in bytes.now it.now) }
 {
     match it.what {
-        0 => Ok(Action::Reply(tag_of(it), payload_of(alloc, it, bytes)?)),
-        1 => Ok(Action::Postpone(it.postpone != 0)),
-        2 => Ok(Action::NextEvent(kind_of(it), payload_of(alloc, it, bytes)?)),
-        3 => {
+        1 => Ok(Action::Reply(tag_of(it), payload_of(alloc, it, bytes)?)),
+        2 => Ok(Action::Postpone(it.postpone != 0)),
+        3 => Ok(Action::NextEvent(kind_of(it), payload_of(alloc, it, bytes)?)),
+        4 => {
             let content = payload_of(alloc, it, bytes)?;
             Ok(Action::Set(timer_of(it), time_of(it), content))
         }
-        4 => Ok(Action::Cancel(timer_of(it))),
-        5 => Ok(Action::Update(timer_of(it), payload_of(alloc, it, bytes)?)),
-        6 => Ok(Action::Send(id_of(it.machine), payload_of(alloc, it, bytes)?)),
+        5 => Ok(Action::Cancel(timer_of(it))),
+        6 => Ok(Action::Update(timer_of(it), payload_of(alloc, it, bytes)?)),
+        7 => Ok(Action::Send(id_of(it.machine), payload_of(alloc, it, bytes)?)),
         _ => Ok(Action::Hibernate),
     }
 }
@@ -41,13 +41,13 @@ fn enter_action_of(
     ensures { IfOk result (λ read. read ≡ enter_action_in bytes.now it.now) }
 {
     match it.what {
-        0 => Ok(EnterAction::Reply(tag_of(it), payload_of(alloc, it, bytes)?)),
-        3 => {
+        1 => Ok(EnterAction::Reply(tag_of(it), payload_of(alloc, it, bytes)?)),
+        4 => {
             let content = payload_of(alloc, it, bytes)?;
             Ok(EnterAction::Set(timer_of(it), time_of(it), content))
         }
-        4 => Ok(EnterAction::Cancel(timer_of(it))),
-        5 => Ok(EnterAction::Update(timer_of(it), payload_of(alloc, it, bytes)?)),
+        5 => Ok(EnterAction::Cancel(timer_of(it))),
+        6 => Ok(EnterAction::Update(timer_of(it), payload_of(alloc, it, bytes)?)),
         _ => Ok(EnterAction::Hibernate),
     }
 }

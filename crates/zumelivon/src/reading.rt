@@ -97,20 +97,21 @@ fn is_kind(it: &FlatAction) -> bool
 pub(crate) fn is_action(it: &FlatAction, bytes: &[u8]) -> bool
     ensures { result ≡ is_action bytes.now it.now }
 {
-    it.what < 8
-        && (it.what == 1 || it.what == 4 || it.what == 7 || has_content(it, bytes))
-        && (!(3 <= it.what && it.what <= 5) || it.timer < 3)
-        && (it.what != 2 || is_kind(it))
+    1 <= it.what
+        && it.what < 9
+        && (it.what == 2 || it.what == 5 || it.what == 8 || has_content(it, bytes))
+        && (!(4 <= it.what && it.what <= 6) || it.timer < 3)
+        && (it.what != 3 || is_kind(it))
 }
 
 pub(crate) fn is_enter_action(it: &FlatAction, bytes: &[u8]) -> bool
     ensures { result ≡ is_enter_action bytes.now it.now }
 {
-    is_action(it, bytes) && it.what != 1 && it.what != 2 && it.what != 6
+    is_action(it, bytes) && it.what != 2 && it.what != 3 && it.what != 7
 }
 
 pub(crate) fn is_reply(it: &FlatAction, bytes: &[u8]) -> bool
     ensures { result ≡ is_reply bytes.now it.now }
 {
-    it.what == 0 && has_content(it, bytes)
+    it.what == 1 && has_content(it, bytes)
 }
