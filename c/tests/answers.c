@@ -221,7 +221,7 @@ static uint32_t start_with(struct set *it, uint64_t now, uint32_t enters, zumeli
 }
 
 static void starts_that_are_refused(void) {
-    const zumelivon_action nothing = {.unused = 1}, unknown = {.what = 8}, far = {.what = 1000000},
+    const zumelivon_action nothing = {.unused = 1}, unknown = {.what = 9}, none = {.what = 0}, far = {.what = 1000000},
                            kind = {.what = ZUMELIVON_NEXT_EVENT, .kind = 5},
                            timer = {.what = ZUMELIVON_SET, .timer = 3},
                            beyond = {.what = ZUMELIVON_NEXT_EVENT, .kind = 4, .from = 2, .length = 2},
@@ -234,6 +234,7 @@ static void starts_that_are_refused(void) {
     SAME(start_with(&it, (uint64_t)1 << 63, 0, nothing, no_answer, nothing), ZUMELIVON_BAD_MOMENT);
     SAME(start_with(&it, UINT64_MAX, 0, nothing, no_answer, nothing), ZUMELIVON_BAD_MOMENT);
     SAME(start_with(&it, 0, 0, unknown, no_answer, nothing), ZUMELIVON_INVALID);
+    SAME(start_with(&it, 0, 0, none, no_answer, nothing), ZUMELIVON_INVALID);
     SAME(start_with(&it, 0, 0, far, no_answer, nothing), ZUMELIVON_INVALID);
     SAME(start_with(&it, 0, 0, kind, no_answer, nothing), ZUMELIVON_INVALID);
     SAME(start_with(&it, 0, 0, timer, no_answer, nothing), ZUMELIVON_INVALID);
@@ -505,7 +506,8 @@ static void wrong_answers(void) {
         {{.what = ZUMELIVON_STOP}, {.what = ZUMELIVON_HIBERNATE}, 1},
         {{.what = ZUMELIVON_STOP_AND_REPLY}, {.what = ZUMELIVON_SET}, 1},
         {{.what = ZUMELIVON_STOP_AND_REPLY}, {.what = ZUMELIVON_SEND}, 1},
-        {{.what = ZUMELIVON_KEEP_STATE}, {.what = 8}, 1},
+        {{.what = ZUMELIVON_KEEP_STATE}, {.what = 0}, 1},
+        {{.what = ZUMELIVON_KEEP_STATE}, {.what = 9}, 1},
         {{.what = ZUMELIVON_KEEP_STATE}, {.what = UINT32_MAX}, 1},
         {{.what = ZUMELIVON_KEEP_STATE}, {.what = ZUMELIVON_NEXT_EVENT, .kind = 5}, 1},
         {{.what = ZUMELIVON_KEEP_STATE}, {.what = ZUMELIVON_NEXT_EVENT, .kind = UINT32_MAX}, 1},
@@ -544,7 +546,7 @@ static void wrong_answers(void) {
 static void wrong_enter_answers(void) {
     static const uint32_t whats[] = {ZUMELIVON_NEXT_STATE, ZUMELIVON_REPEAT_STATE, ZUMELIVON_REPEAT_STATE_AND_DATA, 8,
                                      UINT32_MAX};
-    static const uint32_t actions[] = {ZUMELIVON_POSTPONE, ZUMELIVON_NEXT_EVENT, ZUMELIVON_SEND, 8, UINT32_MAX};
+    static const uint32_t actions[] = {ZUMELIVON_POSTPONE, ZUMELIVON_NEXT_EVENT, ZUMELIVON_SEND, 9, UINT32_MAX};
     const zumelivon_begin begin = {.state = 1, .enters = 1};
     const zumelivon_answer on = {.what = ZUMELIVON_NEXT_STATE, .state = 2};
     struct set it;
@@ -891,6 +893,7 @@ static void a_described_machine(void) {
     SAME(post_signal(&it, ZUMELIVON_CAST, (zumelivon_signal){.symbol = symbol(&it, "press")}, ""), ZUMELIVON_DONE);
     SAME(zumelivon_run(&it.table, it.id, (uint64_t)1 << 63, 1, &it.turns, &it.more), ZUMELIVON_BAD_MOMENT);
     SAME(it.turns, 0);
+    SAME(it.more, 1);
     SAME(zumelivon_look(&it.table, it.id, &it.machine), ZUMELIVON_DONE);
     SAME(it.machine.waiting, 1);
     SAME(zumelivon_close(&it.table), ZUMELIVON_DONE);

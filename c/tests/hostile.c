@@ -76,7 +76,7 @@ static size_t fill(struct hostile *it, zumelivon_action *actions, size_t bytes, 
     size_t count = below(it, ACTIONS);
     for (size_t i = 0; i < count; i++) {
         actions[i] = (zumelivon_action){
-            .what = enters && below(it, 60) ? whats[below(it, 4)] : code(it, 8), .kind = code(it, 5),
+            .what = enters && below(it, 60) ? whats[below(it, 4)] : 1 + code(it, 8), .kind = code(it, 5),
             .postpone = (uint32_t)odd(it), .timer = code(it, 3), .name = (uint32_t)below(it, 3),
             .time = (uint32_t)odd(it), .infinite = below(it, 8) == 0, .machine = it->event.machine,
             .request = it->event.request, .code = draw(it), .from = below(it, 60) == 0 ? odd(it) : 0,
