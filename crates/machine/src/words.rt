@@ -51,6 +51,11 @@ fn run<'a>(alloc: Global) -> Result<Command<'a>, AllocError> {
         "json",
         "Prints each machine's journal at the end, as JSON lines",
     );
+    let look = flag(
+        alloc,
+        "look",
+        "Prints what came of each line, and how all machines are, as a line of JSON",
+    );
     let live = flag(
         alloc,
         "live",
@@ -62,7 +67,8 @@ fn run<'a>(alloc: Global) -> Result<Command<'a>, AllocError> {
         "Runs events, which it reads from standard input",
     )?;
     let json = json.conflicts_with("trace")?;
-    run.arg(trace)?.arg(json)?.arg(live)
+    let look = look.conflicts_with("trace")?.conflicts_with("json")?;
+    run.arg(trace)?.arg(json)?.arg(look)?.arg(live)
 }
 
 /// The subcommand that runs cases.
@@ -128,6 +134,8 @@ fn format_of(matches: &ArgMatches<'_>) -> Format {
         Format::Trace
     } else if matches.get_flag("json") {
         Format::Json
+    } else if matches.get_flag("look") {
+        Format::Look
     } else {
         Format::Plain
     }

@@ -34,6 +34,7 @@ lists_of report = record { replied = report.replied; inserted = report.inserted;
 -- a table without machines and descriptions, whose first machine gets the number 1
 abbrev pub IsEmptyTable : Machines → Type 0
 IsEmptyTable all = (all.hosted.entries ≡ []) × (all.described.entries ≡ []) × (all.charts.items ≡ []) × (all.next_id ≡ 1)
+    × (all.lists ≡ record { replied = []; inserted = []; set = []; sent = [] })
 
 -- there is a table, of which this is so
 abbrev pub IfOpen : Option Machines → (Machines → Type 0) → Type 0

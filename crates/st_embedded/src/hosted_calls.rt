@@ -66,7 +66,7 @@ fn as_before(core: &Core<HostAnswer>, answers: HostAnswer) -> HostAnswer
 
 /// Makes the turn of the event of a number of the machine of a number, at a moment, in milliseconds, with these answers,
 /// as `turn_by` does. Whether there are enter calls is what the machine's last module says. Where there is no such
-/// machine, it is refused with `NoSuchMachine`. A turn that is not made changes nothing.
+/// machine, it is refused with `NoSuchMachine`. A turn that is not made changes nothing; the answers are dropped.
 ///
 /// Manual: `Module:handle_event/4`, `transition_option()`.
 pub fn turn_hosted(

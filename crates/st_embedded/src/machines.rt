@@ -27,7 +27,7 @@ pub struct Machines {
     pub charts: Vec<Chart>,
     /// The number that the next machine gets.
     pub next_id: u64,
-    /// What the latest start or turn reported.
+    /// What the latest start or turn reported. Who makes a start or a turn puts it here.
     pub lists: Lists,
 }
 

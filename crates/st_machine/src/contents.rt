@@ -29,7 +29,7 @@ fn tag_json(alloc: Global, tag: Tag) -> Result<Json, AllocError>
 }
 
 /// An argument.
-fn value_json(alloc: Global, value: &Value) -> Result<Json, AllocError>
+pub(crate) fn value_json(alloc: Global, value: &Value) -> Result<Json, AllocError>
     ensures { IfOk result (λ json. view json ≡ value_data value.now) }
 {
     match value {

@@ -94,7 +94,7 @@ impl Session {
     pub fn finish(&mut self, out: &mut Vec<u8>) -> Result<(), AllocError> {
         for place in 0..self.world.names.len() {
             match self.format {
-                Format::Plain => {}
+                Format::Plain | Format::Look => {}
                 Format::Trace => self.world.trace(place, out)?,
                 Format::Json => self.world.lines(place, out)?,
             }

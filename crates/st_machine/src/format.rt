@@ -9,4 +9,6 @@ pub enum Format {
     Trace,
     /// The journal of each machine as lines of JSON, at the end.
     Json,
+    /// Behind each line what was told of it, and how all machines are, as a line of JSON.
+    Look,
 }

@@ -11,6 +11,7 @@ mod finishing;
 mod format;
 mod given;
 mod letter;
+mod looking;
 mod machine;
 mod naming;
 mod obeying;

@@ -23,6 +23,11 @@ pub(crate) struct Machine {
     pub(crate) open: BTreeSet<u64>,
     /// What it was told, with its answers: all of it, or the last alone.
     pub(crate) entries: Vec<JournalEntry<Place, Signal>>,
+    /// The first number that events got of each line of events that led to some, with the line's number; where that is asked
+    /// for.
+    pub(crate) lines: Vec<(u64, u64)>,
+    /// The first number of which no line is known.
+    pub(crate) unlined: u64,
 }
 
 /// Says whether an answer refuses a turn or a tick for want of memory.
@@ -76,6 +81,27 @@ impl Machine {
             self.open.insert(number)?;
         }
         Ok(())
+    }
+
+    /// Notes that the numbers which were given out since the last note came of this line of events.
+    pub(crate) fn number_line(&mut self, line: u64) -> Result<(), AllocError> {
+        let next = self.core.next_number();
+        if self.unlined < next {
+            self.lines.push((self.unlined, line))?;
+            self.unlined = next;
+        }
+        Ok(())
+    }
+
+    /// The line of events that an event of this number came of, where it is known.
+    pub(crate) fn line_of(&self, number: u64) -> Option<u64> {
+        let mut found = None;
+        for (first, line) in self.lines.as_slice() {
+            if *first <= number {
+                found = Some(*line);
+            }
+        }
+        found
     }
 
     /// The answer to the last command.

@@ -38,7 +38,7 @@ pub struct Session {
     /// How many turns may still be made for the line.
     pub(crate) left: u64,
     // How many lines there were.
-    line: u64,
+    pub(crate) line: u64,
     faulty: bool,
 }
 
@@ -55,7 +55,7 @@ impl Session {
     ) -> Result<Session, AllocError> {
         let mut world = World {
             alloc,
-            keeps: !matches!(format, Format::Plain),
+            keeps: matches!(format, Format::Trace | Format::Json),
             books: Vec::new(alloc),
             files: Names::new(alloc),
             machines: Vec::new(alloc),
@@ -136,7 +136,10 @@ impl Session {
             }
         }
         self.faulty = self.faulty || page.faulty;
-        page.hand_out(out)
+        match self.format {
+            Format::Look => self.look(page, out),
+            _ => page.hand_out(out),
+        }
     }
 
     /// Takes a line of events, without its line feed, and adds what comes of it to a text.

@@ -6,10 +6,12 @@ use crate::page::Page;
 use st_chart::Names;
 use st_events::{Kind, MachineId, Timer};
 use st_table::{Place, Signal, Value};
+use std::alloc::Global;
 
 /// A machine whose doings are told, with the names for that.
 #[derive(Clone, Copy)]
 pub(crate) struct Speaker<'a> {
+    pub(crate) alloc: Global,
     pub(crate) machine: &'a Machine,
     /// Its name.
     pub(crate) name: &'a str,

@@ -132,6 +132,8 @@ impl World {
                     arguments: given.texts,
                     open: BTreeSet::new(self.alloc),
                     entries: Vec::new(self.alloc),
+                    lines: Vec::new(self.alloc),
+                    unlined: 0,
                 };
                 self.enrol(place, machine, &report, page);
                 Ok(true)

@@ -45,6 +45,7 @@ impl World {
         let book = self.books.get(machine.book)?;
         let number = u32::try_from(place).ok()?;
         Some(Speaker {
+            alloc: self.alloc,
             machine,
             name: self.names.name(number),
             book,

@@ -40,7 +40,7 @@ use Rattle.zumelivon.specs.Reading.{Handed, is_entry, entry_in, is_action, is_an
 use Rattle.st_table.specs.declared.interpreter.Interpreter.{Interpreter}
 use Rattle.st_table.specs.declared.place.Place.{Place}
 use Rattle.st_table.specs.declared.signal.Signal.{Signal}
-use Rattle.zumelivon.specs.Signals.{HasValue, IsOf, bytes_in, flat_signal, signal_in, value_in}
+use Rattle.zumelivon.specs.Signals.{HasValue, IsOf, OneHasNoValue, bytes_in, flat_signal, signal_in, value_in}
 use Rattle.zumelivon.specs.Showing.{flag, flat_report_as, flat_content, flat_event, flat_machine, flat_message, flat_report, listed_at, written}
 use Rattle.zumelivon.specs.declared.flat_action.FlatAction.{FlatAction}
 use Rattle.zumelivon.specs.declared.flat_answer.FlatAnswer.{FlatAnswer}
@@ -193,7 +193,16 @@ abbrev pub Describes : ℕ → ℕ → ℕ → Machines → Machines → Type 0
 Describes result description_old description old new =
     (result ≡ 0 → (description ≡ length old.charts.items) × ((chart : Chart) × (new.charts.items ≡ old.charts.items ++ (chart ∷ []))))
     × (result ≢ 0 → (new.charts.items ≡ old.charts.items) × (description ≡ description_old))
+    × ((result ≡ 0) ⊎ (result ≡ 111) ⊎ (result ≡ 1))
     × (new ≡ record old { charts = new.charts })
+
+-- why a name, or its number, is not there: there is no such description, or no such kind of names
+abbrev pub WhyNoName : ℕ → ℕ → ℕ → Machines → Type 0
+WhyNoName description kind result all =
+    (result ≡ 112 → slice_get all.charts.items description ≡ None)
+    × (slice_get all.charts.items description ≡ None → result ≡ 112)
+    × (result ≡ 101 → nat_lt kind 3 ≡ false)
+    × ((result ≡ 0) ⊎ (result ≡ 112) ⊎ (result ≡ 101) ⊎ (result ≡ 8) ⊎ (result ≡ 102))
 
 -- ---- described machines
 
@@ -211,6 +220,7 @@ StartsDescribed description now values bytes result id_old id report_old report 
     × (result ≢ 0 → Same old.described new.described × OnlyDescribed old new × (id ≡ id_old))
     × (result ≢ 0 → result ≢ 103 → report ≡ report_old)
     × (result ≡ 112 → slice_get old.charts.items description ≡ None)
+    × (result ≡ 101 → OneHasNoValue bytes values)
 
 -- why a start is refused that means something, where it is not for want of memory
 abbrev pub WhyNoBegin : ℕ → ℕ → List FlatSignal → List ℕ → ℕ → Machines → Type 0
@@ -222,7 +232,9 @@ WhyNoBegin description now values bytes result old =
 abbrev pub PostsSignal : ℕ → ℕ → FlatSignal → List ℕ → ℕ → ℕ → ℕ → Machines → Machines → Type 0
 PostsSignal id entry signal bytes result number_old number old new =
     Posts described_callbacks id entry (signal_in bytes signal) result number_old number old.described new.described
-    × (result ≡ 0 → HasValue bytes signal) × OnlyDescribed old new
+    × (result ≡ 0 → HasValue bytes signal)
+    × (result ≡ 101 → (is_entry entry ≡ false) ⊎ (HasValue bytes signal → ⊥))
+    × OnlyDescribed old new
 
 -- what a run answers where its machine had not ended
 abbrev pub end_number : TurnsEnd → ℕ

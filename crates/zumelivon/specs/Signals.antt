@@ -18,6 +18,10 @@ text_in bytes it = slice_range bytes it.from (it.from + it.length)
 abbrev pub HasValue : List ℕ → FlatSignal → Type 0
 HasValue bytes it = (nat_lt it.what 5 ≡ true) × (it.what ≡ 4 → (is_within bytes it.from it.length ≡ true) × IsUtf8 (text_in bytes it))
 
+-- one of these has none
+abbrev pub OneHasNoValue : List ℕ → List FlatSignal → Type 0
+OneHasNoValue bytes signals = (index : ℕ) × (it : FlatSignal) × (slice_get signals index ≡ Some it) × (HasValue bytes it → ⊥)
+
 -- the value
 abbrev pub value_in : List ℕ → FlatSignal → Value
 value_in bytes it =

@@ -1,6 +1,6 @@
 //! Descriptions, and their names.
-ghost use Rattle.std.specs.Prelude.{◌≡◌, ◌≢◌};
-ghost use Rattle.zumelivon.specs.Calls.{Describes};
+ghost use Rattle.std.specs.Prelude.{◌≡◌, ◌≢◌, false, nat_lt, option_copied, slice_get, IfNone};
+ghost use Rattle.zumelivon.specs.Calls.{Describes, WhyNoName};
 
 use crate::codes::{
     DONE, FAULTY, INVALID, NO_MEMORY, NO_SUCH_DESCRIPTION, NO_SUCH_NAME, TOO_SMALL,
@@ -76,11 +76,15 @@ pub(crate) fn describe(
     }
 }
 
-fn chart_at(all: &Machines, description: u64) -> Option<&Chart> {
+fn chart_at(all: &Machines, description: u64) -> Option<&Chart>
+    ensures { option_copied result ≡ slice_get all.now.charts.items description }
+{
     all.charts.get(description as usize)
 }
 
-fn names_of(chart: &Chart, kind: u32) -> Option<&Names> {
+fn names_of(chart: &Chart, kind: u32) -> Option<&Names>
+    ensures { IfNone result (nat_lt kind 3 ≡ false) }
+{
     match kind {
         0 => Some(&chart.names.symbols),
         1 => Some(&chart.names.states),
@@ -101,6 +105,7 @@ pub(crate) fn number_of_name(
     name: &[u8],
     number: &mut u64,
 ) -> u32
+    ensures why { WhyNoName description kind result all.now }
     ensures refused { result ≢ 0 → number.new ≡ number.old }
     ensures not_closed { result ≢ 105 }
 {
@@ -127,6 +132,7 @@ pub(crate) fn name_of_number(
     room: &mut [u8],
     length: &mut u64,
 ) -> u32
+    ensures why { WhyNoName description kind result all.now }
     ensures refused { result ≢ 0 → room.new ≡ room.old }
     ensures not_closed { result ≢ 105 }
     ensures length { result ≢ 0 → result ≢ 102 → length.new ≡ length.old }

@@ -4,7 +4,7 @@
 
 ghost use Rattle.std.specs.Prelude.{◌≡◌, ◌≢◌, ◌↔◌, None, IsSome};
 ghost use Rattle.st_embedded.specs.Table.{IfOpen, IsEmptyTable};
-ghost use Rattle.zumelivon.specs.Calls.{CollectsContent, CollectsSignal, Describes, Looks, MakesTurn, PostsHosted, PostsSignal, ReadsList, Removes, Replies, RunsDescribed, ShowsNext, StartsDescribed, StartsHosted, StopsEither, TakesMessage, TakesSignal, TicksEither, WhyNoBegin, WhyNoStart};
+ghost use Rattle.zumelivon.specs.Calls.{CollectsContent, CollectsSignal, Describes, Looks, MakesTurn, PostsHosted, PostsSignal, ReadsList, Removes, Replies, RunsDescribed, ShowsNext, StartsDescribed, StartsHosted, StopsEither, TakesMessage, TakesSignal, TicksEither, WhyNoBegin, WhyNoName, WhyNoStart};
 ghost use Rattle.zumelivon.specs.Exports.{Seen, Told, content_in};
 
 mod answers;
@@ -59,8 +59,9 @@ pub extern "C" fn zumelivon_version() -> u32
 pub extern "C" fn zumelivon_open(alloc: Global, table: &mut Handle, version: u32) -> u32
     ensures opened { result ≡ 0 → (version ≡ 1) × (table.old.value ≡ None) × IfOpen table.new.value IsEmptyTable }
     ensures refused { result ≢ 0 → table.new.value ≡ table.old.value }
-    ensures open { result ≡ 106 → IsSome table.old.value }
-    ensures wrong { version ≢ 1 → result ≡ 108 }
+    ensures open { version ≡ 1 → IsSome table.old.value → result ≡ 106 }
+    ensures was_open { result ≡ 106 → IsSome table.old.value }
+    ensures wrong { version ≢ 1 ↔ result ≡ 108 }
 {
     if version != VERSION {
         return WRONG_VERSION;
@@ -372,7 +373,8 @@ pub extern "C" fn zumelivon_describe(
 ) -> u32
     ensures does { Told table.old.value table.new.value (λ old new. Describes result description.old description.new old new) }
     ensures closed { result ≡ 105 ↔ (table.old.value ≡ None) }
-    ensures kept { result ≡ 105 → (description.new ≡ description.old) × (room.new ≡ room.old) × (length.new ≡ length.old) }
+    ensures told { result ≢ 111 → (room.new ≡ room.old) × (length.new ≡ length.old) }
+    ensures kept { result ≡ 105 → description.new ≡ description.old }
 {
     let Some(mut all) = table.take(alloc) else {
         return CLOSED;
@@ -392,6 +394,7 @@ pub extern "C" fn zumelivon_number_of(
     name: &[u8],
     number: &mut u64,
 ) -> u32
+    ensures why { Seen table.old.value (λ all. WhyNoName description kind result all) }
     ensures unchanged { table.new.value ≡ table.old.value }
     ensures closed { result ≡ 105 ↔ (table.old.value ≡ None) }
     ensures refused { result ≢ 0 → number.new ≡ number.old }
@@ -415,9 +418,11 @@ pub extern "C" fn zumelivon_name_of(
     room: &mut [u8],
     length: &mut u64,
 ) -> u32
+    ensures why { Seen table.old.value (λ all. WhyNoName description kind result all) }
     ensures unchanged { table.new.value ≡ table.old.value }
     ensures closed { result ≡ 105 ↔ (table.old.value ≡ None) }
     ensures refused { result ≢ 0 → room.new ≡ room.old }
+    ensures length { result ≢ 0 → result ≢ 102 → length.new ≡ length.old }
 {
     let Some(all) = table.take(alloc) else {
         return CLOSED;

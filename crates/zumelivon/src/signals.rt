@@ -1,9 +1,9 @@
 //! Signals, read and shown as numbers and bytes.
 ghost use Rattle.std.specs.Prelude.{◌≡◌, ◌+◌, true, map, slice_range, IfOk, IfSome, IfNone};
-ghost use Rattle.std.specs.Bool.{OnTrue};
+ghost use Rattle.std.specs.Bool.{OnFalse, OnTrue};
 ghost use Rattle.std.specs.Str.{IsUtf8};
 ghost use Rattle.zumelivon.specs.Reading.{is_within};
-ghost use Rattle.zumelivon.specs.Signals.{HasValue, bytes_in, flat_signal, number_in, request_in, signal_in, text_in, value_in, what_of};
+ghost use Rattle.zumelivon.specs.Signals.{HasValue, OneHasNoValue, bytes_in, flat_signal, number_in, request_in, signal_in, text_in, value_in, what_of};
 
 use crate::flat_signal::FlatSignal;
 use crate::reading::is_within;
@@ -30,7 +30,8 @@ fn text_of<'a>(it: &FlatSignal, bytes: &'a [u8]) -> Option<&'a str>
 
 /// Says whether a signal has a value.
 pub(crate) fn has_value(it: &FlatSignal, bytes: &[u8]) -> bool
-    ensures { OnTrue result (HasValue bytes.now it.now) }
+    ensures has { OnTrue result (HasValue bytes.now it.now) }
+    ensures has_not { OnFalse result (HasValue bytes.now it.now → ⊥) }
 {
     it.what < 4 || it.what == 4 && text_of(it, bytes).is_some()
 }
@@ -69,7 +70,8 @@ pub(crate) fn values_of(
     signals: &[FlatSignal],
     bytes: &[u8],
 ) -> Result<Option<PlainList<Value>>, AllocError>
-    ensures { IfOk result (λ read. IfSome read (λ values. values ≡ map (value_in bytes.now) signals.now)) }
+    ensures values { IfOk result (λ read. IfSome read (λ values. values ≡ map (value_in bytes.now) signals.now)) }
+    ensures none { IfOk result (λ read. IfNone read (OneHasNoValue bytes.now signals.now)) }
 {
     let mut values = PlainList::new(alloc);
     for it in signals {

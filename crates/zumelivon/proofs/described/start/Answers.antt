@@ -10,7 +10,7 @@ pub returns-clause-why : goal.returns-clause-why
 returns-clause-why c =
     let values_are : c.in-Ok-Some-values_of.values ≡ map (value_in c.args.bytes.now) c.args.values.now =
     subst (λ (read : Option (List Value)). IfSome read (λ values. values ≡ map (value_in c.args.bytes.now) c.args.values.now)) c.in-Ok-Some-values_of.field-0-is
-    c.in-Ok-Some-values_of.ensures in
+    c.in-Ok-Some-values_of.ensures.values in
     λ done ignored stopped none bad short. (
       c.in-Ok-Some.interpreter,
       subst (λ (found : Option Interpreter). IfSome found (IsOf c.args.all.now c.args.description)) c.in-Ok-Some.field-0-is c.in-Ok-Some.ensures.some,

@@ -1,0 +1,5 @@
+//! Tables of machines.
+
+mod described;
+mod host;
+mod hosted;
