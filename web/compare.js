@@ -75,7 +75,7 @@ function compareAnswers(engine) {
   const full = { ...long, length: 1 << 20 };
   const answer = (name, what, inputs, room) => page.callWithin(engine, name, what, inputs, room);
   const pair = [description, description];
-  note(answer("st_page_machine", 8, pair, 10).answer === 4, "nothing of number 8");
+  note(answer("st_page_machine", 9, pair, 10).answer === 4, "nothing of number 9");
   note(answer("st_page_machine", 0, [long, description], 10).answer === 1, "a long description");
   note(answer("st_page_machine", 3, [description, long], 10).answer === 1, "long events");
   if (engine.exports.st_page_script) {
