@@ -8,8 +8,8 @@
  *     hands its answer to zumelivon_turn, which does the rest: replies, postponed and inserted events, time-outs, the end.
  *   - described: a text decides, as docs/MACHINES.md has it. zumelivon_run makes the turns.
  *
- * Every call returns ZUMELIVON_DONE, or why not. A call that returns anything else has changed nothing of the table, and
- * nothing behind its pointers but what its comment names. Any call may return ZUMELIVON_NO_MEMORY; it can be made
+ * Every call returns ZUMELIVON_DONE, or why not. A call that returns anything else has changed nothing, neither of the
+ * table nor behind its pointers, but what its comment names. Any call may return ZUMELIVON_NO_MEMORY; it can be made
  * again. Moments and times are in milliseconds, and moments are the program's: any clock that does not go back.
  *
  * What a caller owes, which nothing checks:
